@@ -1,6 +1,5 @@
 -- What is added to a list step by step.
-use Rattle.std.proofs.Common.{◌≡◌, List, [], ◌++◌, Option, Some, None, append_assoc, ◌∙◌, ap, subst}
-use Rattle.std.specs.Prelude.{Result, Ok, Err, IfOk}
+use Rattle.dvg_account.proofs.Common.{◌≡◌, List, [], ◌++◌, Option, Some, None, append_assoc, ◌∙◌, ap, subst, Result, Ok, Err, IfOk}
 use Rattle.dvg_account.specs.Building.{Extends, Adds}
 
 extends_then : {A : Type 0} (a b c : Option (List A)) (xs ys : List A) → Extends a b xs → Extends b c ys → Extends a c (xs ++ ys)

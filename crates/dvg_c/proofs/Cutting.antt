@@ -1,11 +1,7 @@
 -- Frames that are cut, one after another.
-use Rattle.std.proofs.Common.{◌≡◌, ℕ, suc, ◌+◌, ◌<◌, List, [], ◌∷◌, ◌++◌, length, sum, take, drop, get_or, refl, sym, ap, ◌∙◌, arith, append-nil, append_assoc}
-use Rattle.std.proofs.Math.Seq.{take-suc}
+use Rattle.dvg_c.proofs.Common.{◌≡◌, ℕ, suc, ◌+◌, ◌<◌, List, [], ◌∷◌, ◌++◌, length, sum, take, drop, get_or, refl, sym, ap, ◌∙◌, arith, append-nil, append_assoc, take-suc, take-append-drop, concat, of_each}
 use Rattle.std.proofs.lemmas.List.Folds.{concat-append}
 use Rattle.std.proofs.lemmas.List.Sums.{sum_by_more}
-use Rattle.std.proofs.lemmas.List.{take-append-drop}
-use Rattle.std.specs.List.{concat}
-use Rattle.dvg_spelling.specs.Each.{of_each}
 
 pub of_each_push : {A B : Type 0} (f : A → B) (xs : List A) (y : A) → of_each f (xs ++ y ∷ []) ≡ of_each f xs ++ f y ∷ []
 of_each_push f [] y = refl

@@ -1,13 +1,5 @@
 -- What is kept stands for what was judged.
-use Rattle.std.proofs.Common.{◌≡◌, ◌∙◌, ℕ, ◌+◌, ◌-◌, ◌*◌, List, length, take, ap, arith}
-use Rattle.dvg_words.specs.declared.machine.Machine.{Machine}
-use Rattle.dvg_words.specs.Values.{MemoryMap}
-use Rattle.dvg_words.specs.Memory.{words_of, rom_on, IsRomLength}
-use Rattle.dvg_cert.specs.declared.entry.Entry.{Entry}
-use Rattle.dvg_check.specs.declared.fault.Mode.{Mode}
-use Rattle.dvg_c.specs.Told.{window_of}
-use Rattle.dvg_c.specs.Kept.{mode_of, machine_of, kept_list, kept_shapes}
-use Rattle.dvg_c.specs.declared.entry.KeptEntry.{KeptEntry}
+use Rattle.dvg_c.proofs.Common.{◌≡◌, ℕ, ◌-◌, List, length, take, arith, Machine, MemoryMap, rom_on, IsRomLength, Entry, Mode, window_of, mode_of, machine_of, kept_list, kept_shapes, KeptEntry}
 use Rattle.dvg_c.specs.declared.window.WindowEnds.{WindowEnds}
 
 -- the ROM, the entries and the mode that are kept are those that were judged

@@ -1,3 +1,4 @@
+pub mod Common
 pub mod Searching
 pub mod Unique
 pub mod Keeping

@@ -1,14 +1,6 @@
 -- Runs of the maker, over values that stand for those of C's arguments.
-use Rattle.std.proofs.Common.{◌≡◌, ◌≤◌, ℕ, List, [], ◌∷◌, Option, Result, Ok, Err, refl, ap}
-use Rattle.dvg_words.specs.declared.machine.Machine.{Machine}
-use Rattle.dvg_words.specs.Values.{MemoryMap, IsMap}
-use Rattle.dvg_cert.specs.declared.entry.Key.{Key}
-use Rattle.dvg_spelling.specs.Each.{of_each}
+use Rattle.dvg_c.proofs.Common.{◌≡◌, ◌≤◌, ℕ, List, [], ◌∷◌, Option, Result, Ok, Err, refl, ap, Machine, MemoryMap, IsMap, Key, of_each, WritesMade, MakesForFrames, FramesFaultMeans, machine_of, MakeVerdict, RunVerdict}
 use Rattle.dvg_spelling.specs.declared.fault.FramesRunFault.{FramesRunFault}
-use Rattle.dvg_cmd.specs.Making.{WritesMade}
-use Rattle.dvg_cmd.specs.MakingFrames.{MakesForFrames, FramesFaultMeans}
-use Rattle.dvg_c.specs.Kept.{machine_of}
-use Rattle.dvg_c.specs.Making.{MakeVerdict, RunVerdict}
 use Rattle.dvg_c.specs.declared.machine.TheConstants.{BOARD}
 use Rattle.dvg_c.specs.declared.make.Unmade.{Unmade}
 use Rattle.dvg_c.specs.declared.make.Unmade.TheVariants as unmade

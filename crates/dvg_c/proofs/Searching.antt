@@ -1,15 +1,7 @@
 -- Binary search in entries that are kept in plain numbers: what is known of them is known of the list that they stand for.
-use Rattle.std.proofs.Common.{◌≡◌, ◌∙◌, ℕ, ◌≤◌, ◌<◌, Bool, true, false, List, length, map, get_or, Some, None, pos, ap, sym, subst, refl, arith}
-use Rattle.std.specs.Bool.{then_some}
+use Rattle.dvg_c.proofs.Common.{◌≡◌, ◌∙◌, ℕ, ◌≤◌, ◌<◌, Bool, true, false, List, length, map, get_or, Some, None, pos, ap, sym, subst, refl, arith, then_some, get_or-map, length-map, is_at, entry_at, IsRising, stands_before, Key, KeptEntry, entry_of}
 use Rattle.std.specs.List.Sorted.{IsPartitionedBy, IsPartitionPoint}
-use Rattle.std.proofs.lemmas.List.{get_or-map, length-map}
-use Rattle.dvg_cert.specs.Lookup.{is_at, entry_at}
-use Rattle.dvg_cert.specs.Order.{IsRising}
-use Rattle.dvg_cert.specs.Private.Searching.{stands_before}
-use Rattle.dvg_cert.specs.declared.entry.Key.{Key}
 use Rattle.dvg_cert.proofs.Searching.{parted, nothing_there, other_there, this_there}
-use Rattle.dvg_c.specs.declared.entry.KeptEntry.{KeptEntry}
-use Rattle.dvg_c.specs.Kept.{entry_of}
 
 -- what stands past the end
 blank : KeptEntry

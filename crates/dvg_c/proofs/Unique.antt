@@ -1,37 +1,19 @@
 -- What is known of kept shapes is known in one way: any two proofs of it are equal.
-use Rattle.std.proofs.Common.{◌≡◌, ℕ, inl, inr, List, [], ◌∷◌, Option, Some, None, ap, subst, pos, arith}
-use Rattle.std.proofs.Common.{rules}
-use Rattle.std.specs.Prelude.{◌≤ℤ◌}
+use Rattle.dvg_c.proofs.Common.{◌≡◌, ℕ, inl, inr, List, [], ◌∷◌, Option, Some, None, ap, subst, pos, arith, rules, ◌≤ℤ◌, AllByRecursion, AllByRecursion-prop, Window, IsWindow, IsWindowOrZone, IsFor, clipped, Machine, Rom, rom_word, cell_at, InWindow, PlaceKnown, ScaleKnown, LitInWindow, LitInBox, InBox, relative_corners, HasCallee, seen_at, shape_context, Shapes, Mode, AtLast, AsClaimed, ShapeKeeps, CellKeeps, Good, IsKept, IsKey, IsEnd, IsBox, IsEntry, KeyBefore, Before, IsRising, Entry, Key}
 use Rattle.std.specs.Coded.{×_prop, Π_prop, →_prop, le_prop}
 use Rattle.std.proofs.Math.Nat.{ℕ_set}
 use Rattle.std.proofs.Props.{props}
-use Rattle.std.specs.List.{AllByRecursion, AllByRecursion-prop}
-use Rattle.dvg_words.specs.Values.{Window, IsWindow, IsWindowOrZone, IsFor, clipped}
-use Rattle.dvg_words.specs.declared.machine.Machine.{Machine}
 use Rattle.dvg_words.specs.declared.machine.Machine.TheVariants.{Profile, Board}
-use Rattle.dvg_words.specs.Memory.{Rom, rom_word}
-use Rattle.dvg_words.specs.Decoding.{cell_at}
-use Rattle.dvg_words.specs.Beam.{InWindow}
 use Rattle.dvg_words.specs.declared.instruction.Cell.{Cell}
 use Rattle.dvg_words.specs.declared.instruction.Cell.TheVariants.{Missing, Odd, Holds}
 use Rattle.dvg_items.specs.declared.item.Item.{Item}
 use Rattle.dvg_items.specs.declared.seen.Seen.{Seen}
-use Rattle.dvg_items.specs.Lit.{PlaceKnown, ScaleKnown, LitInWindow, LitInBox, InBox, absolute_corners, relative_corners}
+use Rattle.dvg_items.specs.Lit.{absolute_corners}
 use Rattle.dvg_items.specs.declared.lit.LitExtent.{LitExtent}
 use Rattle.dvg_items.specs.declared.lit.LitExtent.TheVariants.{Nothing, Between, Anywhere}
-use Rattle.dvg_items.specs.Seen.{HasCallee, seen_at}
-use Rattle.dvg_items.specs.Known.{shape_context}
-use Rattle.dvg_check.specs.Judged.{Shapes}
-use Rattle.dvg_check.specs.declared.fault.Mode.{Mode}
 use Rattle.dvg_check.specs.declared.fault.Mode.TheVariants.{Bound, Exact}
 use Rattle.dvg_check.specs.declared.fault.ShapeWhy.{ShapeWhy}
 use Rattle.dvg_check.specs.declared.fault.ShapeWhy.TheVariants as shape
-use Rattle.dvg_check.specs.Rules.{AtLast, AsClaimed, ShapeKeeps, CellKeeps, Good}
-use Rattle.dvg_c.specs.Kept.{IsKept}
-use Rattle.dvg_cert.specs.Entry.{IsKey, IsEnd, IsBox, IsEntry}
-use Rattle.dvg_cert.specs.Order.{KeyBefore, Before, IsRising}
-use Rattle.dvg_cert.specs.declared.entry.Entry.{Entry}
-use Rattle.dvg_cert.specs.declared.entry.Key.{Key}
 use Rattle.dvg_cert.specs.declared.entry.Key.TheVariants.{At, Any}
 use Rattle.dvg_cert.specs.declared.entry.End.{End}
 use Rattle.dvg_cert.specs.declared.entry.End.TheVariants.{Rel, Abs, Lost}

@@ -1,7 +1,6 @@
 -- Looking an entry up by the addresses and keys of a list, and one more of these for a rising list.
-use Rattle.dvg_cert.proofs.Common.{◌≡◌, ℕ, ◌+◌, ◌<◌, Bool, true, false, not, cond, ◌||◌, List, [], ◌∷◌, ◌++◌, length, take, get_or, position, Option, Some, None, is_some, if◌then◌else◌, refl, sym, ap, subst, ◌∙◌, arith, one-add, suc, nat_lt, list_any, position_or_len, nat_tests, Entry, Key, IsRising, own_keys}
+use Rattle.dvg_cert.proofs.Common.{◌≡◌, ℕ, ◌+◌, ◌<◌, Bool, true, false, not, cond, ◌||◌, List, [], ◌∷◌, ◌++◌, length, take, get_or, position, Option, Some, None, is_some, if◌then◌else◌, refl, sym, ap, subst, ◌∙◌, arith, one-add, suc, nat_lt, list_any, position_or_len, nat_tests, Entry, Key, IsRising, own_keys, is_at, entry_at}
 use Rattle.indexmap.specs.IndexSet.{insert_key}
-use Rattle.dvg_cert.specs.Lookup.{is_at, entry_at}
 use Rattle.dvg_cert.proofs.ListParts.{cut_at}
 use Rattle.dvg_cert.proofs.OnlyEntries.{new_at}
 use Rattle.dvg_cert.proofs.Pairs.{pair_eq, pair_test}

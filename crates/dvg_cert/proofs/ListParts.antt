@@ -1,7 +1,5 @@
 -- A list of entries from its entries one by one.
-use Rattle.dvg_cert.proofs.Common.{◌≡◌, ℕ, zero, suc, ◌+◌, ◌<◌, ◌≤◌, List, [], ◌∷◌, ◌++◌, length, get_or, take, drop, refl, sym, ap, subst, arith, add-one, IsTrue, false, AllByRecursion, length-take-le, MemoryMap, MOST_ENTRIES, Entry, IsEntry, IsCertificate, IsRising, StandsAfter}
-use Rattle.std.proofs.Common.{rules}
-use Rattle.std.proofs.lemmas.Grind.{common_steps}
+use Rattle.dvg_cert.proofs.Common.{◌≡◌, ℕ, zero, suc, ◌+◌, ◌<◌, ◌≤◌, List, [], ◌∷◌, ◌++◌, length, get_or, take, drop, refl, ap, subst, arith, add-one, IsTrue, false, AllByRecursion, length-take-le, MemoryMap, MOST_ENTRIES, Entry, IsEntry, IsCertificate, IsRising, StandsAfter, rules, common_steps}
 use Rattle.dvg_cert.proofs.Rising.{certificate_push}
 
 -- a list within a list

@@ -1,9 +1,7 @@
 -- A list that rises has one entry at an address and key at most.
-use Rattle.dvg_cert.proofs.Common.{◌≡◌, ℕ, zero, suc, Bool, true, false, cond, List, [], ◌∷◌, length, take, get_or, ◌<◌, Option, Some, None, refl, sym, ap, subst, ◌∙◌, arith, inl, inr, ◌⊎◌, ◌==◌, IfSome, IfNone, Contains, and_parts, and_from, nat_tests, Contains-get_or, Entry, Key, At, Any, KeyBefore, Before, IsRising}
-use Rattle.std.proofs.Common.{rules}
-use Rattle.std.proofs.lemmas.Grind.{common_steps}
-use Rattle.dvg_cert.specs.Lookup.{same_key, is_at, entry_at, IsOnlyAt, HasNoneAt}
+use Rattle.dvg_cert.proofs.Common.{◌≡◌, ℕ, zero, suc, Bool, true, false, cond, List, [], ◌∷◌, length, take, get_or, ◌<◌, Option, Some, None, refl, sym, subst, ◌∙◌, arith, inl, inr, ◌⊎◌, IfSome, IfNone, Contains, nat_tests, Entry, Key, At, Any, Before, IsRising, rules, common_steps, same_key, is_at, entry_at, IsOnlyAt, HasNoneAt}
 use Rattle.dvg_cert.specs.Laws.{OnlyEntry}
+use Rattle.std.proofs.lemmas.Bool.{and_parts, and_from}
 
 key_same : (a b : Key) → same_key a b ≡ true → b ≡ a
 key_same a b h = grind (arith, nat_tests)

@@ -1,7 +1,6 @@
 -- Looking an entry up among pairs of an address and key with an entry.
-use Rattle.dvg_cert.proofs.Common.{◌≡◌, ℕ, Bool, ◌&&◌, List, [], ◌∷◌, ◌++◌, refl, ap, ◌∙◌, arith, length, suc, nat_eq, All-nil, All-cons, Entry, Key, At, Any, IsOwn, IsKeyed}
+use Rattle.dvg_cert.proofs.Common.{◌≡◌, ℕ, Bool, ◌&&◌, List, [], ◌∷◌, ◌++◌, refl, ap, ◌∙◌, arith, length, suc, nat_eq, All-nil, All-cons, Entry, Key, At, Any, IsOwn, IsKeyed, same_key, is_at, entry_at}
 use Rattle.std.specs.Map.{lookup, values_of}
-use Rattle.dvg_cert.specs.Lookup.{same_key, is_at, entry_at}
 use Rattle.dvg_cert.specs.contracts.entry.KeyPartialEq.TheImpl.{ghosts}
 
 keyed_tail : (p : (ℕ × Key) × Entry) (ps : List ((ℕ × Key) × Entry)) → IsKeyed (p ∷ ps) → IsKeyed ps

@@ -1,8 +1,6 @@
 -- Binary search in a list of entries that rises.
-use Rattle.dvg_cert.proofs.Common.{◌≡◌, ℕ, zero, suc, ◌<◌, ◌≤◌, ◌⊎◌, inl, inr, Bool, true, false, List, [], ◌∷◌, length, get_or, Option, Some, None, refl, sym, ap, subst, ◌∙◌, arith, ◌==◌, nat_lt, ◌&&◌, ◌||◌, Contains, IfSome, IfNone, IsTrue, ◌↔◌, nat_tests, get_or_default, Contains-get_or, Entry, Key, At, Any, KeyBefore, Before, IsRising}
+use Rattle.dvg_cert.proofs.Common.{◌≡◌, ℕ, zero, suc, ◌<◌, ◌≤◌, ◌⊎◌, Bool, true, false, List, [], ◌∷◌, length, get_or, Option, Some, None, refl, sym, ap, subst, ◌∙◌, arith, ◌==◌, nat_lt, ◌&&◌, ◌||◌, Contains, IfSome, IfNone, IsTrue, ◌↔◌, nat_tests, get_or_default, Contains-get_or, Entry, Key, KeyBefore, Before, IsRising, is_at, entry_at, IsOnlyAt, HasNoneAt, lower_key, stands_before}
 use Rattle.std.specs.List.Sorted.{IsPartitionedBy, IsPartitionPoint}
-use Rattle.dvg_cert.specs.Lookup.{is_at, entry_at, IsOnlyAt, HasNoneAt}
-use Rattle.dvg_cert.specs.Private.Searching.{lower_key, stands_before}
 use Rattle.dvg_cert.proofs.OnlyEntries.{at_means, at_holds, before_next, not_before, rising_tail, before_later, found}
 
 pub lower_is : (a b : Key) (r : Bool) → (IsTrue r ↔ KeyBefore a b) → r ≡ lower_key a b

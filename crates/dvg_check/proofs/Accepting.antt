@@ -1,16 +1,8 @@
 -- What is accepted is safe.
-use Rattle.dvg_check.proofs.Common.{List, subst, ◌≡◌, ℕ, Rom, Window, Board, Entry, Good, GoodFrame, Safe, Mode, Exact}
-use Rattle.std.specs.Prelude.{Err, Ok, Result, IfOk}
-use Rattle.dvg_words.specs.Memory.{IsFrame, IsRom}
-use Rattle.dvg_words.specs.Values.{IsWindowOrZone}
-use Rattle.dvg_items.specs.Bounds.{IsSomeCertificate}
-use Rattle.dvg_check.specs.Laws.{CountsAtHalt}
-use Rattle.dvg_check.specs.Circuit.{SafeOnCircuit, CountsOnCircuit}
+use Rattle.dvg_check.proofs.Common.{List, subst, ◌≡◌, ℕ, Rom, Window, Board, Entry, Good, GoodFrame, Safe, Mode, Exact, Err, Ok, Result, IfOk, IsFrame, IsRom, IsWindowOrZone, IsSomeCertificate, CountsAtHalt, SafeOnCircuit, CountsOnCircuit, Shapes, IsJudged, listed_claim}
 use Rattle.dvg_check.proofs.Circuit.{safe_on_circuit, counts_on_circuit}
-use Rattle.dvg_check.specs.Judged.{Shapes, IsJudged}
 use Rattle.dvg_check.specs.declared.frames.Accepted.{Accepted}
 use Rattle.dvg_check.proofs.FrameLaws.{good_is_safe, exact_is_exact}
-use Rattle.dvg_items.proofs.Listed.{listed_claim}
 
 -- the shapes and the frame of a certificate's list are safe
 safe_of_good : (mode : Mode) (w : Window) (frame : List ℕ) (rom : Rom) (list : List Entry) (budget words depth : ℕ) → IsSomeCertificate list → IsFrame frame → IsRom rom → Good mode w rom list → GoodFrame w rom.machine frame list budget words depth → Safe (record { frame = frame; rom = rom }) w words depth

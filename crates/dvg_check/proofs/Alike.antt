@@ -1,9 +1,5 @@
 -- What the two machines read alike: every cell but an odd LABS of the profile.
-use Rattle.dvg_check.proofs.Common.{arith, sym, ap, refl, Bool, true, false, Option, None, Some, nat_le, pos, ◌≡◌, ◌+◌, ◌≤◌, ◌∙◌, ◌%◌, ◌*ℤ◌, ◌+ℤ◌, ℕ, if◌then◌else◌, ints, nat_tests, Machine, Profile, Board, Cell, Holds, Odd, Format, Short, Long, Instr, Labs, instruction_of, format_of, cell_holding, cell_of_format, cell_of_words, cell_at, Memory, word_at, on}
-use Rattle.std.proofs.Common.{negsuc, ◌/◌, ◌==◌}
-use Rattle.std.specs.Prelude.{◌&&◌}
-use Rattle.dvg_words.specs.Beam.{labs_coordinate}
-use Rattle.dvg_words.specs.Decoding.{opcode, is_plain_labs, labs_of, LabsOnScreen}
+use Rattle.dvg_check.proofs.Common.{arith, ap, refl, Bool, true, Option, None, Some, nat_le, pos, ◌≡◌, ◌+◌, ◌≤◌, ◌%◌, ℕ, if◌then◌else◌, nat_tests, Machine, Profile, Board, Cell, Holds, Odd, Format, Short, Long, Instr, instruction_of, format_of, cell_holding, cell_of_format, cell_of_words, cell_at, Memory, word_at, on, negsuc, ◌/◌, labs_coordinate, is_plain_labs, labs_of, LabsOnScreen}
 
 module _ (first second : ℕ) where
   field_same : (word : ℕ) → word / 1024 % 4 ≡ 0 → word % 4096 ≡ word % 1024

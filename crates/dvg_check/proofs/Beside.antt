@@ -1,10 +1,5 @@
 -- Two runs beside each other: what their steps keep of their places and strokes, while all else of their states is the same.
-use Rattle.dvg_check.proofs.Common.{List, zero, subst, sym, suc, refl, Bool, true, false, nat_lt, length, ◌≡◌, ◌≤◌, ◌∷◌, ◌++◌, ℕ, [], Machine, Cell, Missing, Odd, Holds, Format, Instr, Labs, Halt, Jsrl, Rtsl, Jmpl, Profile, Point, DrawFields, shift, displacement, labs_place, cell_at, Stroke, State, Status, Running, Halted, Fault, Reached, lit_by, after_call, after_return, after_instruction, after_cell, after_fetch, next_status, Memory, word_at, state_of, Course, course_past, course_at, course_after, course_along, on, OnlyRounds}
-use Rattle.std.proofs.Common.{arith}
-use Rattle.dvg_words.specs.declared.instruction.Instr.TheVariants.{Draw as Draws}
-use Rattle.dvg_words.specs.Beam.{effective_scale}
-use Rattle.dvg_words.specs.Decoding.{LabsOnScreen}
-use Rattle.dvg_check.specs.Drift.{Both}
+use Rattle.dvg_check.proofs.Common.{List, zero, subst, sym, suc, refl, Bool, true, false, nat_lt, length, ◌≡◌, ◌≤◌, ◌∷◌, ◌++◌, ℕ, [], Machine, Cell, Missing, Odd, Holds, Format, Instr, Labs, Halt, Jsrl, Rtsl, Jmpl, Profile, Point, DrawFields, shift, displacement, labs_place, cell_at, Stroke, State, Status, Running, Halted, Fault, Reached, lit_by, after_call, after_return, after_instruction, after_cell, after_fetch, next_status, Memory, word_at, state_of, Course, course_past, course_at, course_after, course_along, on, OnlyRounds, arith, Draws, effective_scale, LabsOnScreen, Both}
 use Rattle.dvg_check.proofs.Alike.{LowCell, same_cell, low_cell}
 
 -- ---- statuses

@@ -1,11 +1,7 @@
 -- The rule that a fault names is broken by what stands there.
-use Rattle.dvg_check.proofs.Common.{sym, ◌≡◌, ◌≢◌, ℕ, Option, None, Some, ap, ◌∙◌, subst, arith, Source, cell_at, Cell, Context, seen_at, Known, IsFound, AtLast, AsClaimed, CellKeeps, PlaceKeeps, Mode, Bound, Exact}
-use Rattle.std.proofs.Common.{rules}
+use Rattle.dvg_check.proofs.Common.{sym, ◌≡◌, ◌≢◌, ℕ, Option, ap, ◌∙◌, subst, arith, Source, cell_at, Cell, Context, seen_at, Known, IsFound, AtLast, AsClaimed, CellKeeps, PlaceKeeps, Mode, rules, SeenItem, FaultFound, Found}
 use Rattle.dvg_words.specs.declared.instruction.Cell.TheVariants as cell
-use Rattle.dvg_items.specs.declared.seen.Seen.{Seen as SeenItem}
-use Rattle.dvg_check.specs.Finding.{FaultFound}
-use Rattle.dvg_check.specs.declared.fault.Found.{Found}
-use Rattle.dvg_check.specs.declared.fault.Found.TheVariants.{Missing, Odd, Seen}
+use Rattle.dvg_check.specs.Finding.{Missing, Odd, Seen}
 use Rattle.dvg_check.specs.Private.Breaking.{Breaks}
 use Rattle.dvg_check.proofs.Faults.{neither_less}
 

@@ -1,26 +1,12 @@
 -- What is safe on the board's generator is safe on its circuit.
-use Rattle.dvg_check.proofs.Common.{Bool, true, false, ◌≡◌, ℕ, zero, suc, ◌+◌, ◌%◌, ◌≤◌, inl, inr, ◌⊎◌, ⊎_elim, List, [], ◌∷◌, length, nat_lt, refl, ap, sym, subst, ◌∙◌, arith, pos, if◌then◌else◌, AllByRecursion, cases_lt, Window, Point, Machine, Board, Cell, Missing, Odd, Holds, Format, Instr, Labs, Halt, Jsrl, Rtsl, Jmpl, InWindow, cell_at, Memory, IsMemory, word_at, Stroke, State, Status, Running, Halted, Fault, Reached, start, after_call, after_return, after_instruction, after_cell, after_fetch, next_status, state_of, Ends, IsSafeStatus, Safe}
-use Rattle.std.proofs.Common.{rules}
-use Rattle.std.proofs.Common.{reverse}
+use Rattle.dvg_check.proofs.Common.{Bool, true, false, ◌≡◌, ℕ, zero, suc, ◌+◌, ◌%◌, ◌≤◌, inl, inr, ◌⊎◌, ⊎_elim, List, [], ◌∷◌, length, nat_lt, refl, ap, sym, subst, ◌∙◌, arith, pos, if◌then◌else◌, AllByRecursion, cases_lt, Window, Point, Machine, Board, Cell, InWindow, cell_at, Memory, IsMemory, word_at, Stroke, State, Status, Running, Halted, Fault, Reached, start, after_call, after_cell, after_fetch, next_status, state_of, Ends, IsSafeStatus, Safe, rules, reverse, AllZip, length-reverse, Circuit, Counters, Reads, Run, act, run_after, begin, IsStart, ReadsAs, IsSamePlace, IsDrawnAs, Agrees, AgreesWith, counters_after, IsMapped, IsPast, IsSafeRun, SafeRuns, CountsOfRun, IsDrawAtPlaces, SafeIsWithinOnCircuit, SafeIsSafeOnCircuit, CountsAreOnCircuit}
 use Rattle.std.specs.Prelude.{◌*ℤ◌}
-use Rattle.std.specs.List.{AllZip}
-use Rattle.std.proofs.lemmas.List.{length-reverse}
-use Rattle.dvg_words.specs.declared.instruction.Instr.TheVariants.{Draw as Draws}
 use Rattle.dvg_words.proofs.Stack.{stack_within_max}
-use Rattle.dvg_circuit.specs.declared.circuit.Circuit.{Circuit}
-use Rattle.dvg_circuit.specs.declared.counters.Counters.{Counters}
 use Rattle.dvg_circuit.specs.declared.lit.LitDraw.{LitDraw}
-use Rattle.dvg_circuit.specs.Circuit.{Reads, Run, act, run_after, begin}
-use Rattle.dvg_circuit.specs.Premises.{IsStart, ReadsAs}
-use Rattle.dvg_circuit.specs.Showing.{IsDrawInWindow}
-use Rattle.dvg_circuit.specs.Following.{IsSamePlace, IsDrawnAs, Agrees, AgreesWith}
 use Rattle.dvg_circuit.proofs.Following.{all_reversed, circuit_follows}
-use Rattle.dvg_circuit.specs.Counters.{counters_after}
 use Rattle.dvg_circuit.proofs.Moves.{drawn_on_stroke}
 use Rattle.dvg_circuit.proofs.Showing.{lit_in_window, drawn_in_window}
-use Rattle.dvg_check.specs.Safety.{IsMapped, CountsAtHalt}
-use Rattle.dvg_check.specs.Circuit.{IsPast, IsSafeRun, SafeRuns, CountsOfRun}
-use Rattle.dvg_check.specs.Laws.{IsDrawAtPlaces, SafeIsWithinOnCircuit, SafeIsSafeOnCircuit, CountsAreOnCircuit}
+use Rattle.dvg_check.specs.Safety.{CountsAtHalt}
 use Rattle.dvg_check.proofs.Runs.{reached_on, grows}
 use Rattle.dvg_check.proofs.Safety.{safe_state}
 

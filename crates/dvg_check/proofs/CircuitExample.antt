@@ -1,14 +1,7 @@
 -- The worked example on the circuit, instruction by instruction.
-use Rattle.dvg_check.proofs.Common.{Bool, true, false, ◌≡◌, ℕ, zero, suc, ◌+◌, ◌%◌, ◌≤◌, List, Option, Some, length, inl, refl, ap, sym, subst, ◌∙◌, arith, Contains, if◌then◌else◌, AllByRecursion, ints, Board, format_of, instruction_of, screen, Entry, Exact, Safe}
-use Rattle.std.specs.Prelude.{unwrap_or, slice_index, slice_set}
-use Rattle.std.proofs.lemmas.List.{get_or-set_same}
-use Rattle.dvg_words.specs.Values.{IsWindow}
+use Rattle.dvg_check.proofs.Common.{true, false, ◌≡◌, ℕ, zero, suc, ◌≤◌, List, Option, Some, length, inl, refl, ap, sym, subst, arith, Contains, ints, Board, format_of, instruction_of, screen, Entry, Exact, Safe, get_or-set_same, IsWindow, Circuit, Counters, Run, run_after, begin, IsStart, ReadsNow, ReadsAs, memory_for, example_list}
+use Rattle.std.specs.Prelude.{unwrap_or}
 use Rattle.dvg_cert.specs.declared.limits.TheConstants.{MOST_DEPTH}
-use Rattle.dvg_circuit.specs.declared.circuit.Circuit.{Circuit}
-use Rattle.dvg_circuit.specs.declared.counters.Counters.{Counters}
-use Rattle.dvg_circuit.specs.Circuit.{Reads, Run, places, second_word, decoded, performed, act, run_after, begin}
-use Rattle.dvg_circuit.specs.Premises.{IsStart, IsRead, ReadsNow, ReadsAs}
-use Rattle.dvg_check.specs.Example.{memory_for, example_list}
 use Rattle.dvg_check.specs.CircuitExample.{example_reads, WorkedCircuit}
 use Rattle.dvg_check.proofs.Circuit.{safe_on_circuit, counts_on_circuit}
 use Rattle.dvg_check.proofs.Example.{worked_example}

@@ -1,8 +1,5 @@
 -- The beam is where it was last set, moved by the sum of the moves since then.
-use Rattle.dvg_check.proofs.Common.{List, zero, subst, sym, suc, ap, Bool, true, false, nat_lt, length, ◌≡◌, ◌∷◌, ◌∙◌, ℕ, [], Machine, Cell, Missing, Odd, Holds, Format, Instr, Labs, Halt, Jsrl, Rtsl, Jmpl, shift, displacement, labs_place, cell_at, State, Status, Running, Halted, Fault, Reached, start, after_call, after_return, after_instruction, after_cell, after_fetch, next_status, Memory, word_at, state_of, shift_origin, shift_shift, Course, course_past, course_at, course_after, course_along, course_at_start}
-use Rattle.std.proofs.Common.{arith}
-use Rattle.dvg_words.specs.declared.instruction.Instr.TheVariants.{Draw as Draws}
-use Rattle.dvg_check.specs.Drift.{sum_of, place_of, PlaceIsSum}
+use Rattle.dvg_check.proofs.Common.{zero, subst, sym, suc, Bool, nat_lt, ◌≡◌, ℕ, Machine, Cell, shift, displacement, labs_place, cell_at, State, Status, Running, Halted, Fault, Reached, start, after_call, after_cell, after_fetch, next_status, Memory, word_at, state_of, shift_origin, shift_shift, Course, course_at, course_after, course_along, course_at_start, arith, place_of, PlaceIsSum}
 
 abbrev IsAt : Course → Status → Type 0
 IsAt c status = (state_of status).place ≡ place_of c

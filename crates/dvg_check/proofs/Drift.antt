@@ -1,14 +1,7 @@
 -- How far apart runs of the two machines are, and what is safe on one of them by the other.
-use Rattle.dvg_check.proofs.Common.{arith, List, zero, subst, sym, suc, ap, refl, Bool, true, false, nat_lt, length, ℤ, pos, ◌≡◌, ◌+◌, ◌≤◌, ◌∷◌, ◌++◌, ◌∙◌, ◌+ℤ◌, ◌*ℤ◌, ℕ, [], AllByRecursion, ints, Machine, Profile, Board, Point, Cell, Missing, Odd, Holds, Format, Instr, Labs, Halt, Jsrl, Rtsl, Jmpl, DrawFields, Window, shift, displacement, labs_place, InWindow, cell_at, Stroke, State, Status, Running, Halted, Fault, Reached, start, lit_by, after_call, after_return, after_instruction, after_cell, after_fetch, next_status, Memory, word_at, state_of, Course, course_past, course_at, course_after, course_along, course_at_start, on, OnlyRounds, Safe, Ends, IsSafeState, IsSafeStatus}
-use Rattle.std.proofs.Common.{rules}
-use Rattle.std.proofs.lemmas.Grind.{common_steps}
-use Rattle.std.proofs.Common.{negsuc, neg_ℤ, ◌*◌}
-use Rattle.dvg_words.specs.declared.instruction.Instr.TheVariants.{Draw as Draws}
-use Rattle.dvg_words.specs.Beam.{effective_scale, axis_move, labs_coordinate}
+use Rattle.dvg_check.proofs.Common.{arith, List, subst, sym, suc, ap, refl, Bool, true, false, nat_lt, length, ℤ, pos, ◌≡◌, ◌+◌, ◌≤◌, ◌∷◌, ◌++◌, ◌∙◌, ◌+ℤ◌, ◌*ℤ◌, ℕ, [], AllByRecursion, ints, Machine, Profile, Point, Cell, Format, Instr, DrawFields, Window, shift, displacement, labs_place, InWindow, cell_at, Stroke, State, Status, Running, Halted, Reached, start, lit_by, after_call, after_return, after_instruction, after_cell, after_fetch, next_status, Memory, word_at, state_of, Course, course_past, course_at, course_after, course_along, course_at_start, on, OnlyRounds, Safe, Ends, IsSafeState, IsSafeStatus, rules, common_steps, negsuc, neg_ℤ, ◌*◌, effective_scale, axis_move, point_is, course_of, RunsOnlyRound, Both, HalfPlaceEach, IsInset, InsetIsSafe, IsMapped, HaltsWithin, StaysSafe}
 use Rattle.dvg_words.specs.Machines.{IsNearMove, HalfPlace}
-use Rattle.dvg_items.proofs.Points.{point_is}
-use Rattle.dvg_check.specs.Drift.{course_of, RunsOnlyRound, IsNear, Both, HalfPlaceEach, IsInset, InsetIsSafe}
-use Rattle.dvg_check.specs.Safety.{IsMapped, HaltsWithin, StaysSafe}
+use Rattle.dvg_check.specs.Drift.{IsNear}
 use Rattle.dvg_check.proofs.Alike.{same_cell, coordinate_same}
 use Rattle.dvg_check.proofs.Beside.{both_with, of_both, moved, drawn_on, Relation, IsKept, Beside, not_odd, beside_next, run_on, run_back, Rounds, rounds_on}
 use Rattle.dvg_check.proofs.Safety.{safe_state}

@@ -1,15 +1,8 @@
 -- The worked example: what stands at its places, and that each item keeps each rule.
-use Rattle.dvg_check.proofs.Common.{arith, List, refl, sym, subst, pos, zero, suc, ◌≡◌, ◌≢◌, ◌≤◌, ◌∷◌, ℕ, [], ints, displacement, screen, cell_at, instruction_of, IsMemory, frame_word, rom_word, Machine, Profile, Board, DrawFields, Holds, Long, Short, Labs, Halt, Jsrl, Rtsl, frame_context, target, PlaceKnown, ScaleKnown, LitInWindow, FrameKeeps, FramePlaceKeeps, CellKeeps, GoodShape, Good, AllKeep, HasCallee, seen_at, FrameWhy, Mode, Bound, Exact, Item, Frame, At, Entry, Empty}
-use Rattle.std.proofs.Common.{rules}
-use Rattle.std.proofs.lemmas.List.{length-replicate}
+use Rattle.dvg_check.proofs.Common.{arith, List, refl, sym, subst, pos, ◌≡◌, ◌≢◌, ◌≤◌, ◌∷◌, [], ints, displacement, screen, cell_at, instruction_of, IsMemory, frame_word, rom_word, Machine, Profile, Board, DrawFields, Holds, Long, Short, Labs, Halt, Jsrl, Rtsl, frame_context, target, PlaceKnown, ScaleKnown, LitInWindow, FrameKeeps, FramePlaceKeeps, CellKeeps, GoodShape, Good, AllKeep, HasCallee, seen_at, FrameWhy, Mode, Bound, Exact, Item, Frame, At, Entry, Empty, rules, length-replicate, asteroids, Draws, IsCertificate, rom_for, memory_for, example_entry, example_list, WorkedExample, IsForward, last_item}
 use Rattle.dvg_words.specs.Example.{example_frame}
-use Rattle.dvg_words.specs.Values.{asteroids}
-use Rattle.dvg_words.specs.declared.instruction.Instr.TheVariants.{Draw as Draws}
-use Rattle.dvg_cert.specs.Order.{IsCertificate}
-use Rattle.dvg_check.specs.Example.{rom_for, memory_for, example_entry, example_list, WorkedExample}
-use Rattle.dvg_check.specs.Rules.{Seen, IsForward}
+use Rattle.dvg_check.specs.Rules.{Seen}
 use Rattle.dvg_check.specs.declared.fault.FrameWhy.TheVariants as frame
-use Rattle.dvg_check.specs.Private.Tails.{last_item}
 use Rattle.dvg_check.proofs.Faults.{all_kept}
 use Rattle.dvg_check.proofs.TailLaws.{item_before_tail, last_item_good}
 

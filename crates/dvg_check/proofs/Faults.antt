@@ -1,10 +1,6 @@
 -- The items of a shape or of a frame are determined: so a walk to the last one has met them all, and there is one first
 -- fault at most.
-use Rattle.dvg_check.proofs.Common.{Source, Machine, List, length, refl, sym, arith, ap, None, subst, suc, ◌≡◌, ◌+◌, ◌<◌, ◌∷◌, ◌++◌, ◌∙◌, ℕ, ⊎_elim, [], cases_lt, AllByRecursion, Contains, if◌then◌else◌, cell_at, word_count, frame_word, rom_word, Window, Holds, Halt, Entry, frame_number, LeadsTo, next_address, words_before, frame_context, depth_before, AllKeep, FramePlaceKeeps, GoodFrame, ShapePlaceKeeps, GoodShape, FrameWhy, ShapeWhy, Item, Kind, Frame, Shape}
-use Rattle.std.specs.Prelude.{◌==◌}
-use Rattle.dvg_items.proofs.Leading.{Same, same_lead, too_long, shorter, everywhere}
-use Rattle.dvg_check.specs.FirstFault.{AllBefore, FaultAt, shape_number, ShapeFaultAt}
-use Rattle.dvg_check.specs.Laws.{OneFault, NoFault, OneCount, NoShapeFault, OneShapeFault}
+use Rattle.dvg_check.proofs.Common.{Source, Machine, List, length, refl, sym, arith, ap, None, subst, suc, ◌≡◌, ◌+◌, ◌<◌, ◌∷◌, ◌++◌, ◌∙◌, ℕ, ⊎_elim, [], cases_lt, AllByRecursion, Contains, if◌then◌else◌, cell_at, word_count, frame_word, rom_word, Window, Holds, Halt, Entry, frame_number, LeadsTo, next_address, words_before, frame_context, depth_before, AllKeep, FramePlaceKeeps, GoodFrame, ShapePlaceKeeps, GoodShape, FrameWhy, ShapeWhy, Item, Kind, Frame, Shape, ◌==◌, Same, same_lead, too_long, shorter, everywhere, AllBefore, FaultAt, shape_number, ShapeFaultAt, OneFault, NoFault, OneCount, NoShapeFault, OneShapeFault}
 use Rattle.dvg_check.specs.declared.fault.FrameWhy.TheVariants as frame
 use Rattle.dvg_check.specs.declared.fault.ShapeWhy.TheVariants as shape
 

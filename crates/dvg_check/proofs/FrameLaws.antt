@@ -1,17 +1,8 @@
 -- A frame from any start to its halt.
-use Rattle.dvg_check.proofs.Common.{Machine, List, Option, Some, None, arith, refl, length, inl, inr, max, ap, sym, subst, zero, suc, ◌≡◌, ◌+◌, ◌≤◌, ◌⊎◌, ◌∷◌, ◌++◌, ◌∙◌, ℕ, [], AllByRecursion, Contains, InWindow, origin, word_count, cell_at, State, Reached, Running, Halted, Stroke, places, start, next_status, Status, Fault, Memory, InRom, word_at, IsMemory, frame_word, Window, Point, Holds, Format, Long, Short, Instr, Labs, Halt, Rtsl, Jsrl, Jmpl, End, Rel, Abs, Lost, Entry, LitBox, Empty, Counts, LitFits, Stretch, LeadsTo, place_past, place_moved_by, place_before, frame_context, depth_under, depth_before, callee, words_before, LitInBox, seen_at, Good, AllKeep, FramePlaceKeeps, FrameKeeps, CellKeeps, GoodFrame, Ends, IsSafeStatus, IsSafeState, FrameWhy, Mode, Bound, Exact, Item, Frame, Effect, LitExtent}
-use Rattle.std.proofs.Common.{length-append}
-use Rattle.dvg_words.specs.Memory.{InFrame}
-use Rattle.dvg_words.specs.declared.instruction.Instr.TheVariants.{Draw as Draws}
-use Rattle.dvg_check.specs.Laws.{GoodIsSafe, ExactIsExact}
-use Rattle.dvg_items.specs.Seen.{extent}
+use Rattle.dvg_check.proofs.Common.{Machine, List, Option, Some, arith, refl, length, inl, inr, max, ap, sym, subst, ◌≡◌, ◌+◌, ◌≤◌, ◌⊎◌, ◌∷◌, ◌++◌, ◌∙◌, ℕ, [], AllByRecursion, Contains, InWindow, origin, word_count, cell_at, State, Reached, Running, Halted, Stroke, places, start, next_status, Status, Memory, InRom, word_at, IsMemory, frame_word, Window, Point, Holds, Format, Instr, Halt, End, Rel, Abs, Lost, Entry, LitBox, Empty, Counts, LitFits, Stretch, LeadsTo, place_past, place_before, frame_context, depth_under, depth_before, callee, words_before, LitInBox, seen_at, Good, AllKeep, FramePlaceKeeps, FrameKeeps, CellKeeps, GoodFrame, Ends, IsSafeStatus, FrameWhy, Mode, Bound, Exact, Item, Frame, Effect, LitExtent, length-append, InFrame, GoodIsSafe, ExactIsExact, extent, all_append, all_map, all_right, named_listed, word_count-some}
 use Rattle.dvg_check.specs.declared.fault.FrameWhy.TheVariants as frame
-use Rattle.dvg_items.specs.declared.known.Effect.TheVariants.{Sets, Loses, Moves}
 use Rattle.dvg_check.proofs.Onward.{Stands}
-use Rattle.dvg_items.proofs.Lists.{all_append, all_map, all_right}
-use Rattle.dvg_check.proofs.Runs.{reached_on, counts_sum, counts_same, rest_of, Grows, grows, stretch_as}
-use Rattle.dvg_items.proofs.Listed.{named_listed}
-use Rattle.dvg_items.proofs.Near.{word_count-some}
+use Rattle.dvg_check.proofs.Runs.{reached_on, counts_sum, counts_same, rest_of, grows, stretch_as}
 use Rattle.dvg_check.proofs.ShapeLaws.{Facts, all_shapes, arrive}
 use Rattle.dvg_check.proofs.Modes.{in_bound}
 use Rattle.dvg_check.proofs.Steps.{next_there, own, stands}

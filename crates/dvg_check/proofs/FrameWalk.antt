@@ -1,8 +1,5 @@
 -- What a walk over a frame's items gives.
-use Rattle.dvg_check.proofs.Common.{Machine, None, refl, nat_lt, true, arith, Some, ap, List, subst, ◌≡◌, ◌∷◌, ℕ, nat_tests, if◌then◌else◌, cell_at, frame_word, Window, Holds, Format, Instr, Rtsl, Halt, Labs, Jsrl, Jmpl, Entry, address_after, LeadsTo, known_before, frame_context, AllKeep, FramePlaceKeeps, GoodFrame, FrameKeeps, CellKeeps, seen_at, FrameWhy, Item, Frame, Known}
-use Rattle.dvg_words.specs.declared.instruction.Instr.TheVariants.{Draw as Draws}
-use Rattle.dvg_check.specs.Rules.{IsForward}
-use Rattle.dvg_check.specs.Private.Judging.{WalksTo}
+use Rattle.dvg_check.proofs.Common.{Machine, None, nat_lt, arith, List, subst, ◌≡◌, ◌∷◌, ℕ, nat_tests, cell_at, frame_word, Window, Holds, Format, Instr, Rtsl, Halt, Entry, address_after, LeadsTo, known_before, frame_context, AllKeep, FramePlaceKeeps, GoodFrame, FrameKeeps, CellKeeps, seen_at, FrameWhy, Item, Frame, Known, IsForward, WalksTo}
 use Rattle.dvg_check.specs.declared.fault.FrameWhy.TheVariants as frame
 
 -- the last item of a frame is a halt

@@ -1,9 +1,6 @@
 -- The first faulty entry of a list.
-use Rattle.dvg_check.proofs.Common.{List, length, take, get_or, suc, arith, zero, refl, ap, subst, sym, ◌≡◌, ◌<◌, ◌∷◌, ◌++◌, ℕ, [], AllByRecursion, Rom, rom_word, Window, Entry, At, Rel, pos, Empty, IsFound, known_before, shape_context, GoodShape, Mode}
-use Rattle.std.proofs.Common.{drop, slice_index_or}
+use Rattle.dvg_check.proofs.Common.{List, length, take, get_or, suc, arith, zero, refl, ap, subst, sym, ◌≡◌, ◌<◌, ◌∷◌, ◌++◌, ℕ, [], AllByRecursion, Rom, rom_word, Window, Entry, At, Rel, pos, Empty, IsFound, known_before, shape_context, GoodShape, Mode, drop, slice_index_or, all_append, ShapeFaultFound, ShapeFinding, FirstShapeFound}
 use Rattle.std.proofs.Math.Seq.{take-suc}
-use Rattle.dvg_items.proofs.Lists.{all_append}
-use Rattle.dvg_check.specs.Finding.{ShapeFaultFound, ShapeFinding, FirstShapeFound}
 
 -- what the code reads for an entry past the end
 abbrev pub no_entry : Entry

@@ -1,11 +1,6 @@
 -- What the loop over items keeps, and what follows where it stops.
-use Rattle.dvg_check.proofs.Common.{Source, Machine, arith, refl, List, subst, sym, ap, ◌≡◌, ◌≢◌, ◌∷◌, ◌∙◌, ℕ, [], cell_at, Cell, Missing, Odd, Holds, Format, Instr, Entry, Key, IsFound, LeadsTo, Context, known_before, seen_at, PlaceKeeps, CellKeeps, Item, Kind, Known, Seen}
-use Rattle.std.proofs.Common.{rules}
-use Rattle.dvg_check.specs.FirstFault.{AllBefore, FaultAt}
-use Rattle.dvg_check.specs.Finding.{FaultFound}
+use Rattle.dvg_check.proofs.Common.{Source, Machine, refl, List, subst, sym, ap, ◌≡◌, ◌≢◌, ◌∷◌, ◌∙◌, ℕ, [], cell_at, Cell, Missing, Odd, Holds, Format, Instr, Entry, Key, IsFound, LeadsTo, Context, known_before, seen_at, PlaceKeeps, CellKeeps, Item, Kind, Known, Seen, rules, AllBefore, FaultAt, FaultFound, seen_by, WalksTo, KeepsAll, BreaksFirst, IsSoundCursor, IsSoundStep}
 use Rattle.dvg_check.specs.declared.fault.Found.TheVariants as found
-use Rattle.dvg_check.specs.Private.Judging.{seen_by, WalksTo, KeepsAll, BreaksFirst}
-use Rattle.dvg_items.specs.Bounds.{IsSoundCursor, IsSoundStep}
 use Rattle.dvg_items.specs.declared.cursor.Cursor.{Cursor}
 use Rattle.dvg_items.specs.declared.cursor.Step.{Step}
 use Rattle.dvg_items.specs.declared.cursor.Step.TheVariants.{Onward, Last}

@@ -1,7 +1,5 @@
 -- The two frames that one machine accepts and the other refuses, item by item.
-use Rattle.dvg_check.proofs.Common.{arith, List, refl, sym, subst, pos, ◌≡◌, ◌∷◌, ◌<◌, ℕ, [], ints, displacement, screen, cell_at, instruction_of, frame_word, DrawFields, Machine, Profile, Board, Holds, Odd, Long, Short, Labs, Halt, frame_number, FrameKeeps, FramePlaceKeeps, CellKeeps, GoodFrame, FrameWhy, frame_context, seen_at, Item, Frame, LeadsTo, words_before, depth_before, ◌+◌, ◌≤◌, PlaceKnown, ScaleKnown, LitInWindow}
-use Rattle.dvg_words.specs.declared.instruction.Instr.TheVariants.{Draw as Draws}
-use Rattle.dvg_check.specs.FirstFault.{FirstFrameFault}
+use Rattle.dvg_check.proofs.Common.{arith, List, refl, sym, subst, pos, ◌≡◌, ◌∷◌, ◌<◌, ℕ, [], ints, displacement, screen, cell_at, instruction_of, frame_word, DrawFields, Machine, Profile, Board, Holds, Odd, Long, Short, Labs, Halt, frame_number, FrameKeeps, FramePlaceKeeps, CellKeeps, GoodFrame, FrameWhy, frame_context, seen_at, Item, Frame, LeadsTo, words_before, depth_before, ◌+◌, ◌≤◌, PlaceKnown, ScaleKnown, LitInWindow, Draws, FirstFrameFault}
 use Rattle.dvg_check.specs.MachinesExample.{edge_frame, left_frame, WorkedMachines}
 use Rattle.dvg_check.specs.Rules.{Seen}
 use Rattle.dvg_check.specs.declared.fault.FrameWhy.TheVariants as frame

@@ -1,5 +1,5 @@
 -- What is good with exact counts is good with bounds.
-use Rattle.dvg_check.proofs.Common.{List, Rom, Window, Entry, LitBox, Empty, Span, IsInside, Good, Mode, Bound, arith, ints, refl}
+use Rattle.dvg_check.proofs.Common.{List, Rom, Window, Entry, LitBox, IsInside, Good, Mode, Bound, arith, refl}
 use Rattle.dvg_check.proofs.Runs.{counts_same}
 use Rattle.dvg_check.proofs.TailLaws.{good_less}
 

@@ -1,20 +1,8 @@
 -- From one item to the next, over calls too.
-use Rattle.dvg_check.proofs.Common.{Source, Machine, Option, None, Some, Bool, false, true, refl, nat_le, arith, subst, inl, sym, ap, inr, zero, suc, List, max, length, nat_lt, ◌≡◌, ◌+◌, ◌<◌, ◌≤◌, ◌⊎◌, ◌∷◌, ◌++◌, ◌∙◌, ℕ, ⊎_elim, [], nat_tests, ints, AllByRecursion, Contains, if◌then◌else◌, shift, InWindow, displacement, origin, instruction_of, cell_holding, cell_of_words, cell_of_format, cell_at, word_count, Stroke, lit_by, State, next_status, Running, places, after_call, Memory, InRom, word_at, IsMemory, DrawFields, Window, Point, Holds, Format, Long, Short, Instr, Labs, Halt, Jsrl, Rtsl, Jmpl, End, Lost, Abs, Rel, Entry, Key, At, LitBox, Empty, Span, PlaceFits, LitFits, ScaleFits, Stretch, address_after, LeadsTo, place_moved_by, Context, place_before, scale_before, target, callee, callee_words, depth_under, place_past, word_of, InBox, LitInWindow, LitInBox, PlaceKnown, ScaleKnown, HasCallee, Mode, Item, Kind, Frame, Shape, shift_shift, shift_origin}
-use Rattle.std.proofs.Common.{rules}
-use Rattle.std.proofs.Common.{unwrap_or, ◌/◌}
-use Rattle.std.specs.Prelude.{◌≢◌, ◌==◌, ℤ}
-use Rattle.dvg_words.specs.Decoding.{long_cell}
-use Rattle.dvg_words.specs.declared.instruction.Instr.TheVariants.{Draw as Draws}
+use Rattle.dvg_check.proofs.Common.{Source, Machine, Option, None, Some, true, refl, nat_le, arith, subst, inl, sym, ap, inr, zero, suc, List, max, length, nat_lt, ◌≡◌, ◌+◌, ◌<◌, ◌≤◌, ◌⊎◌, ◌∷◌, ◌++◌, ◌∙◌, ℕ, ⊎_elim, [], nat_tests, ints, AllByRecursion, Contains, shift, InWindow, displacement, origin, instruction_of, cell_of_words, cell_of_format, cell_at, word_count, Stroke, lit_by, State, next_status, Running, places, after_call, Memory, InRom, word_at, IsMemory, DrawFields, Window, Point, Holds, Format, Long, Short, Instr, Labs, Halt, Jsrl, Rtsl, Jmpl, End, Lost, Abs, Rel, Entry, Key, At, LitBox, Empty, Span, PlaceFits, LitFits, ScaleFits, Stretch, address_after, LeadsTo, place_moved_by, Context, place_before, scale_before, target, callee, callee_words, depth_under, place_past, word_of, InBox, LitInWindow, LitInBox, PlaceKnown, ScaleKnown, HasCallee, Mode, Item, Kind, Frame, Shape, shift_shift, shift_origin, rules, unwrap_or, ◌/◌, Draws, entry_at, Any, box_at, Returned, Behaves, draw_effect, callee_effect, scale_set, IsDrawOrLabs, lit_on, box_extent, draw_extent, callee_extent, extent, Between, listed_at}
+use Rattle.std.specs.Prelude.{◌≢◌, ℤ}
 use Rattle.std.specs.Option.{option_or}
-use Rattle.dvg_cert.specs.Lookup.{entry_at, named_entry}
-use Rattle.dvg_cert.specs.declared.entry.Key.TheVariants.{Any}
-use Rattle.dvg_check.specs.Behaving.{box_at, Returned, Behaves}
-use Rattle.dvg_items.specs.Known.{draw_effect, stop_effect, callee_effect, scale_set, callee_at}
-use Rattle.dvg_check.specs.Laws.{IsDrawOrLabs, lit_on}
-use Rattle.dvg_items.specs.Lit.{box_extent, draw_extent, callee_extent}
-use Rattle.dvg_items.specs.Seen.{extent}
-use Rattle.dvg_items.specs.declared.lit.LitExtent.TheVariants.{Between}
-use Rattle.dvg_items.proofs.Listed.{listed_at}
+use Rattle.dvg_cert.specs.Lookup.{named_entry}
 use Rattle.dvg_check.proofs.Runs.{counts_same, stretch_less, stretch_on, stretch_as, deeper}
 use Rattle.dvg_check.proofs.Steps.{effect, fits_moved, own, next_there, one_item, stands}
 

@@ -1,9 +1,6 @@
 -- Runs: they go on, they are determined, and what is recorded only grows.
-use Rattle.dvg_check.proofs.Common.{Machine, List, zero, arith, subst, sym, suc, ap, refl, Bool, true, false, nat_lt, length, max, ◌≡◌, ◌+◌, ◌≤◌, ◌∷◌, ◌++◌, ◌∙◌, ℕ, [], cell_at, Status, Reached, Running, Halted, Fault, State, Stroke, after_call, after_return, after_instruction, lit_by, after_cell, next_status, after_fetch, Memory, word_at, Cell, Missing, Odd, Holds, Format, Instr, Labs, Halt, Jsrl, Rtsl, Jmpl, state_of, Counts, Stretch, Mode, Bound, Exact}
-use Rattle.std.proofs.Common.{append_assoc, length-append}
-use Rattle.dvg_words.specs.Generator.{Step, fetches}
-use Rattle.dvg_words.specs.declared.instruction.Instr.TheVariants.{Draw as Draws}
-use Rattle.dvg_items.proofs.Lists.{all_append, all_map}
+use Rattle.dvg_check.proofs.Common.{Machine, List, zero, arith, subst, sym, suc, ap, refl, Bool, true, false, nat_lt, length, max, ◌≡◌, ◌+◌, ◌≤◌, ◌∷◌, ◌++◌, ◌∙◌, ℕ, [], cell_at, Status, Reached, Running, Halted, Fault, State, Stroke, after_call, after_return, after_instruction, lit_by, after_cell, next_status, after_fetch, Memory, word_at, Cell, Missing, Odd, Holds, Format, Instr, Labs, Halt, Jsrl, Rtsl, Jmpl, state_of, Counts, Stretch, Mode, Bound, Exact, append_assoc, length-append, fetches, Draws, all_append, all_map}
+use Rattle.dvg_words.specs.Generator.{Step}
 
 -- ---- runs
 

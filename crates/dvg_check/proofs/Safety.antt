@@ -1,8 +1,5 @@
 -- What is safe, state by state.
-use Rattle.dvg_check.proofs.Common.{arith, ℕ, Status, Running, Halted, Fault, state_of, InWindow, Memory, Window, Ends, IsSafeState, IsSafeStatus}
-use Rattle.dvg_words.specs.Laws.{StackWithinMax}
-use Rattle.dvg_items.proofs.Lists.{at_place}
-use Rattle.dvg_check.specs.Laws.{StrokeInWindow, SafeStrokes, SafeStack}
+use Rattle.dvg_check.proofs.Common.{arith, ℕ, Status, state_of, InWindow, Memory, Window, Ends, IsSafeState, IsSafeStatus, StackWithinMax, at_place, StrokeInWindow, SafeStrokes, SafeStack}
 
 -- what is safe is no fault
 pub safe_state : (m : Memory) (w : Window) (words depth steps : ℕ) (after : Status) → IsSafeStatus m w words depth steps after → IsSafeState m w words depth steps (state_of after)

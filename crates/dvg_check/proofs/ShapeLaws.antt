@@ -1,14 +1,6 @@
 -- A shape's items one after another, and all shapes by induction on their words.
-use Rattle.dvg_check.proofs.Common.{List, Some, length, arith, sym, Option, None, zero, ap, suc, max, subst, refl, ◌≡◌, ◌+◌, ◌<◌, ◌≤◌, ◌∷◌, ◌++◌, ◌∙◌, ℕ, [], AllByRecursion, Contains, shift, origin, cell_at, word_count, places, State, Reached, Running, next_status, after_return, Memory, IsMemory, InRom, rom_word, word_at, Window, Point, Cell, Holds, Missing, Odd, Format, Instr, Rtsl, Jmpl, Labs, Halt, Jsrl, Entry, LitBox, Stretch, LitFits, Counts, PlaceFits, ScaleFits, LeadsTo, address_after, next_address, Context, callee, depth_before, words_before, shape_context, target, scale_before, callee_words, depth_under, place_before, word_of, GoodShape, CellKeeps, ShapeKeeps, AtLast, Good, seen_at, HasCallee, Mode, Bound, Exact, ShapeWhy, Item, Shape, shift_origin}
-use Rattle.std.proofs.Common.{rules}
-use Rattle.std.proofs.Common.{unwrap_or}
-use Rattle.dvg_words.specs.declared.instruction.Instr.TheVariants.{Draw as Draws}
-use Rattle.dvg_check.specs.Behaving.{Behaves, Returned}
-use Rattle.dvg_items.specs.Known.{scale_set}
-use Rattle.dvg_check.specs.Laws.{OneShape, AllShapes}
+use Rattle.dvg_check.proofs.Common.{List, Some, length, arith, sym, Option, None, zero, ap, suc, max, subst, refl, ◌≡◌, ◌+◌, ◌<◌, ◌≤◌, ◌∷◌, ◌++◌, ◌∙◌, ℕ, [], AllByRecursion, Contains, shift, origin, cell_at, word_count, places, State, Reached, Running, next_status, after_return, Memory, IsMemory, InRom, rom_word, word_at, Window, Point, Cell, Holds, Missing, Odd, Format, Instr, Rtsl, Jmpl, Labs, Halt, Jsrl, Entry, LitBox, Stretch, LitFits, Counts, PlaceFits, ScaleFits, LeadsTo, address_after, next_address, Context, callee, depth_before, words_before, shape_context, target, scale_before, callee_words, depth_under, place_before, word_of, GoodShape, CellKeeps, ShapeKeeps, AtLast, Good, seen_at, HasCallee, Mode, Bound, Exact, ShapeWhy, Item, Shape, shift_origin, rules, unwrap_or, Draws, Behaves, Returned, scale_set, OneShape, AllShapes, named_listed, word_count-some}
 use Rattle.dvg_check.specs.declared.fault.ShapeWhy.TheVariants as shape
-use Rattle.dvg_items.proofs.Listed.{named_listed}
-use Rattle.dvg_items.proofs.Near.{word_count-some}
 use Rattle.dvg_check.proofs.Onward.{Fits, Stands, over_item, named_is, one_step, fits_still, called_by, within_caller, after_entry}
 use Rattle.dvg_check.proofs.Runs.{stretch_here, stretch_on, counts_same, stretch_as}
 use Rattle.dvg_check.proofs.Steps.{own, next_there, stands}

@@ -1,15 +1,6 @@
 -- One item: what stands at a place, and what a draw or a LABS does.
-use Rattle.dvg_check.proofs.Common.{Source, Machine, arith, Option, None, Some, ap, subst, sym, refl, List, length, nat_le, Bool, true, false, nat_lt, ◌≡◌, ◌+◌, ◌-◌, ◌<◌, ◌≤◌, ◌∷◌, ◌++◌, ◌∙◌, ℕ, ⊎_elim, cases_lt, nat_tests, AllByRecursion, if◌then◌else◌, shift, displacement, labs_place, cell_holding, cell_of_format, cell_of_words, format_of, cell_at, word_count, places, State, next_status, after_instruction, after_cell, after_fetch, Memory, InRom, IsMemory, word_at, DrawFields, Point, Holds, Format, Long, Short, Instr, Labs, Halt, Jsrl, Rtsl, Jmpl, End, Rel, Abs, Lost, Key, At, shift_shift, PlaceFits, ScaleFits, place_moved_by, Context, place_before, callee, scale_before, place_past, word_of, Item, Kind, Shape, Frame, Effect}
-use Rattle.std.proofs.Common.{slice_get}
+use Rattle.dvg_check.proofs.Common.{Source, Machine, arith, Option, Some, ap, sym, List, length, nat_le, nat_lt, ◌≡◌, ◌+◌, ◌-◌, ◌<◌, ◌∷◌, ◌++◌, ◌∙◌, ℕ, ⊎_elim, cases_lt, nat_tests, AllByRecursion, shift, displacement, labs_place, cell_of_format, cell_of_words, format_of, cell_at, word_count, places, State, next_status, after_instruction, after_cell, after_fetch, Memory, InRom, IsMemory, word_at, Point, Holds, Format, Instr, Labs, Halt, Jsrl, Rtsl, Jmpl, End, Rel, Abs, Lost, shift_shift, PlaceFits, ScaleFits, place_moved_by, Context, place_before, callee, scale_before, place_past, word_of, Item, Kind, Shape, Frame, Effect, slice_get, fetches, InFrame, Draws, effect_of, draw_effect, IsDrawOrLabs, Past, OneItem}
 use Rattle.std.proofs.lemmas.Option.{slice_get_past}
-use Rattle.std.specs.Prelude.{◌&&◌}
-use Rattle.dvg_words.specs.Decoding.{long_cell}
-use Rattle.dvg_words.specs.Generator.{fetches, after_draw}
-use Rattle.dvg_words.specs.Memory.{InFrame, word_of_rom, fetched_at}
-use Rattle.dvg_words.specs.declared.instruction.Instr.TheVariants.{Draw as Draws}
-use Rattle.dvg_cert.specs.declared.entry.Key.TheVariants.{Any}
-use Rattle.dvg_items.specs.Known.{effect_of, draw_effect}
-use Rattle.dvg_check.specs.Laws.{IsDrawOrLabs, Past, OneItem}
 
 -- ---- what stands at a place
 

@@ -1,13 +1,7 @@
 -- A weaker claim of a good shape is good, and so is an item before a good tail.
-use Rattle.dvg_check.proofs.Common.{Machine, arith, List, Option, None, Some, refl, sym, ap, subst, inl, inr, max, pos, ⊎_elim, ◌≡◌, ◌⊎◌, ◌+◌, ◌≤◌, ◌∷◌, ◌∙◌, ℕ, ◌+ℤ◌, [], ints, cell_at, word_count, Rom, rom_word, Window, Point, Cell, Holds, Missing, Odd, End, Rel, Abs, Lost, Entry, Key, LitBox, Empty, Span, LeadsTo, next_address, Context, known_before, place_past, callee_words, depth_under, target, PlaceKnown, ScaleKnown, LitInWindow, LitInBox, InBox, IsInside, seen_at, Item, Shape, Known, LitExtent, Effect, Seen, Counts, AtLast, AsClaimed, CellKeeps, ShapeKeeps, ShapePlaceKeeps, GoodShape, Mode, Bound, Exact, ShapeWhy}
-use Rattle.std.proofs.Common.{rules}
-use Rattle.dvg_items.specs.Known.{known_past, callee_at, effect_of}
-use Rattle.dvg_items.specs.declared.lit.LitExtent.TheVariants.{Nothing, Between, Anywhere}
+use Rattle.dvg_check.proofs.Common.{Machine, arith, List, Option, None, Some, refl, sym, ap, subst, inl, inr, max, pos, ⊎_elim, ◌≡◌, ◌⊎◌, ◌+◌, ◌≤◌, ◌∷◌, ◌∙◌, ℕ, [], ints, cell_at, word_count, Rom, rom_word, Window, Point, Cell, Holds, Missing, Odd, End, Rel, Abs, Lost, Entry, Key, LitBox, Empty, Span, LeadsTo, next_address, Context, known_before, place_past, callee_words, depth_under, target, PlaceKnown, ScaleKnown, LitInWindow, LitInBox, InBox, IsInside, seen_at, Item, Shape, Known, LitExtent, Effect, Seen, Counts, AtLast, AsClaimed, CellKeeps, ShapeKeeps, ShapePlaceKeeps, GoodShape, Mode, Bound, Exact, ShapeWhy, rules, Nothing, Between, Anywhere, item_same, too_long, seen_by, ClaimsLess, known_at_end, claimed, place_over, known_over, first_seen, MayStandAt, MayStandFirst, IsBehind, last_item, after_item}
 use Rattle.dvg_items.specs.declared.known.Effect.TheVariants.{Sets, Loses, Moves}
-use Rattle.dvg_items.proofs.Leading.{item_same, too_long}
 use Rattle.dvg_items.proofs.PlaceLaw.{moves_on}
-use Rattle.dvg_check.specs.Private.Judging.{seen_by}
-use Rattle.dvg_check.specs.Private.Tails.{ClaimsLess, known_at_end, claimed, place_over, known_over, first_seen, MayStandAt, MayStandFirst, IsBehind, last_item, after_item}
 use Rattle.dvg_check.specs.declared.fault.ShapeWhy.TheVariants as shape
 use Rattle.dvg_check.proofs.Runs.{counts_le}
 

@@ -1,10 +1,5 @@
 -- What is kept by a pass, and the entries that it shows to be good.
-use Rattle.dvg_check.proofs.Common.{arith, List, Option, None, Some, [], ◌∷◌, ◌⊎◌, zero, suc, length, take, get_or, refl, sym, subst, ◌≡◌, ◌<◌, ◌≤◌, ◌∙◌, ℕ, ⊎_elim, AllByRecursion, Entry, Key}
-use Rattle.std.proofs.Common.{replicate}
-use Rattle.std.proofs.lemmas.List.{get_or_default}
-use Rattle.dvg_items.specs.Bounds.{IsClaim, IsSomeCertificate}
-use Rattle.dvg_items.proofs.Listed.{listed_claim}
-use Rattle.dvg_check.specs.Passing.{AllKept, IsKept, Kept}
+use Rattle.dvg_check.proofs.Common.{arith, List, Option, None, Some, [], ◌∷◌, ◌⊎◌, zero, suc, length, take, get_or, refl, sym, subst, ◌≡◌, ◌<◌, ◌≤◌, ◌∙◌, ℕ, ⊎_elim, AllByRecursion, Entry, Key, replicate, get_or_default, IsClaim, IsSomeCertificate, listed_claim, AllKept, IsKept, Kept}
 
 none_at : {T : Type 0} (n k : ℕ) → get_or {A = Option (Kept T)} (replicate n None) k None ≡ None
 none_at zero k = refl

@@ -1,12 +1,5 @@
 -- A tail's numbers stay small.
-use Rattle.dvg_check.proofs.Common.{arith, ◌≤◌, ◌+◌, ℕ, ℤ, pos, ints, shift, Point, End, Rel, Abs, Lost, LitBox, Empty, Span, InBox, IsInside}
-use Rattle.std.proofs.Common.{rules}
-use Rattle.std.proofs.Common.{◌*◌, ◌^◌, neg_ℤ}
-use Rattle.dvg_words.specs.Beam.{IsWithin}
-use Rattle.dvg_items.specs.Bounds.{IsNear, IsNearPlace}
-use Rattle.dvg_items.proofs.Near.{IsNear-shift, IsNear-more, IsNearPlace-more}
-use Rattle.dvg_check.specs.Passing.{IsNearBox, moved}
-use Rattle.dvg_check.specs.Private.Tails.{IsSmall, Tail, place_over}
+use Rattle.dvg_check.proofs.Common.{arith, ◌≤◌, ◌+◌, ℕ, ℤ, pos, ints, shift, Point, End, Rel, Abs, Lost, LitBox, Empty, Span, InBox, IsInside, rules, ◌*◌, ◌^◌, neg_ℤ, IsWithin, IsNear, IsNearPlace, IsNear-shift, IsNear-more, IsNearPlace-more, IsNearBox, moved, IsSmall, Tail, place_over}
 
 -- ---- boxes
 

@@ -1,8 +1,5 @@
 -- What is made of an item, alone or before a tail, is a tail.
-use Rattle.dvg_check.proofs.Common.{arith, List, Option, None, Some, subst, sym, ap, ◌≡◌, ◌+◌, ◌-◌, ◌≤◌, ◌<◌, ◌∙◌, ℕ, Rom, Window, ADDRESS_END, Entry, Key, next_address, IsInside, Item, Shape, Known, IsTail, GoodShape}
-use Rattle.std.specs.Prelude.{IfSome}
-use Rattle.dvg_items.proofs.Near.{next_further}
-use Rattle.dvg_check.specs.Private.Tails.{claimed, end_of, entry_of, first_seen, known_over, IsBehind, IsSmall, MayStandAt, MayStandFirst, Tail}
+use Rattle.dvg_check.proofs.Common.{arith, List, Option, None, Some, subst, sym, ap, ◌≡◌, ◌+◌, ◌-◌, ◌≤◌, ◌<◌, ◌∙◌, ℕ, Rom, Window, ADDRESS_END, Entry, Key, next_address, IsInside, Item, Shape, Known, IsTail, GoodShape, IfSome, next_further, claimed, end_of, entry_of, first_seen, known_over, IsBehind, IsSmall, MayStandAt, MayStandFirst, Tail}
 use Rattle.dvg_check.proofs.TailLaws.{item_before_tail, last_item_good, lit_in_more}
 use Rattle.dvg_check.proofs.TailSizes.{IsSmall-more}
 

@@ -1,7 +1,5 @@
 -- Strokes over the screen's edges.
-use Rattle.std.proofs.Common.{◌≡◌, ℕ, refl, arith}
-use Rattle.std.proofs.lemmas.Int.{ints}
-use Rattle.dvg_circuit.specs.Counters.{IsShown, bit}
+use Rattle.dvg_circuit.proofs.Common.{◌≡◌, ℕ, refl, arith, ints, IsShown, bit}
 use Rattle.dvg_circuit.specs.ClippedExample.{WorkedClips}
 
 shown : (x : ℕ) → bit 10 x ≡ 0 → IsShown (record { x = x; y = 100 })
@@ -11,4 +9,4 @@ blanked : (x : ℕ) → bit 10 x ≡ 1 → IsShown (record { x = x; y = 100 }) �
 blanked x set is = absurd (omega (arith, set, is.x))
 
 pub worked_clips : WorkedClips
-worked_clips  = grind (arith, blanked, shown, ints)
+worked_clips = grind (arith, blanked, shown, ints)

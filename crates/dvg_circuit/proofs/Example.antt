@@ -1,9 +1,5 @@
 -- The worked run of the circuit, instruction by instruction.
-use Rattle.std.proofs.Common.{◌≡◌, ℕ, zero, suc, ◌-◌, ◌≤◌, refl, ap, ◌∙◌, arith}
-use Rattle.std.proofs.Common.{rules}
-use Rattle.dvg_words.specs.Decoding.{instruction_of}
-use Rattle.dvg_circuit.specs.Counters.{Counters}
-use Rattle.dvg_circuit.specs.Circuit.{Run, step, run_after, begin}
+use Rattle.dvg_circuit.proofs.Common.{◌≡◌, ℕ, zero, suc, ◌-◌, ◌≤◌, refl, ap, ◌∙◌, arith, rules, instruction_of, Counters, Run, step, run_after, begin}
 use Rattle.dvg_circuit.specs.Example.{example_reads, example_start, WorkedPulses, WorkedAddresses, WorkedRuns}
 use Rattle.std.specs.Prelude.{[], ◌∷◌}
 

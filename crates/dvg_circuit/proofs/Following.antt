@@ -1,28 +1,7 @@
 -- The circuit follows the generator, instruction by instruction.
-use Rattle.std.proofs.Common.{Bool, true, false, ◌≡◌, ℕ, zero, suc, ◌+◌, ◌-◌, ◌%◌, ◌<◌, ◌≤◌, List, [], ◌∷◌, ◌++◌, length, reverse, Option, Some, None, nat_le, nat_lt, refl, ap, sym, subst, ◌∙◌, ⊎_elim, arith, pos, negsuc, ◌+ℤ◌}
-use Rattle.std.specs.Prelude.{◌*ℤ◌, unwrap_or, slice_index, slice_set, if◌then◌else◌}
-use Rattle.std.specs.List.{AllByRecursion, AllZip}
-use Rattle.std.proofs.lemmas.Bool.{cases_lt}
-use Rattle.std.proofs.lemmas.Bool.Decides.{nat_tests}
-use Rattle.std.proofs.lemmas.Int.{ints}
+use Rattle.dvg_circuit.proofs.Common.{false, ◌≡◌, ℕ, zero, suc, ◌+◌, ◌-◌, ◌%◌, ◌<◌, ◌≤◌, List, [], ◌∷◌, ◌++◌, length, reverse, Option, Some, None, nat_le, refl, ap, sym, subst, ◌∙◌, arith, pos, negsuc, ◌*ℤ◌, slice_set, AllByRecursion, AllZip, cases_lt, nat_tests, Board, Format, Short, Long, Instr, signed_field, word_count, format_of, instruction_of, cell_holding, long_cell, cell_of_words, cell_at, Memory, IsMemory, fetched_at, State, Stroke, Status, Running, Halted, Fault, Reached, generator_places, fetches, after_instruction, after_cell, next_status, start, Counters, LitDraw, Reads, Run, past, places, decoded, performed, act, step, run_after, begin, IsRead, ReadsNow, ReadsAs, IsSamePlace, IsDrawnAs, AreStored, Agrees, AgreesWith, CircuitFollows}
 use Rattle.std.proofs.lemmas.List.{append-nil, reverse-append, get_or-set_same, get_or-set_other, length-set}
-use Rattle.dvg_words.specs.Values.{DrawFields}
-use Rattle.dvg_words.specs.declared.machine.Machine.{Machine}
-use Rattle.dvg_words.specs.declared.machine.Machine.TheVariants.{Board}
-use Rattle.dvg_words.specs.declared.instruction.Format.{Format}
-use Rattle.dvg_words.specs.declared.instruction.Format.TheVariants.{Short, Long}
-use Rattle.dvg_words.specs.declared.instruction.Instr.{Instr}
-use Rattle.dvg_words.specs.declared.instruction.Instr.TheVariants.{Draw as Draws, Labs, Halt, Jsrl, Rtsl, Jmpl}
-use Rattle.dvg_words.specs.Beam.{effective_scale, shift, displacement, signed_field}
-use Rattle.dvg_words.specs.Decoding.{word_count, format_of, instruction_of, cell_holding, long_cell, cell_of_format, cell_of_words, cell_at}
-use Rattle.dvg_words.specs.Memory.{Memory, IsMemory, fetched_at}
-use Rattle.dvg_words.specs.Generator.{State, Stroke, Status, Running, Halted, Fault, Reached, places as generator_places, lit_by as stroke_of, fetches, after_draw, after_call, after_return, after_instruction, after_cell, after_fetch, next_status, start}
-use Rattle.dvg_circuit.specs.Counters.{Counters, counts, counters_after}
-use Rattle.dvg_circuit.specs.Circuit.{LitDraw, Reads, Run, past, places, second_word, decoded, lit_if, performed, act, step, run_after, begin}
-use Rattle.dvg_circuit.specs.Laws.{twelve_bits}
-use Rattle.dvg_circuit.specs.Premises.{IsRead, ReadsNow, ReadsAs}
-use Rattle.dvg_circuit.specs.Following.{IsSamePlace, IsDrawnAs, AreStored, Agrees, AgreesWith, CircuitFollows}
-use Rattle.dvg_circuit.proofs.Moves.{AreSizes, beam_moved, drawn_as}
+use Rattle.dvg_circuit.proofs.Moves.{beam_moved, drawn_as}
 use Rattle.dvg_circuit.proofs.Reading.{IsRight, right, low_word}
 
 -- ---- stored places
@@ -137,4 +116,4 @@ agree_on m base (suc n) reads s r (Halted now) after mem board seen h reached = 
 agree_on m base (suc n) reads s r (Fault now) after mem board seen h reached = absurd reached.1
 
 pub circuit_follows : CircuitFollows
-circuit_follows m reads c place steps after mem board begun seen same reached = grind (arith, (agree_on m c.pointer steps reads (start place c.scale) (begin c) (Running (start place c.scale)) after mem board seen ( begun.running, record { pc = begun.pc; place = same; scale = refl; pointer = omega (arith, begun.pointer); stored = tt; four = begun.four; fetched = refl; lit = tt; }, ) reached))
+circuit_follows m reads c place steps after mem board begun seen same reached = grind (arith, (agree_on m c.pointer steps reads (start place c.scale) (begin c) (Running (start place c.scale)) after mem board seen (begun.running, record { pc = begun.pc; place = same; scale = refl; pointer = omega (arith, begun.pointer); stored = tt; four = begun.four; fetched = refl; lit = tt }) reached))

@@ -1,3 +1,4 @@
+pub mod Common
 pub mod Multipliers
 pub mod Ones
 pub mod Rounding

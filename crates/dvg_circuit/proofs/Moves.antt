@@ -1,16 +1,6 @@
 -- A draw moves the generator's beam and the circuit's counters alike, and the counters pass places between its ends.
-use Rattle.std.proofs.Common.{◌≡◌, ℕ, suc, ◌*◌, ◌≤◌, ◌<◌, refl, ap, sym, subst, ◌∙◌, ⊎_elim, arith, ℤ, pos, negsuc, ◌+ℤ◌}
-use Rattle.std.specs.Prelude.{◌*ℤ◌, neg_ℤ, nat_abs}
-use Rattle.std.proofs.lemmas.Bool.{cases_lt}
-use Rattle.std.proofs.lemmas.Int.{ints}
-use Rattle.dvg_words.specs.Values.{DrawFields}
-use Rattle.dvg_words.specs.declared.beam.Point.{Point}
-use Rattle.dvg_words.specs.declared.machine.Machine.TheVariants.{Board}
-use Rattle.dvg_words.specs.Beam.{shift, axis_move, displacement, effective_scale}
+use Rattle.dvg_circuit.proofs.Common.{◌≡◌, ℕ, ◌*◌, ◌≤◌, refl, ap, subst, ◌∙◌, arith, ℤ, pos, negsuc, ◌+ℤ◌, ◌*ℤ◌, nat_abs, cases_lt, ints, DrawFields, Point, Board, shift, axis_move, displacement, effective_scale, Counters, counts, counters_after, signed, moved, twelve_bits, IsBetween, IsSamePlace, IsAmong, IsDrawnAs, DrawnOnStroke}
 use Rattle.dvg_words.proofs.Machines.{board_moves}
-use Rattle.dvg_circuit.specs.Counters.{Counters, pulses, counts, counter_after, counters_after}
-use Rattle.dvg_circuit.specs.Laws.{signed, moved, twelve_bits, IsBetween}
-use Rattle.dvg_circuit.specs.Following.{IsSamePlace, IsAmong, IsDrawnAs, DrawnOnStroke}
 use Rattle.dvg_circuit.proofs.Rounding.{rounded_half_up, more_pulses}
 use Rattle.dvg_circuit.proofs.Places.{counter_is_place}
 

@@ -1,8 +1,5 @@
 -- A rate multiplier by recursion on the bits of a size: what the pulses add up to is proved by it.
-use Rattle.std.proofs.Common.{Bool, true, false, ◌≡◌, ℕ, zero, suc, ◌+◌, ◌/◌, ◌%◌, ◌-◌, ◌≤◌, nat_le, refl, ap, sym, ◌∙◌, arith}
-use Rattle.std.specs.Prelude.{◌==◌, if◌then◌else◌}
-use Rattle.std.proofs.lemmas.Bool.Decides.{nat_tests}
-use Rattle.dvg_circuit.specs.Counters.{bit, ending_ones, let_through, pulse, pulses}
+use Rattle.dvg_circuit.proofs.Common.{false, ◌≡◌, ℕ, zero, suc, ◌+◌, ◌/◌, ◌%◌, ◌-◌, ◌≤◌, nat_le, refl, ap, ◌∙◌, arith, ◌==◌, if◌then◌else◌, nat_tests, bit, ending_ones, let_through, pulse, pulses}
 
 -- at an even count the top bit, and at an odd count the multiplier of the bits below it, at half the count
 abbrev pub multiplier : ℕ → ℕ → ℕ → ℕ

@@ -1,10 +1,6 @@
 -- In how many ones a count ends, as the code counts them.
-use Rattle.std.proofs.Common.{◌≡◌, ℕ, zero, suc, ◌/◌, ◌%◌, ◌<◌, refl, ap, sym, ◌∙◌, ⊎_elim, arith}
-use Rattle.std.specs.Prelude.{◌==◌, if◌then◌else◌}
+use Rattle.dvg_circuit.proofs.Common.{◌≡◌, ℕ, zero, suc, ◌/◌, ◌%◌, ◌<◌, refl, ap, sym, ◌∙◌, ⊎_elim, arith, ◌==◌, if◌then◌else◌, cases_lt, cases_eq, bit_at_lowest, bit_at-suc, bit_at-trailing_ones, ending_ones, let_through, pulse}
 use Rattle.std.specs.Int.{bit_at, trailing_ones, w16}
-use Rattle.std.proofs.lemmas.Bool.{cases_lt, cases_eq}
-use Rattle.std.proofs.lemmas.Nat.Bits.{bit_at_lowest, bit_at-suc, bit_at-trailing_ones}
-use Rattle.dvg_circuit.specs.Counters.{ending_ones, let_through, pulse}
 use Rattle.dvg_circuit.proofs.Multipliers.{none_through}
 
 at_even : (bits count : ℕ) → count % 2 ≡ 0 → ending_ones (suc bits) count ≡ 0

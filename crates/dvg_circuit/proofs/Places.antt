@@ -1,9 +1,5 @@
 -- The counters, and the places that they pass.
-use Rattle.std.proofs.Common.{◌≡◌, ℕ, zero, suc, ◌+◌, ◌≤◌, refl, ap, ◌∙◌, arith, ℤ, pos, negsuc, ◌+ℤ◌}
-use Rattle.std.proofs.lemmas.Int.{ints}
-use Rattle.std.specs.Prelude.{nat_abs}
-use Rattle.dvg_circuit.specs.Counters.{pulse, pulses, stepped}
-use Rattle.dvg_circuit.specs.Laws.{signed, moved, twelve_bits, IsBetween, NoneBeyondEnds, CounterIsPlace}
+use Rattle.dvg_circuit.proofs.Common.{◌≡◌, ℕ, zero, suc, ◌+◌, ◌≤◌, ap, ◌∙◌, arith, ℤ, ◌+ℤ◌, ints, nat_abs, stepped, signed, twelve_bits, IsBetween, NoneBeyondEnds, CounterIsPlace}
 use Rattle.dvg_circuit.proofs.Multipliers.{at_most_one}
 use Rattle.dvg_circuit.proofs.Rounding.{more_pulses}
 

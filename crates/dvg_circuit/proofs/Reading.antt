@@ -1,15 +1,6 @@
 -- What the circuit reads and decodes is what the generator does.
-use Rattle.std.proofs.Common.{Bool, true, false, ◌≡◌, ℕ, zero, suc, ◌-◌, ◌*◌, ◌/◌, ◌%◌, ◌<◌, ◌≤◌, nat_le, nat_lt, length, Some, None, refl, subst, arith, pos}
-use Rattle.std.specs.Prelude.{◌==◌, ◌&&◌, if◌then◌else◌, neg_ℤ, nat_abs, slice_get, IfSome}
-use Rattle.std.proofs.lemmas.Bool.Decides.{nat_tests}
-use Rattle.dvg_words.specs.declared.machine.Machine.TheVariants.{Board}
-use Rattle.dvg_words.specs.declared.instruction.Format.{Format}
-use Rattle.dvg_words.specs.declared.instruction.Format.TheVariants.{Short, Long}
-use Rattle.dvg_words.specs.declared.instruction.Instr.{Instr}
+use Rattle.dvg_circuit.proofs.Common.{Bool, true, false, ◌≡◌, ℕ, ◌-◌, ◌<◌, nat_le, nat_lt, length, Some, None, refl, arith, pos, ◌==◌, ◌&&◌, if◌then◌else◌, neg_ℤ, nat_abs, slice_get, nat_tests, Board, Format, Short, Instr, opcode, target_of, vctr_draw, svec_draw, labs_of, instruction_of, format_of, Memory, IsMemory, fetched_at, AllDecoded}
 use Rattle.dvg_words.specs.declared.instruction.Instr.TheVariants.{Draw as Draws, Labs, Halt, Jsrl, Rtsl, Jmpl}
-use Rattle.dvg_words.specs.Decoding.{opcode, target_of, magnitude_and_sign, vctr_draw, svec_draw, labs_of, instruction_of, format_of}
-use Rattle.dvg_words.specs.Memory.{Memory, IsMemory, fetched_at}
-use Rattle.dvg_circuit.specs.Laws.{AllDecoded}
 use Rattle.dvg_circuit.proofs.Moves.{AreSizes}
 
 -- ---- instructions

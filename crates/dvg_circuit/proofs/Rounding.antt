@@ -1,12 +1,7 @@
 -- How many pulses a multiplier lets through.
-use Rattle.std.proofs.Common.{true, false, ◌≡◌, ℕ, zero, suc, ◌+◌, ◌*◌, ◌/◌, ◌%◌, ◌^◌, ◌<◌, ◌≤◌, refl, ap, sym, subst, ◌∙◌, ⊎_elim, arith}
-use Rattle.std.specs.Prelude.{◌==◌, if◌then◌else◌, nat_le}
-use Rattle.std.proofs.Math.Nat.{pow-succ'}
-use Rattle.std.proofs.lemmas.Bool.{cases_lt}
-use Rattle.std.proofs.lemmas.Bool.Decides.{nat_tests}
+use Rattle.dvg_circuit.proofs.Common.{true, false, ◌≡◌, ℕ, zero, suc, ◌+◌, ◌*◌, ◌/◌, ◌%◌, ◌^◌, ◌<◌, ◌≤◌, refl, ap, sym, subst, ◌∙◌, ⊎_elim, arith, ◌==◌, if◌then◌else◌, pow-succ', cases_lt, nat_tests, bit, pulses, counts, RoundedHalfUp}
+use Rattle.std.specs.Prelude.{nat_le}
 use Rattle.std.proofs.lemmas.Nat.{mod-pow-add, pow_pos}
-use Rattle.dvg_circuit.specs.Counters.{bit, pulses, counts}
-use Rattle.dvg_circuit.specs.Laws.{RoundedHalfUp}
 use Rattle.dvg_circuit.proofs.Multipliers.{multiplier, pulses_of, all_multiplied}
 
 even_count : (bits size n : ℕ) → multiplier (suc bits) size (2 * n) ≡ bit bits size

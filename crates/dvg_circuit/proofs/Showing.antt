@@ -1,16 +1,5 @@
 -- What is shown of a stroke.
-use Rattle.std.proofs.Common.{◌≡◌, ◌%◌, ◌≤◌, refl, ap, sym, subst, ◌∙◌, arith, ℤ, pos, negsuc, ◌+ℤ◌, inl, inr, List, [], ◌∷◌, reverse}
-use Rattle.std.specs.Prelude.{◌*ℤ◌}
-use Rattle.std.specs.List.{AllByRecursion, AllZip}
-use Rattle.std.proofs.lemmas.Int.{ints}
-use Rattle.dvg_words.specs.Values.{Window, IsWindow, IsWindowOrZone, clipped}
-use Rattle.dvg_words.specs.Beam.{InWindow, screen}
-use Rattle.dvg_words.specs.declared.beam.Point.{Point}
-use Rattle.dvg_words.specs.Generator.{Stroke, Running, Halted}
-use Rattle.dvg_circuit.specs.Counters.{Counters, IsShown, bit, counters_after}
-use Rattle.dvg_circuit.specs.Circuit.{LitDraw}
-use Rattle.dvg_circuit.specs.Laws.{IsBetween, moved, twelve_bits}
-use Rattle.dvg_circuit.specs.Following.{IsOnStroke, IsDrawnAs}
+use Rattle.dvg_circuit.proofs.Common.{◌≡◌, sym, subst, arith, ℤ, pos, negsuc, ◌+ℤ◌, List, [], ◌∷◌, reverse, ◌*ℤ◌, AllByRecursion, AllZip, ints, Window, IsWindow, IsWindowOrZone, clipped, InWindow, screen, Point, Stroke, Running, Halted, Counters, bit, counters_after, LitDraw, IsBetween, moved, twelve_bits, IsOnStroke, IsDrawnAs}
 use Rattle.dvg_circuit.specs.Showing.{IsPlaceOf, ShowsPlace, IsDrawInWindow, ShownInWindow, LitInWindow, LitOnScreen, ScreenIsShown, IsClipped, IsDrawClipped, StaysInZone, ClippedOnCircuit}
 use Rattle.dvg_circuit.proofs.Moves.{drawn_on_stroke}
 use Rattle.dvg_circuit.proofs.Following.{all_reversed, circuit_follows}
@@ -40,7 +29,7 @@ on_screen : (w : Window) (x y : ℤ) → IsWindow w → IsPlaceOf w x y → IsPl
 on_screen w x y is inside = grind (arith, ints)
 
 pub shown_in_window : ShownInWindow
-shown_in_window  = grind (arith, in_zone, there, ints, on_screen)
+shown_in_window = grind (arith, in_zone, there, ints, on_screen)
 
 -- what the clauses say of a lit stroke of the window
 pub drawn_in_window : (w : Window) (stroke : Stroke) (l : LitDraw) → IsWindowOrZone w → InWindow w stroke.from → InWindow w stroke.to → IsDrawnAs stroke l → IsDrawInWindow w l

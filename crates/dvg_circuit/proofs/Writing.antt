@@ -1,14 +1,5 @@
 -- Writes to words that aren't fetched don't matter.
-use Rattle.std.proofs.Common.{Bool, true, false, ◌≡◌, ℕ, zero, suc, List, [], ◌∷◌, ◌++◌, refl, ap, sym, subst, ◌∙◌}
-use Rattle.std.proofs.Common.{arith}
-use Rattle.std.specs.Prelude.{if◌then◌else◌}
-use Rattle.std.specs.List.{AllByRecursion}
-use Rattle.dvg_words.specs.declared.instruction.Format.{Format}
-use Rattle.dvg_words.specs.declared.instruction.Format.TheVariants.{Short, Long}
-use Rattle.dvg_words.specs.Decoding.{format_of}
-use Rattle.dvg_words.specs.Memory.{Memory}
-use Rattle.dvg_circuit.specs.Circuit.{Reads, Run, places, second_word, decoded, performed, act, step, run_after}
-use Rattle.dvg_circuit.specs.Premises.{IsRead, ReadsNow}
+use Rattle.dvg_circuit.proofs.Common.{false, ◌≡◌, ℕ, zero, suc, List, [], ◌∷◌, ◌++◌, refl, sym, subst, arith, AllByRecursion, Memory, Reads, Run, step, run_after, ReadsNow}
 use Rattle.dvg_circuit.specs.Writing.{HasWords, LeavesFetched, WritesElsewhere}
 use Rattle.dvg_circuit.proofs.Following.{all_map}
 

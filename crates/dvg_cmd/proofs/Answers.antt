@@ -1,18 +1,12 @@
 -- The answer to a frame, and what an accepted line says of it, over plain values.
-use Rattle.dvg_cmd.proofs.Common.{◌≡◌, refl, ap, ◌∙◌, subst, ℕ, List, [], ◌∷◌, ◌++◌, length, Option, None, Some, Result, Ok, Err, IfOk, OnOk, IfSome, Appends, words_of, IsFrameLength, Board, Safe, CountsAtHalt, SafeOnCircuit, CountsOnCircuit, Yes, FrameRefusal, Detail, Behind, IsBehind, IsReadTo, RunFault}
-use Rattle.std.proofs.Common.{arith}
-use Rattle.dvg_words.specs.Memory.{Memory}
+use Rattle.dvg_cmd.proofs.Common.{◌≡◌, ℕ, List, ◌++◌, length, Option, Result, Ok, IfOk, OnOk, IfSome, Appends, words_of, IsFrameLength, Board, Safe, CountsAtHalt, SafeOnCircuit, CountsOnCircuit, Yes, FrameRefusal, Detail, Behind, IsBehind, IsReadTo, RunFault, arith, behind_text, frame_outcome_behind, MOST_FRAME_READ, FrameAnswer, Judged, FrameOutcome, Judging, ReadsFrame, AnswersFrame, frame_outcome_of, frame_line, started}
 use Rattle.dvg_check.specs.declared.verdict.Refusal.TheVariants as refusal
 use Rattle.dvg_make.specs.declared.fault.EntryFault.TheVariants as entry
 use Rattle.dvg_make.specs.declared.judging.FrameRefusal.TheVariants as frame
 use Rattle.dvg_spelling.specs.Outcomes.{refusal_outcome_of}
 use Rattle.dvg_spelling.specs.declared.outcome.FrameOutcome.TheVariants as outcome
-use Rattle.dvg_cmd.specs.Detail.{behind_text, frame_outcome_behind}
 use Rattle.dvg_cmd.specs.declared.detail.Behind.TheVariants as behind
-use Rattle.dvg_cmd.specs.Runs.{MOST_FRAME_READ}
-use Rattle.dvg_cmd.specs.Frames.{FrameAnswer, Judged, Unread, FrameOutcome, Judging, worse, ReadsFrame, AnswersFrame, frame_outcome_of, frame_line}
-use Rattle.dvg_cmd.specs.Start.{jumped, started}
-use Rattle.dvg_cmd.specs.SafeFrames.{HoldsOfFrame, ReportsFrameAccepted}
+use Rattle.dvg_cmd.specs.SafeFrames.{ReportsFrameAccepted}
 
 -- ---- a refusal is not accepted
 

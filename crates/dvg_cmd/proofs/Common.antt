@@ -1,32 +1,48 @@
--- The names that most of these proofs cite, passed on from one place. Declares nothing.
-pub use Rattle.std.proofs.Common.{◌≡◌, subst, ◌∙◌, sym, ℕ, List, length, arith, [], refl, Option, ◌++◌, ap, ◌∷◌, take, ◌+◌, Some, ◌≤◌, None, ◌<◌, append-nil, append_assoc, string_bytes, drop, get_or, ◌≢◌, ◌-◌, length-append, inl, suc, zero, ◌⊎◌, true, inr}
-pub use Rattle.std.proofs.KnownBytes.{Consumes-trans, Appends-trans, Appends-nil}
-pub use Rattle.std.proofs.Math.Seq.{take-suc}
-pub use Rattle.std.proofs.lemmas.Grind.{common_steps}
-pub use Rattle.std.proofs.lemmas.List.{take_all, take-append-le}
-pub use Rattle.std.specs.Io.KnownBytes.{Appends, Consumes}
-pub use Rattle.std.specs.Prelude.{Result, Ok, Err, OnErr, IfOk, OnOk, IfErr, IfSome}
-pub use Rattle.dvg_text.specs.Devices.{AppendsPrefix, TakesOneWrite}
-pub use Rattle.dvg_cert.specs.Order.{Certificate}
-pub use Rattle.dvg_cert.specs.declared.entry.Key.{Key}
-pub use Rattle.dvg_cert.specs.declared.fault.CertFault.{CertFault}
-pub use Rattle.dvg_cert.specs.declared.fault.CertWhy.{CertWhy}
-pub use Rattle.dvg_check.specs.Circuit.{CountsOnCircuit, SafeOnCircuit}
-pub use Rattle.dvg_check.specs.Safety.{Safe, CountsAtHalt}
-pub use Rattle.dvg_check.specs.Verdict.{InRange, RomVerdict}
-pub use Rattle.dvg_check.specs.declared.fault.Mode.{Mode}
-pub use Rattle.dvg_check.specs.declared.fault.Mode.TheVariants.{Exact}
-pub use Rattle.dvg_check.specs.declared.verdict.Refusal.{Refusal}
-pub use Rattle.dvg_check.specs.declared.verdict.Yes.{Yes}
-pub use Rattle.dvg_cmd.specs.Detail.{Behind, Detail, IsBehind}
-pub use Rattle.dvg_cmd.specs.MakingFrames.{of_each, FramesFaultMeans, AreFrames, MakesForFrames}
-pub use Rattle.dvg_cmd.specs.Private.Reading.{IsPrefix, ArePrefixes}
-pub use Rattle.dvg_cmd.specs.Runs.{ReadsText, IsReadTo, RunFault, Judges}
-pub use Rattle.dvg_cmd.specs.SeveralFrames.{opened, joined, TakeOneWriteEach}
-pub use Rattle.dvg_make.specs.declared.judging.FrameRefusal.{FrameRefusal}
-pub use Rattle.dvg_spelling.specs.Faults.{frames_run_number}
-pub use Rattle.dvg_words.specs.Memory.{rom_on, words_of, Rom, IsRomLength, IsFrameLength}
-pub use Rattle.dvg_words.specs.Values.{Window, MemoryMap, IsMap}
-pub use Rattle.dvg_words.specs.declared.image.ImageFault.TheVariants.{RomLength, FrameLength}
+-- The names that these proofs share, passed on from one place, the most cited first. Declares nothing.
+pub use Rattle.std.proofs.Common.{append-nil, String, Global, min}
+pub use Rattle.std.specs.Io.KnownBytes.{Consumes, IsAtEnd}
+pub use Rattle.std.proofs.Math.Seq.{drop-cons, set-append_seam, get_or-append_seam}
+pub use Rattle.std.proofs.KnownBytes.{Consumes-trans}
+pub use Rattle.std.proofs.lemmas.List.{drop_all}
+pub use Rattle.dvg_account.proofs.Common.{◌≡◌, ℕ, List, ◌++◌, length, Option, Result, Ok, IfOk, IfSome, ◌∷◌, subst, [], None, Some, refl, ap, ◌∙◌, Err, sym, append_assoc}
+pub use Rattle.dvg_spelling.proofs.Common.{arith, ◌<◌, Window, rules, common_steps, take, ◌+◌, ◌≤◌, get_or, ◌≢◌, suc, string_bytes, take-suc, ◌*◌, codes}
+pub use Rattle.dvg_make.proofs.Common.{OnOk, Safe, CountsAtHalt, SafeOnCircuit, CountsOnCircuit, MemoryMap, IsMap, IsErrAnd, IfErr, drop, HasCallCause, VerdictByMade, IsJudged, length-append, Certificate, make_fault_of, ◌/◌, ◌%◌, opcode}
+pub use Rattle.dvg_diff.proofs.Common.{Rom, FramesMade, FramesRefuse, HasCause, FrameRefused, zero, inl, ◌-◌, Bool, cases_lt, cell_of_words, inr, ◌↔◌}
+pub use Rattle.dvg_text.proofs.Common.{Appends, count_after, AppendsPrefix, text_of, OnErr, take-append-le, take-append-add, Appends-trans, IsRefusal}
+pub use Rattle.dvg_verdict.proofs.Common.{IsRomLength, rom_on, Spells, ReadAnswer}
+pub use Rattle.dvg_words.proofs.Common.{words_of, IsFrameLength, IsTrue}
+pub use Rattle.dvg_survey.proofs.Common.{true, AreAllPlaces, false, set}
+pub use Rattle.dvg_labels.proofs.Common.{take-append-drop, take_all}
+pub use Rattle.dvg_check.proofs.Common.{Memory}
+unfoldable pub use Rattle.dvg_diff.proofs.Common.{cell_at}
+unfoldable pub use Rattle.dvg_make.proofs.Common.{instruction_of}
+pub use Rattle.dvg_cmd.specs.MakingFrames.{FramesRunFault, FailedAfter, blames_frames_rom, of_each, AreFrames, MakesForFrames, FramesFaultMeans, RefusesInputs, RefusesMemory, EachHeld, EachRead, FirstWrong, OneFailed, blames_a_frame}
+pub use Rattle.dvg_cmd.specs.Runs.{IsReadTo, RunFault, MOST_FRAME_READ, ReadsText, Judges, Outcome, Accepted, IsReadFor, outcome_of, WritesReport, Reports, ReportsAccepted, SafeRead, CountsRead, SafeCircuitRead, CountsCircuitRead, NeedsEnd, NoMemory}
+pub use Rattle.dvg_cmd.specs.SeveralFrames.{joined, TakeOneWriteEach, OpenedFrame, Line, line_outcome, written_lines, line_texts, tally_on, summary_of, listing_texts, worst_of, IsLineOf, AreLinesOf, ReportsFrames, ReportsFramesPrefix, opened}
+pub use Rattle.dvg_cmd.specs.Frames.{FrameAnswer, Judged, FrameOutcome, Judging, ReadsFrame, AnswersFrame, frame_outcome_of, frame_line, IsReadFrom, VerdictOnBytes, IsRefused, IsJudgedRefusal, worse}
+pub use Rattle.dvg_cmd.specs.Private.Reading.{IsPrefix, ArePrefixes, RefusesLengths, taken_length}
+pub use Rattle.dvg_cmd.specs.Detail.{Detail, Behind, IsBehind, behind_text, frame_outcome_behind, outcome_behind}
 pub use Rattle.dvg_words.specs.declared.machine.Machine.{Machine}
-pub use Rattle.dvg_words.specs.declared.machine.Machine.TheVariants.{Board}
+pub use Rattle.dvg_check.specs.Verdict.{InRange, RomVerdict, RangeRefusal, PartsVerdict}
+pub use Rattle.dvg_cmd.specs.Making.{WritesMade, WritesMadePrefix, MakeFaultMeans, MakeRunFault, Makes}
+pub use Rattle.dvg_cmd.specs.Names.{MOST_NAME_READ, Lacks, ReadsName, end_byte}
+pub use Rattle.dvg_cmd.specs.Comparing.{ComparesFor, reaching_lines, ComparisonFaultMeans, comparison_lines}
+pub use Rattle.dvg_check.specs.declared.verdict.Yes.{Yes}
+pub use Rattle.dvg_cert.specs.declared.entry.Key.{Key}
+pub use Rattle.dvg_text.specs.Stream.{Stream, Open, FeedsTo}
+pub use Rattle.dvg_cmd.specs.Private.Named.{WritesLineOf, WritesLineOfPrefix, WritesLinesOf}
+pub use Rattle.dvg_cmd.specs.Private.Inputs.{AreInputImages, AreRead}
+pub use Rattle.dvg_words.specs.declared.machine.Machine.TheVariants.{Board, Profile}
+pub use Rattle.dvg_cert.specs.declared.fault.CertFault.{CertFault}
+pub use Rattle.dvg_check.specs.declared.fault.Mode.{Mode}
+pub use Rattle.dvg_check.specs.declared.verdict.Refusal.{Refusal}
+pub use Rattle.dvg_text.specs.Laws.{ShortText, PrefixRefusal}
+pub use Rattle.dvg_spelling.specs.Faults.{told_fault, frames_run_number}
+pub use Rattle.dvg_cmd.specs.Private.Judging.{AreImages, JudgesRom}
+pub use Rattle.dvg_cert.specs.declared.fault.CertWhy.{CertWhy}
+pub use Rattle.dvg_cert.specs.declared.entry.Entry.{Entry}
+pub use Rattle.dvg_make.specs.declared.fault.EntryFault.{EntryFault}
+pub use Rattle.dvg_make.specs.declared.judging.FrameRefusal.{FrameRefusal}
+pub use Rattle.dvg_text.specs.Devices.{TakesOneWrite}
+unfoldable pub use Rattle.dvg_cmd.specs.Private.Reading.{limited}
+pub use Rattle.dvg_cmd.specs.Start.{started}

@@ -1,16 +1,10 @@
 -- What a run that compares two ROMs answers, over plain values.
-use Rattle.dvg_cmd.proofs.Common.{◌≡◌, ℕ, List, ◌∷◌, ◌++◌, length, Option, true, refl, sym, ap, ◌∙◌, subst, Result, Ok, Err, Machine, Rom, IsRomLength, rom_on, MemoryMap, IsMap, Key, IsPrefix}
-use Rattle.std.proofs.Common.{arith}
-use Rattle.std.specs.Prelude.{IsErrAnd}
+use Rattle.dvg_cmd.proofs.Common.{◌≡◌, ℕ, List, ◌∷◌, ◌++◌, length, Option, true, subst, Result, Machine, Rom, IsRomLength, rom_on, MemoryMap, IsMap, Key, IsPrefix, arith, IsErrAnd, count_after, FailedAfter, blames_frames_rom, ComparesFor, AreInputImages}
 use Rattle.dvg_diff.specs.Comparing.{IsComparison}
 use Rattle.dvg_diff.specs.declared.comparing.Comparison.{Comparison}
-use Rattle.dvg_text.specs.Devices.{count_after}
 use Rattle.dvg_spelling.specs.declared.fault.MakeRunFault.TheVariants as maker
 use Rattle.dvg_spelling.specs.declared.fault.FramesRunFault.{FramesRunFault}
 use Rattle.dvg_spelling.specs.declared.fault.FramesRunFault.TheVariants as fault
-use Rattle.dvg_cmd.specs.MakingFrames.{FailedAfter, blames_frames_rom}
-use Rattle.dvg_cmd.specs.Comparing.{ComparesFor}
-use Rattle.dvg_cmd.specs.Private.Inputs.{AreInputImages}
 use Rattle.dvg_cmd.proofs.Whole.{held_bytes, held_told}
 use Rattle.dvg_cmd.proofs.MakerRuns.{whole_length, whole_image}
 use Rattle.dvg_cmd.proofs.FramesRuns.{on_all}

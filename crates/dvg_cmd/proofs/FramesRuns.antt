@@ -1,28 +1,13 @@
 -- What a run of the maker for frames answers, over plain values.
-use Rattle.dvg_cmd.proofs.Common.{◌≡◌, ◌<◌, ℕ, List, [], ◌∷◌, length, Option, None, Some, refl, sym, ap, ◌∙◌, subst, arith, Result, Ok, Err, IfErr, Appends, Machine, AppendsPrefix, Rom, IsRomLength, rom_on, words_of, MemoryMap, IsMap, Window, Key, of_each, AreFrames, MakesForFrames, FramesFaultMeans, ArePrefixes}
-use Rattle.std.proofs.Common.{rules}
-use Rattle.std.proofs.lemmas.Grind.{common_steps}
-use Rattle.std.specs.Prelude.{IsErrAnd}
-use Rattle.dvg_text.specs.Grammar.{text_of}
-use Rattle.dvg_cmd.specs.Making.{WritesMade, WritesMadePrefix}
-use Rattle.dvg_cert.specs.declared.entry.Entry.{Entry}
+use Rattle.dvg_cmd.proofs.Common.{◌≡◌, ◌<◌, ℕ, List, [], ◌∷◌, length, Option, None, Some, refl, ap, ◌∙◌, subst, arith, Result, IfErr, Appends, Machine, AppendsPrefix, Rom, IsRomLength, rom_on, words_of, MemoryMap, IsMap, Window, Key, of_each, AreFrames, MakesForFrames, FramesFaultMeans, ArePrefixes, rules, common_steps, IsErrAnd, text_of, WritesMade, WritesMadePrefix, Entry, AreAllPlaces, FramesMade, FramesRefuse, HasCause, EntryFault, told_fault, RefusesInputs, RefusesMemory, FramesRunFault, AreRead, AreInputImages, RefusesLengths}
 use Rattle.dvg_survey.specs.declared.places.EntryPlaces.{EntryPlaces}
-use Rattle.dvg_survey.specs.Places.{AreAllPlaces}
-use Rattle.dvg_make.specs.Frames.{FramesMade}
-use Rattle.dvg_make.specs.Refusals.{FramesRefuse}
-use Rattle.dvg_make.specs.Accounts.{HasCause}
-use Rattle.dvg_make.specs.declared.fault.EntryFault.{EntryFault}
 use Rattle.dvg_make.specs.declared.fault.EntryFault.TheVariants as entry
 use Rattle.dvg_make.specs.declared.fault.FrameCall.{FrameCall}
 use Rattle.dvg_make.specs.declared.fault.FramesFault.{FramesFault}
 use Rattle.dvg_make.specs.declared.fault.MakeFault.TheVariants as making
-use Rattle.dvg_spelling.specs.Faults.{told_fault}
 use Rattle.dvg_spelling.specs.declared.fault.MakeRunFault.TheVariants as maker
 use Rattle.dvg_spelling.specs.declared.fault.FramesRunFault.TheVariants as fault
-use Rattle.dvg_cmd.specs.MakingFrames.{RefusesInputs, RefusesMemory, FramesRunFault}
 use Rattle.dvg_cmd.specs.Placing.{PlacesFor}
-use Rattle.dvg_cmd.specs.Private.Inputs.{AreRead, AreInputImages}
-use Rattle.dvg_cmd.specs.Private.Reading.{RefusesLengths}
 use Rattle.dvg_cmd.proofs.Whole.{held_bytes, held_told}
 use Rattle.dvg_cmd.proofs.MakerRuns.{whole_length, whole_image}
 use Rattle.dvg_cmd.proofs.SeveralFrames.{held_each, each_held, each_same, first_wrong}

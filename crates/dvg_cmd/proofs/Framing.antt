@@ -1,13 +1,6 @@
 -- What a frame comes to, over plain values.
-use Rattle.dvg_cmd.proofs.Common.{◌≡◌, ℕ, List, Option, None, Some, length, take, drop, ◌++◌, ap, ◌∙◌, subst, arith, common_steps, Result, Ok, Err, IfSome, Machine, MemoryMap, Window, Rom, words_of, rom_on, IsRomLength, IsFrameLength, RomLength, FrameLength, InRange, Yes, FrameRefusal, IsPrefix}
+use Rattle.dvg_cmd.proofs.Common.{◌≡◌, ℕ, List, Option, None, Some, length, take, drop, ◌++◌, subst, arith, common_steps, Result, Err, IfSome, Machine, MemoryMap, Window, Rom, words_of, rom_on, IsRomLength, IsFrameLength, InRange, Yes, FrameRefusal, IsPrefix, FrameRefused, HasCallCause, VerdictByMade, IsJudged, IsReadFrom, ReadsFrame, VerdictOnBytes, IsRefused, IsJudgedRefusal, started, AreImages, limited}
 use Rattle.dvg_check.specs.declared.verdict.Refusal.TheVariants as refusal
-use Rattle.dvg_make.specs.declared.judging.FrameRefusal.TheVariants.{Make, NoMemory, Check}
-use Rattle.dvg_make.specs.Judging.{FrameRefused, HasCallCause, VerdictByMade}
-use Rattle.dvg_make.specs.Private.Judged.{IsJudged}
-use Rattle.dvg_cmd.specs.Frames.{IsReadFrom, ReadsFrame, VerdictOnBytes, IsRefused, IsJudgedRefusal}
-use Rattle.dvg_cmd.specs.Start.{started}
-use Rattle.dvg_cmd.specs.Private.Judging.{AreImages}
-use Rattle.dvg_cmd.specs.Private.Reading.{limited}
 use Rattle.dvg_cmd.proofs.Whole.{prefix_of_held, frame_same}
 
 first_bytes : (n : ℕ) (reader : Option (List ℕ)) (bytes : List ℕ) → IfSome reader (λ held. bytes ≡ limited n held) → IfSome reader (λ held. bytes ≡ take n held)

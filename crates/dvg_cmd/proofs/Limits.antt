@@ -1,7 +1,6 @@
 -- What was read of an input, over plain values.
-use Rattle.std.proofs.Common.{◌≡◌, ℕ, ◌+◌, ◌≤◌, List, Option, None, Some, IfSome, length, take, drop, ◌++◌, ap, ◌∙◌, arith}
-use Rattle.std.proofs.lemmas.Grind.{common_steps}
-use Rattle.dvg_cmd.specs.Private.Reading.{limited}
+use Rattle.dvg_cmd.proofs.Common.{◌≡◌, ℕ, ◌+◌, ◌≤◌, List, Option, length, take, drop, ◌++◌, ap, arith, common_steps, limited}
+use Rattle.std.proofs.Common.{IfSome}
 
 limited_is : (m n : ℕ) (held : List ℕ) → m ≡ n → take m held ≡ limited n held
 unfolding limited

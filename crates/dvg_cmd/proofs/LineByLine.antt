@@ -1,8 +1,5 @@
 -- Lines that are sent one after another, over plain values.
-use Rattle.dvg_cmd.proofs.Common.{◌≡◌, ℕ, suc, ◌+◌, ◌<◌, List, [], ◌∷◌, ◌++◌, length, drop, get_or, Option, refl, sym, ap, ◌∙◌, subst, arith, append-nil, append_assoc, Result, Ok, Err, OnErr, Appends, Appends-trans, AppendsPrefix, TakesOneWrite, of_each, joined}
-use Rattle.std.proofs.Common.{rules}
-use Rattle.std.proofs.lemmas.Grind.{common_steps}
-use Rattle.std.proofs.Math.Seq.{drop-cons}
+use Rattle.dvg_cmd.proofs.Common.{◌≡◌, ℕ, ◌+◌, ◌<◌, List, [], ◌∷◌, ◌++◌, length, drop, get_or, Option, refl, sym, ap, ◌∙◌, subst, arith, append-nil, append_assoc, Result, OnErr, Appends, AppendsPrefix, TakesOneWrite, of_each, joined, rules, common_steps, drop-cons}
 use Rattle.dvg_cmd.specs.Private.Sent.{Sent}
 use Rattle.dvg_cmd.proofs.SeveralLines.{joined_on, sent_part, prefix_more, one_write_on}
 

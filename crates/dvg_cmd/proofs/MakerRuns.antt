@@ -1,7 +1,5 @@
 -- What a run of the maker answers, over plain values.
-use Rattle.dvg_cmd.proofs.Common.{Option, List, length, subst, ◌≡◌, ◌∙◌, ap, ℕ, Machine, Rom, IsRomLength, rom_on, MemoryMap, IsMap, Key, IsPrefix}
-use Rattle.std.proofs.Common.{arith}
-use Rattle.dvg_cmd.specs.Making.{MakeFaultMeans}
+use Rattle.dvg_cmd.proofs.Common.{Option, List, length, subst, ◌≡◌, ◌∙◌, ap, ℕ, Machine, Rom, IsRomLength, rom_on, MemoryMap, IsMap, Key, IsPrefix, arith, MakeFaultMeans}
 use Rattle.dvg_spelling.specs.declared.fault.MakeRunFault.TheVariants as fault
 use Rattle.dvg_cmd.proofs.Whole.{held_bytes, held_told, prefix_of_held, rom_same, rom_back}
 

@@ -1,15 +1,6 @@
 -- Reading one piece after another, of known bytes.
-use Rattle.dvg_cmd.proofs.Common.{◌≡◌, ℕ, ◌+◌, ◌-◌, ◌<◌, ◌≤◌, List, [], Option, ◌++◌, length, length-append, take, ap, sym, subst, ◌∙◌, arith, Consumes-trans, common_steps, take-append-le, Consumes, Ok, Err, CertFault, CertWhy, IsReadTo, ReadsText}
-use Rattle.std.proofs.Common.{rules}
-use Rattle.std.proofs.KnownBytes.{Consumes-nil}
-use Rattle.std.proofs.Math.Seq.{take-append-add}
-use Rattle.std.specs.Io.KnownBytes.{IsAtEnd}
+use Rattle.dvg_cmd.proofs.Common.{◌≡◌, ℕ, ◌+◌, ◌-◌, ◌<◌, ◌≤◌, List, Option, ◌++◌, length, length-append, take, arith, common_steps, take-append-le, Consumes, Ok, Err, CertFault, IsReadTo, ReadsText, rules, take-append-add, IsAtEnd, ShortText, Stream, Open, FeedsTo, taken_length}
 use borrow.Rule.Slice.PartMut.{put_mid, post_of}
-use Rattle.dvg_cert.specs.declared.fault.CertWhy.TheVariants.{Unended, Memory}
-use Rattle.dvg_text.specs.Laws.{ShortText}
-use Rattle.dvg_text.specs.Reading.{MayStand, ReadAnswer, IsRefusal, EndsOpen}
-use Rattle.dvg_text.specs.Stream.{Stream, Open, FeedsTo}
-use Rattle.dvg_cmd.specs.Private.Reading.{taken_length}
 
 pub take_filled : (filled n k : ℕ) (buf sub : List ℕ) → filled ≤ length buf → n ≤ length sub → take (filled + n) (put_mid filled k buf sub) ≡ take filled buf ++ take n sub
 take_filled filled n k buf sub h e = grind (arith, rules, common_steps, (take-append-add (take filled buf) (sub ++ post_of filled k buf) n), (take-append-le n sub (post_of filled k buf) e), take-append-add, take-append-le)

@@ -1,13 +1,6 @@
 -- The lines of the frames that reach a touched shape, over plain values.
-use Rattle.dvg_cmd.proofs.Common.{◌≡◌, ℕ, zero, suc, ◌+◌, ◌<◌, ◌≤◌, List, [], ◌∷◌, length, drop, get_or, true, string_bytes, refl, sym, ap, ◌∙◌, arith, of_each}
-use Rattle.std.proofs.Common.{rules}
-use Rattle.std.proofs.lemmas.Grind.{common_steps}
-use Rattle.std.proofs.Common.{Bool, false, String, Global, ⊎_elim, min}
-use Rattle.std.proofs.Math.Seq.{drop-cons}
-use Rattle.std.proofs.lemmas.Bool.{cases_lt}
-use Rattle.std.proofs.lemmas.List.{drop_all}
+use Rattle.dvg_cmd.proofs.Common.{◌≡◌, ℕ, zero, suc, ◌+◌, ◌<◌, ◌≤◌, List, [], ◌∷◌, length, drop, get_or, true, string_bytes, refl, sym, ap, ◌∙◌, arith, of_each, rules, common_steps, Bool, false, String, Global, min, drop-cons, cases_lt, drop_all, reaching_lines}
 use Rattle.dvg_spelling.specs.Touched.{frame_touched_line}
-use Rattle.dvg_cmd.specs.Comparing.{reaching_lines}
 
 -- the lines of the frames from this one on
 abbrev pub lines_from : List (String Global) → List Bool → ℕ → List (List ℕ)

@@ -1,13 +1,9 @@
 -- What a run of the checker writes, over plain values.
-use Rattle.dvg_cmd.proofs.Common.{◌≡◌, ◌++◌, refl, subst, ℕ, List, Option, Result, IfOk, OnOk, Ok, Err, Appends, Machine, Window, TakesOneWrite, CertWhy, Mode, Refusal, Yes, Detail, Behind, IsBehind, RunFault, Judges}
-use Rattle.std.proofs.Common.{arith}
+use Rattle.dvg_cmd.proofs.Common.{◌≡◌, ◌++◌, subst, ℕ, List, Option, Result, IfOk, OnOk, Ok, Err, Appends, Machine, Window, TakesOneWrite, CertWhy, Mode, Refusal, Yes, Detail, Behind, IsBehind, RunFault, Judges, arith, behind_text, outcome_behind, Outcome, Accepted, IsReadFor, outcome_of, WritesReport, Reports, ReportsAccepted}
 use Rattle.dvg_cert.specs.declared.fault.CertWhy.TheVariants as why
 use Rattle.dvg_check.specs.declared.verdict.Refusal.TheVariants as refusal
-use Rattle.dvg_spelling.specs.Outcomes.{cert_outcome}
 use Rattle.dvg_spelling.specs.Report.{report_text}
-use Rattle.dvg_cmd.specs.Detail.{behind_text, outcome_behind}
 use Rattle.dvg_cmd.specs.declared.detail.Behind.TheVariants as behind
-use Rattle.dvg_cmd.specs.Runs.{Outcome, Accepted, IsReadFor, outcome_of, WritesReport, Reports, ReportsAccepted}
 
 -- ---- a refusal is not accepted
 

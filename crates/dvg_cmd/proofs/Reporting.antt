@@ -1,16 +1,10 @@
 -- The verdict on what was read is the one on all, and what is reported of it, over plain values.
-use Rattle.dvg_cmd.proofs.Common.{Option, List, [], None, Some, subst, ◌≡◌, ℕ, Result, IfOk, IfSome, Ok, Err, Machine, Board, words_of, rom_on, Window, RomLength, FrameLength, Certificate, CertFault, Safe, CountsAtHalt, SafeOnCircuit, CountsOnCircuit, InRange, RomVerdict, Mode, Exact, Refusal, Yes, IsPrefix, Judges, ReadsText}
-use Rattle.std.proofs.Common.{arith}
-use Rattle.dvg_words.specs.Memory.{Memory}
-use Rattle.dvg_text.specs.Grammar.{Spells}
-use Rattle.dvg_text.specs.Laws.{PrefixRefusal}
+use Rattle.dvg_cmd.proofs.Common.{Option, List, [], None, Some, subst, ◌≡◌, ℕ, Result, IfOk, IfSome, Ok, Err, Machine, Board, words_of, rom_on, Window, Certificate, CertFault, Safe, CountsAtHalt, SafeOnCircuit, CountsOnCircuit, InRange, RomVerdict, Mode, Refusal, Yes, IsPrefix, Judges, ReadsText, arith, Memory, Spells, PrefixRefusal, RangeRefusal, JudgesRom, SafeRead, CountsRead, SafeCircuitRead, CountsCircuitRead}
 use Rattle.dvg_verdict.proofs.OneVerdict.{out_of_range}
-use Rattle.dvg_check.specs.Verdict.{RangeRefusal}
 use Rattle.dvg_verdict.specs.Verdict.{CertVerdict, VerdictOn}
 use Rattle.dvg_check.specs.declared.verdict.Refusal.TheVariants as refusal
-use Rattle.dvg_cmd.specs.Private.Judging.{JudgesRom}
-use Rattle.dvg_cmd.specs.Runs.{SafeRead, CountsRead, SafeCircuitRead, CountsCircuitRead}
 use Rattle.dvg_cmd.proofs.Whole.{PrefixOf, held_bytes, held_told, prefix_of_held, text_of_held, in_range, range_whole, frame_same, rom_same, rom_whole, refused_whole}
+use Rattle.dvg_check.specs.declared.fault.Mode.TheVariants.{Exact}
 
 -- what the ROM and the frame come to by the certificate is the verdict
 of_cert : (machine : Machine) (mode : Mode) (w : Window) (rb cb fb : List ℕ) (budget : ℕ) (v : Result Yes Refusal) → CertVerdict machine mode w rb cb fb budget v → VerdictOn machine mode w rb cb fb budget v

@@ -1,19 +1,11 @@
 -- What a run of the maker for frames answers where there are none, over plain values.
-use Rattle.dvg_cmd.proofs.Common.{◌≡◌, ℕ, List, [], ◌∷◌, Option, None, refl, subst, Machine, rom_on, words_of, MemoryMap, Key, of_each, MakesForFrames, FramesFaultMeans}
-use Rattle.std.proofs.Common.{arith}
-use Rattle.dvg_cert.specs.declared.entry.Entry.{Entry}
-use Rattle.dvg_make.specs.Accounts.{HasCause}
-use Rattle.dvg_make.specs.Frames.{FramesMade}
-use Rattle.dvg_make.specs.Refusals.{make_fault_of}
-use Rattle.dvg_make.specs.declared.fault.EntryFault.{EntryFault}
+use Rattle.dvg_cmd.proofs.Common.{◌≡◌, ℕ, List, [], Option, None, subst, Machine, rom_on, words_of, MemoryMap, Key, of_each, MakesForFrames, FramesFaultMeans, arith, Entry, FramesMade, make_fault_of, EntryFault, MakeRunFault, Makes, WritesMade, WritesMadePrefix, MakeFaultMeans, EachHeld, RefusesInputs}
 use Rattle.dvg_make.specs.declared.fault.EntryFault.TheVariants.{Memory}
 use Rattle.dvg_make.specs.declared.fault.MakeFault.TheVariants as making
 use Rattle.dvg_make.proofs.Collecting.{as_make_fault}
 use Rattle.dvg_make.proofs.Finishing.{made_roots}
 use Rattle.dvg_spelling.specs.declared.fault.FramesRunFault.TheVariants as fault
 use Rattle.dvg_spelling.specs.declared.fault.MakeRunFault.TheVariants as maker
-use Rattle.dvg_cmd.specs.Making.{MakeRunFault, Makes, WritesMade, WritesMadePrefix, MakeFaultMeans}
-use Rattle.dvg_cmd.specs.MakingFrames.{EachHeld, RefusesInputs}
 
 no_frames : (frames : List (List ℕ)) → EachHeld [] frames → frames ≡ []
 no_frames frames h = grind (arith)

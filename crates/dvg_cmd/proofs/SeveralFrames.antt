@@ -1,15 +1,8 @@
 -- What was read of several frames, one after another.
-use Rattle.dvg_cmd.proofs.Common.{true, ◌≡◌, ℕ, suc, zero, ◌+◌, ◌<◌, List, [], ◌∷◌, ◌++◌, length, take, drop, get_or, Option, refl, sym, ap, ◌∙◌, subst, arith, append-nil, append_assoc, length-append, common_steps, take-suc, IsFrameLength, IsReadTo, of_each, AreFrames, Result, Ok, Err, IsPrefix, ArePrefixes}
-use Rattle.std.proofs.Common.{set}
-use Rattle.std.proofs.lemmas.List.{take-append-drop}
-use Rattle.std.proofs.Math.Seq.{set-append_seam, get_or-append_seam}
-use Rattle.dvg_text.specs.Devices.{count_after}
-use Rattle.dvg_cmd.specs.Runs.{MOST_FRAME_READ}
-use Rattle.dvg_cmd.specs.MakingFrames.{EachRead, EachHeld, FirstWrong, OneFailed, FailedAfter, blames_a_frame, FramesRunFault}
+use Rattle.dvg_cmd.proofs.Common.{true, ◌≡◌, ℕ, suc, zero, ◌+◌, ◌<◌, List, [], ◌∷◌, ◌++◌, length, take, drop, get_or, Option, refl, sym, ap, ◌∙◌, subst, arith, append-nil, append_assoc, length-append, common_steps, take-suc, IsFrameLength, IsReadTo, of_each, AreFrames, Result, IsPrefix, ArePrefixes, set, take-append-drop, set-append_seam, get_or-append_seam, count_after, MOST_FRAME_READ, EachRead, EachHeld, FirstWrong, OneFailed, FailedAfter, blames_a_frame, FramesRunFault, IsErrAnd}
 use Rattle.dvg_spelling.specs.declared.fault.FramesRunFault.TheVariants as fault
 use Rattle.dvg_spelling.specs.declared.fault.MakeRunFault.TheVariants as maker
 use Rattle.dvg_make.specs.declared.fault.MakeFault.TheVariants as making
-use Rattle.std.specs.Prelude.{IsErrAnd}
 use Rattle.dvg_cmd.proofs.Whole.{held_bytes, held_told, prefix_of_held, frame_same, frame_back}
 
 pub of_each_append : {A B : Type 0} (f : A → B) (xs ys : List A) → of_each f (xs ++ ys) ≡ of_each f xs ++ of_each f ys

@@ -1,7 +1,5 @@
 -- The lines of several frames, one after another, over plain values.
-use Rattle.dvg_cmd.proofs.Common.{◌≡◌, refl, sym, ap, ◌∙◌, subst, ℕ, ◌+◌, List, [], ◌∷◌, ◌++◌, length, take, Option, append_assoc, length-append, arith, take-append-le, Appends, Appends-trans, AppendsPrefix, joined, TakeOneWriteEach}
-use Rattle.std.proofs.Math.Seq.{take-append-add}
-use Rattle.std.specs.Prelude.{Bool, true, false, if◌then◌else◌}
+use Rattle.dvg_cmd.proofs.Common.{◌≡◌, refl, sym, ap, ◌∙◌, subst, ℕ, ◌+◌, List, [], ◌∷◌, ◌++◌, length, take, Option, append_assoc, length-append, arith, take-append-le, Appends, Appends-trans, AppendsPrefix, joined, TakeOneWriteEach, take-append-add, FrameOutcome, Judging, worse, OpenedFrame, Line, line_outcome, written_lines, line_texts, tally_on, summary_of, listing_texts, worst_of, IsLineOf, AreLinesOf, ReportsFrames, ReportsFramesPrefix, WritesLineOf, WritesLineOfPrefix, WritesLinesOf}
 use Rattle.dvg_spelling.specs.declared.outcome.FrameOutcome.TheVariants as outcome
 use Rattle.dvg_spelling.specs.Each.{of_each}
 use Rattle.dvg_spelling.specs.declared.tally.Tally.{Tally}
@@ -9,9 +7,6 @@ use Rattle.dvg_spelling.specs.Tally.{no_lines, with_answer}
 use Rattle.dvg_cmd.proofs.SeveralFrames.{of_each_append}
 use Rattle.dvg_cmd.specs.declared.listing.Lines.{Lines}
 use Rattle.dvg_cmd.specs.declared.listing.Listing.{Listing}
-use Rattle.dvg_cmd.specs.Frames.{FrameOutcome, Judging, worse}
-use Rattle.dvg_cmd.specs.SeveralFrames.{OpenedFrame, Line, line_text, line_outcome, is_written, written_lines, line_texts, tally_on, summary_of, listing_texts, worst_of, IsLineOf, AreLinesOf, ReportsFrames, ReportsFramesPrefix}
-use Rattle.dvg_cmd.specs.Private.Named.{WritesLineOf, WritesLineOfPrefix, WritesLinesOf}
 
 -- ---- the texts that are written
 

@@ -1,7 +1,6 @@
 -- The word that a start puts in, over plain values.
-use Rattle.std.proofs.Common.{◌≡◌, ◌+◌, ◌*◌, ◌/◌, ◌%◌, ◌<◌, ℕ, [], ◌∷◌, Option, Some, arith}
-use Rattle.dvg_words.specs.Decoding.{opcode, target_of, instruction_of, cell_at, cell_of_words}
-use Rattle.dvg_words.specs.declared.machine.Machine.{Machine}
+use Rattle.dvg_cmd.proofs.Common.{◌≡◌, ◌+◌, ◌*◌, ◌/◌, ◌%◌, ◌<◌, ℕ, Option, Some, arith, opcode, instruction_of, cell_at, cell_of_words, Machine}
+use Rattle.dvg_words.specs.Decoding.{target_of}
 use Rattle.dvg_words.specs.declared.instruction.Cell.TheVariants.{Holds}
 use Rattle.dvg_words.specs.declared.instruction.Format.TheVariants.{Short}
 use Rattle.dvg_words.specs.declared.instruction.Instr.TheVariants.{Jmpl}

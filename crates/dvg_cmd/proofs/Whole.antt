@@ -1,13 +1,7 @@
 -- The verdict on the first bytes of inputs is the verdict on all of them.
-use Rattle.dvg_cmd.proofs.Common.{append-nil, List, length, Option, None, Some, refl, arith, ap, subst, sym, ◌≡◌, ◌+◌, ◌≤◌, ◌++◌, ◌∙◌, ℕ, [], IfSome, Result, Ok, Err, Machine, IsRomLength, IsFrameLength, rom_on, MemoryMap, IsMap, Window, RomLength, FrameLength, Certificate, CertFault, CertWhy, InRange, RomVerdict, Mode, Refusal, Yes, IsPrefix, ReadsText}
-use Rattle.std.proofs.Common.{rules}
-use Rattle.std.proofs.lemmas.Grind.{common_steps}
-use Rattle.dvg_text.specs.Laws.{PrefixRefusal}
-use Rattle.dvg_text.specs.Reading.{IsRefusal, ReadAnswer}
-use Rattle.dvg_cert.specs.declared.fault.CertWhy.TheVariants.{Form, Order, Count, Unended, After, TooLong, Memory}
-use Rattle.dvg_check.specs.Verdict.{RangeRefusal, PartsVerdict}
+use Rattle.dvg_cmd.proofs.Common.{append-nil, List, length, Option, None, Some, refl, arith, subst, sym, ◌≡◌, ◌+◌, ◌≤◌, ◌++◌, ℕ, [], IfSome, Result, Err, Machine, IsRomLength, IsFrameLength, rom_on, MemoryMap, IsMap, Window, Certificate, CertFault, CertWhy, InRange, RomVerdict, Mode, Refusal, Yes, IsPrefix, ReadsText, rules, common_steps, PrefixRefusal, IsRefusal, ReadAnswer, RangeRefusal, PartsVerdict, NeedsEnd}
+use Rattle.dvg_cert.specs.declared.fault.CertWhy.TheVariants.{Unended}
 use Rattle.dvg_check.specs.declared.verdict.Refusal.TheVariants as refusal
-use Rattle.dvg_cmd.specs.Runs.{NeedsEnd}
 use Rattle.dvg_cmd.proofs.Limits.{limited-short, limited-long, rest_of, limited-parts}
 
 -- what was read of an input: a prefix, which is all of it where it or the input stays below the limit

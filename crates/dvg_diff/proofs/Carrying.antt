@@ -1,40 +1,19 @@
 -- What is made and judged over one ROM, over another whose shapes read the same.
-use Rattle.std.proofs.Common.{◌≡◌, ℕ, ◌∙◌, ◌↔◌, List, [], ◌∷◌, Result, Ok, Err, Contains, refl, sym, subst, inl, inr, ⊎_elim, arith}
-use Rattle.std.specs.List.{AllByRecursion}
-use Rattle.std.proofs.lemmas.List.Elements.{Contains-append_left, Contains-append_right}
-use Rattle.dvg_words.specs.Values.{Window}
-use Rattle.dvg_words.specs.Memory.{Rom, rom_word}
-use Rattle.dvg_words.specs.Decoding.{cell_at}
-use Rattle.dvg_words.specs.declared.instruction.Cell.{Cell}
-use Rattle.dvg_cert.specs.declared.entry.Entry.{Entry}
-use Rattle.dvg_cert.specs.declared.entry.Key.{Key}
-use Rattle.dvg_cert.proofs.OnlyEntries.{later}
-use Rattle.dvg_items.specs.declared.item.Item.{Item}
-use Rattle.dvg_items.specs.declared.item.Kind.TheVariants.{Shape}
-use Rattle.dvg_items.specs.Items.{LeadsTo}
-use Rattle.dvg_items.specs.Known.{shape_context}
-use Rattle.dvg_items.specs.Seen.{seen_at}
-use Rattle.dvg_check.specs.Rules.{CellKeeps, ShapeKeeps, ShapePlaceKeeps, GoodShape, Good}
+use Rattle.dvg_diff.proofs.Common.{◌≡◌, ℕ, ◌∙◌, ◌↔◌, List, [], ◌∷◌, Result, Contains, refl, sym, subst, inl, inr, ⊎_elim, arith, AllByRecursion, Contains-append_left, Contains-append_right, Window, Rom, rom_word, cell_at, Cell, Entry, Key, later, Item, Shape, LeadsTo, shape_context, seen_at, CellKeeps, ShapeKeeps, ShapePlaceKeeps, GoodShape, Good, Exact, AllBefore, EachItem, MadeEntry, Needs, IsAskedFor, FramesMade, FrameMade, FrameRefused, Unstraight, Deep, TooManyWords, TooManyEntries, Memory, IsTouched, ReachesTouched, SameList, SameVerdict, NoneRefused}
 use Rattle.dvg_check.specs.declared.fault.Mode.{Mode}
-use Rattle.dvg_check.specs.declared.fault.Mode.TheVariants.{Exact}
 use Rattle.dvg_check.specs.declared.fault.ShapeWhy.{ShapeWhy}
 use Rattle.dvg_check.specs.declared.fault.ShapeWhy.TheVariants as shape
-use Rattle.dvg_check.specs.FirstFault.{AllBefore, FirstShapeFault}
+use Rattle.dvg_check.specs.FirstFault.{FirstShapeFault}
 use Rattle.dvg_check.specs.declared.fault.ShapeFault.{ShapeFault}
 use Rattle.dvg_check.specs.Verdict.{PartsVerdict}
 use Rattle.dvg_check.specs.declared.verdict.Yes.{Yes}
 use Rattle.dvg_check.specs.declared.verdict.Refusal.{Refusal}
 use Rattle.dvg_check.specs.declared.verdict.Refusal.TheVariants as refusal
-use Rattle.dvg_make.specs.Made.{EachItem, MadeEntry, Needs}
-use Rattle.dvg_make.specs.Frames.{IsAskedFor, FramesMade, FrameMade}
-use Rattle.dvg_make.specs.Judging.{ByMade, FrameRefused}
+use Rattle.dvg_make.specs.Judging.{ByMade}
 use Rattle.dvg_make.specs.declared.judging.FrameRefusal.TheVariants.{Make}
 use Rattle.dvg_make.specs.declared.fault.EntryFault.{EntryFault}
-use Rattle.dvg_make.specs.declared.fault.EntryFault.TheVariants.{Unstraight, Deep, TooManyWords, TooManyEntries, Memory}
 use Rattle.dvg_make.proofs.Collecting.{made_all}
 use Rattle.dvg_make.proofs.OneFrame.{one_frames_made}
-use Rattle.dvg_diff.specs.Touched.{IsTouched, ReachesTouched}
-use Rattle.dvg_diff.specs.Laws.{SameList, SameVerdict, NoneRefused}
 use Rattle.dvg_diff.proofs.Same.{with_words, alike_is, cell_there, forth, back, untouched_back}
 
 -- ---- one list

@@ -1,19 +1,8 @@
 -- Frame after frame, and a want of memory.
-use Rattle.std.proofs.Common.{◌≡◌, ℕ, suc, ◌+◌, ◌<◌, ◌++◌, List, [], ◌∷◌, length, take, get_or, Bool, None, refl, sym, subst, arith}
-use Rattle.std.proofs.Common.{rules}
-use Rattle.std.proofs.lemmas.Grind.{common_steps}
-use Rattle.std.proofs.Math.Seq.{take-suc}
-use Rattle.dvg_words.specs.Memory.{Rom}
-use Rattle.dvg_cert.specs.declared.entry.Key.{Key}
+use Rattle.dvg_diff.proofs.Common.{◌≡◌, ℕ, suc, ◌+◌, ◌<◌, ◌++◌, List, [], ◌∷◌, length, take, get_or, Bool, None, refl, sym, subst, arith, rules, common_steps, take-suc, Rom, Key, start, Shape, FramesRefuse, HasCause, Memory, FrameReaches, EachReaches}
 use Rattle.dvg_cert.specs.declared.entry.Key.TheVariants.{Any}
-use Rattle.dvg_items.specs.Known.{start}
-use Rattle.dvg_items.specs.declared.item.Kind.TheVariants.{Shape}
-use Rattle.dvg_make.specs.Refusals.{FramesRefuse}
-use Rattle.dvg_make.specs.Accounts.{HasCause}
 use Rattle.dvg_make.specs.declared.account.EntryCause.TheVariants as cause
-use Rattle.dvg_make.specs.declared.fault.EntryFault.TheVariants.{Memory}
 use Rattle.dvg_make.specs.declared.fault.FramesFault.{FramesFault}
-use Rattle.dvg_diff.specs.Comparing.{FrameReaches, EachReaches}
 
 module _ (rom : Rom) (roots : List (ℕ × Key)) (frames : List (List ℕ)) (f : FramesFault) (is : f ≡ record { call = None; why = Memory }) where
   pub memory_refuses : FramesRefuse rom roots frames f

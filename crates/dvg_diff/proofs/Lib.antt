@@ -1,3 +1,4 @@
+pub mod Common
 pub mod Same
 pub mod Carrying
 pub mod Running

@@ -1,38 +1,14 @@
 -- The runs of a good frame over two ROMs whose shapes read the same.
-use Rattle.std.proofs.Common.{◌≡◌, ℕ, zero, suc, ◌+◌, ◌<◌, ◌∙◌, ◌⊎◌, ◌↔◌, ◌++◌, List, [], ◌∷◌, length, nat_lt, None, Some, Bool, true, false, Contains, if◌then◌else◌, refl, sym, ap, subst, inl, inr, ⊎_elim, arith}
-use Rattle.std.proofs.Common.{rules}
-use Rattle.std.proofs.lemmas.Bool.Decides.{nat_tests}
-use Rattle.std.specs.List.{AllByRecursion}
-use Rattle.dvg_words.specs.Values.{Window, Source}
+use Rattle.dvg_diff.proofs.Common.{◌≡◌, ℕ, zero, suc, ◌+◌, ◌<◌, ◌∙◌, ◌⊎◌, ◌↔◌, ◌++◌, List, [], ◌∷◌, nat_lt, Some, Bool, Contains, refl, sym, subst, inl, inr, ⊎_elim, arith, rules, nat_tests, AllByRecursion, Window, Source, Rom, IsMemory, rom_word, frame_word, word_at, word_count, cell_at, State, Status, Running, Halted, Fault, Reached, next_status, after_call, after_return, after_instruction, places, Cell, Odd, Holds, Format, Short, Long, Instr, Entry, Key, Item, Shape, Frame, LeadsTo, address_after, target, scale_before, shape_context, frame_context, seen_at, listed_at, GoodFrame, CellKeeps, ShapeKeeps, FrameKeeps, Exact, HasEntry, FrameMade, FrameAsksFor, ReachesTouched, SameRuns}
 use Rattle.dvg_words.specs.declared.beam.Point.{Point}
-use Rattle.dvg_words.specs.Memory.{Rom, Memory, IsMemory, rom_word, frame_word, word_at}
-use Rattle.dvg_words.specs.Decoding.{word_count, cell_at}
-use Rattle.dvg_words.specs.Generator.{State, Status, Running, Halted, Fault, Reached, start, next_status, after_call, after_return, after_instruction, places}
-use Rattle.dvg_words.specs.declared.instruction.Cell.{Cell}
-use Rattle.dvg_words.specs.declared.instruction.Cell.TheVariants.{Missing, Odd, Holds}
-use Rattle.dvg_words.specs.declared.instruction.Format.{Format}
-use Rattle.dvg_words.specs.declared.instruction.Format.TheVariants.{Short, Long}
-use Rattle.dvg_words.specs.declared.instruction.Instr.{Instr}
+use Rattle.dvg_words.specs.Memory.{Memory}
+use Rattle.dvg_words.specs.Generator.{start}
 use Rattle.dvg_words.specs.declared.instruction.Instr.TheVariants.{Draw as Draws, Labs, Halt, Jsrl, Rtsl, Jmpl}
-use Rattle.dvg_cert.specs.declared.entry.Entry.{Entry}
-use Rattle.dvg_cert.specs.declared.entry.Key.{Key}
-use Rattle.dvg_items.specs.declared.item.Item.{Item}
-use Rattle.dvg_items.specs.declared.item.Kind.TheVariants.{Shape, Frame}
-use Rattle.dvg_items.specs.Items.{LeadsTo, address_after}
-use Rattle.dvg_items.specs.Known.{target, scale_before, shape_context, frame_context}
-use Rattle.dvg_items.specs.Seen.{seen_at}
-use Rattle.dvg_items.proofs.Listed.{listed_at}
-use Rattle.dvg_check.specs.Rules.{GoodFrame, CellKeeps, ShapeKeeps, FrameKeeps}
 use Rattle.dvg_check.specs.declared.fault.FrameWhy.{FrameWhy}
-use Rattle.dvg_check.specs.declared.fault.Mode.TheVariants.{Exact}
 use Rattle.dvg_check.specs.declared.fault.ShapeWhy.TheVariants as shape
 use Rattle.dvg_check.specs.declared.fault.FrameWhy.TheVariants as frame
 use Rattle.dvg_check.proofs.Steps.{stands, next_there}
 use Rattle.dvg_check.proofs.Onward.{long_there}
-use Rattle.dvg_make.specs.Made.{HasEntry}
-use Rattle.dvg_make.specs.Frames.{FrameMade, FrameAsksFor}
-use Rattle.dvg_diff.specs.Touched.{ReachesTouched}
-use Rattle.dvg_diff.specs.Laws.{SameRuns}
 use Rattle.dvg_diff.proofs.Same.{with_words, alike_is, cell_there}
 use Rattle.dvg_diff.proofs.Carrying.{each_untouched, list_untouched_back, made_there}
 

@@ -1,16 +1,6 @@
 -- A shape that reads no word in which two ROMs differ has the same items over both.
-use Rattle.std.proofs.Common.{◌≡◌, ◌≢◌, ℕ, ◌+◌, ◌∙◌, ◌==◌, List, [], ◌∷◌, Option, Some, None, Bool, true, false, Contains, refl, sym, ap, subst, arith}
-use Rattle.std.proofs.lemmas.Bool.Decides.{nat_tests}
+use Rattle.dvg_diff.proofs.Common.{◌≡◌, ◌≢◌, ℕ, ◌+◌, ◌∙◌, List, [], ◌∷◌, Option, Some, Contains, refl, sym, subst, arith, nat_tests, Format, Long, format_of, cell_of_words, cell_at, places, fetches, Rom, word_of_rom, rom_word, Item, Shape, LeadsTo, AreAlike, taken_at, IsTouched}
 use Rattle.dvg_words.specs.declared.machine.Machine.{Machine}
-use Rattle.dvg_words.specs.declared.instruction.Format.{Format}
-use Rattle.dvg_words.specs.declared.instruction.Format.TheVariants.{Short, Long}
-use Rattle.dvg_words.specs.Decoding.{format_of, long_cell, cell_of_format, cell_of_words, cell_at}
-use Rattle.dvg_words.specs.Generator.{places, fetches}
-use Rattle.dvg_words.specs.Memory.{Rom, word_of_rom, rom_word}
-use Rattle.dvg_items.specs.declared.item.Item.{Item}
-use Rattle.dvg_items.specs.declared.item.Kind.TheVariants.{Shape}
-use Rattle.dvg_items.specs.Items.{LeadsTo}
-use Rattle.dvg_diff.specs.Touched.{AreAlike, taken_at, IsTouched}
 
 -- words that don't differ are the same
 pub same_word : (a b : Option ℕ) → (a ≢ b → ⊥) → a ≡ b

@@ -1,20 +1,6 @@
 -- A walk over a shape up to the first word that differs.
-use Rattle.std.proofs.Common.{◌≡◌, ℕ, ◌+◌, ◌<◌, ◌∙◌, ◌++◌, length, List, [], ◌∷◌, Option, Some, None, Contains, IfSome, IfNone, take, get_or, suc, refl, sym, ap, subst, inl, inr, ⊎_elim, arith}
-use Rattle.std.proofs.Common.{rules}
-use Rattle.std.proofs.lemmas.Grind.{common_steps}
-use Rattle.std.proofs.lemmas.Bool.{cases_lt}
-use Rattle.std.proofs.Math.Seq.{take-suc}
-use Rattle.dvg_words.specs.Memory.{Rom, rom_word}
-use Rattle.dvg_words.specs.Decoding.{cell_at}
-use Rattle.dvg_words.specs.declared.instruction.Cell.TheVariants.{Holds}
-use Rattle.dvg_words.specs.declared.instruction.Format.{Format}
-use Rattle.dvg_words.specs.declared.instruction.Instr.{Instr}
-use Rattle.dvg_cert.specs.declared.entry.Entry.{Entry}
-use Rattle.dvg_items.specs.declared.item.Item.{Item}
-use Rattle.dvg_items.specs.declared.item.Kind.TheVariants.{Shape}
-use Rattle.dvg_items.specs.Items.{LeadsTo, AtEachOf, next_address}
-use Rattle.dvg_items.proofs.Leading.{everywhere, same_lead, shorter, here_same}
-use Rattle.dvg_diff.specs.Touched.{DiffersAt, taken_at, ReadsDiffering, IsTouched, TouchedEntry, AreTouched}
+use Rattle.dvg_diff.proofs.Common.{◌≡◌, ℕ, ◌+◌, ◌<◌, ◌∙◌, ◌++◌, length, List, [], ◌∷◌, Option, Some, None, Contains, IfSome, IfNone, take, get_or, suc, refl, sym, ap, subst, inl, inr, ⊎_elim, arith, rules, common_steps, cases_lt, take-suc, Rom, rom_word, cell_at, Holds, Format, Instr, Entry, Item, Shape, LeadsTo, AtEachOf, next_address, everywhere, same_lead, shorter, DiffersAt, taken_at, ReadsDiffering, IsTouched, TouchedEntry, AreTouched}
+use Rattle.dvg_items.proofs.Leading.{here_same}
 
 module _ (rom other : Rom) where
   -- nothing that stands at an address takes a word that differs

@@ -1,10 +1,8 @@
 -- The items of a shape or of a frame are determined, so a walk to the last one has met them all.
-use Rattle.std.proofs.Common.{List, length, refl, sym, arith, ap, Some, None, subst, ◌≡◌, ◌<◌, ◌∷◌, ◌∙◌, ℕ, ⊎_elim, []}
+use Rattle.dvg_items.proofs.Common.{List, length, refl, sym, arith, ap, Some, None, subst, ◌≡◌, ◌<◌, ◌∷◌, ◌∙◌, ℕ, ⊎_elim, [], cell_at, Item, Kind, LeadsTo, next_address, AtEveryPlace, AtEachOf}
 use Rattle.std.proofs.lemmas.Bool.{cases_lt}
 use Rattle.dvg_words.specs.Values.{Source}
-use Rattle.dvg_words.specs.Decoding.{cell_at}
 use Rattle.dvg_words.specs.declared.instruction.Cell.TheVariants.{Holds}
-use Rattle.dvg_items.specs.Items.{Item, Kind, LeadsTo, next_address, AtEveryPlace, AtEachOf}
 
 pub record Same (a b : List Item) (p q : ℕ) : Type 0 where
   pub items : a ≡ b

@@ -1,11 +1,7 @@
 -- The least box of two points, and of two boxes.
-use Rattle.std.proofs.Common.{◌≡◌, subst, sym, arith, List, ◌∷◌}
-use Rattle.std.specs.Prelude.{ℤ, ◌≤ℤ◌}
+use Rattle.dvg_items.proofs.Common.{◌≡◌, arith, List, ◌∷◌, ℤ, ◌≤ℤ◌, ints, clamps, Point, Span}
 use Rattle.std.specs.Int.{int_min, int_max}
-use Rattle.std.proofs.lemmas.Int.{ints, clamps}
-use Rattle.dvg_words.specs.declared.beam.Point.{Point}
 use Rattle.dvg_cert.specs.declared.entry.LitBox.{LitBox}
-use Rattle.dvg_cert.specs.declared.entry.LitBox.TheVariants.{Empty, Span}
 use Rattle.dvg_items.specs.Lit.{InBox, IsInside}
 use Rattle.dvg_items.specs.Least.{IsLeast}
 use Rattle.dvg_items.proofs.Lists.{all_map}

@@ -1,3 +1,4 @@
+pub mod Common
 pub mod Points
 pub mod PlaceLaw
 pub mod TotalLaws

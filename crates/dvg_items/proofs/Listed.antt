@@ -1,18 +1,10 @@
 -- Entries that are found stand in the list, within the limits of a certificate.
-use Rattle.std.proofs.Common.{Option, None, Some, Bool, false, true, refl, arith, sym, ap, suc, List, ◌≡◌, ◌∷◌, ◌∙◌, ℕ, []}
-use Rattle.std.proofs.Common.{rules}
-use Rattle.std.proofs.lemmas.Grind.{common_steps}
-use Rattle.std.proofs.lemmas.Bool.Decides.{nat_tests}
-use Rattle.std.specs.Prelude.{Contains, IfSome, ◌&&◌, ◌==◌, if◌then◌else◌}
-use Rattle.dvg_cert.specs.Entry.{IsEntry}
+use Rattle.dvg_items.proofs.Common.{Option, Some, Bool, false, true, refl, arith, suc, List, ◌≡◌, ◌∷◌, ℕ, [], rules, common_steps, nat_tests, Contains, IfSome, ◌&&◌, ◌==◌, if◌then◌else◌, same_key, entry_at, callee_at, IsClaim, IsSomeCertificate}
 use Rattle.std.specs.Option.{option_or}
-use Rattle.dvg_cert.specs.Lookup.{same_key, entry_at}
 use Rattle.dvg_cert.specs.declared.entry.Entry.{Entry}
 use Rattle.dvg_cert.specs.declared.entry.Key.{Key}
-use Rattle.dvg_cert.specs.declared.entry.Key.TheVariants.{Any, At}
+use Rattle.dvg_cert.specs.declared.entry.Key.TheVariants.{Any}
 use Rattle.dvg_items.proofs.Lists.{at_place}
-use Rattle.dvg_items.specs.Known.{callee_at}
-use Rattle.dvg_items.specs.Bounds.{IsClaim, IsSomeCertificate}
 
 pub record Listed (list : List Entry) (addr : ℕ) (key : Key) (f : Entry) : Type 0 where
   pub listed : Contains list f

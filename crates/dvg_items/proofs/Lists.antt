@@ -1,7 +1,5 @@
 -- What holds of each element of a list.
-use Rattle.std.proofs.Common.{arith, List, subst, zero, suc, refl, ◌∷◌, ◌++◌, []}
-use Rattle.std.specs.List.{AllByRecursion}
-use Rattle.std.specs.Prelude.{Contains}
+use Rattle.dvg_items.proofs.Common.{arith, List, subst, zero, suc, refl, ◌∷◌, ◌++◌, [], AllByRecursion, Contains}
 
 pub all_append : {A : Type 0} (P : A → Type 0) (xs ys : List A) → AllByRecursion P xs → AllByRecursion P ys → AllByRecursion P (xs ++ ys)
 all_append P [] ys a b = b

@@ -1,21 +1,8 @@
 -- Numbers stay small from one item to the next.
-use Rattle.std.proofs.Common.{arith, Some, nat_lt, refl, Bool, None, true, false, ◌≡◌, ◌+◌, ◌<◌, ◌≤◌, ℕ}
-use Rattle.std.proofs.lemmas.Bool.Decides.{nat_tests}
-use Rattle.std.proofs.lemmas.Int.{ints}
-use Rattle.std.specs.Prelude.{if◌then◌else◌}
+use Rattle.dvg_items.proofs.Common.{arith, Some, ◌≡◌, ◌+◌, ◌<◌, ◌≤◌, ℕ, nat_tests, ints, shift, word_count, InstrFits, Point, End, Rel, Abs, Lost, Item, Kind, address_after, next_address, Seen, IsNear, IsNearPlace, IsSoundCursor, IsSoundSeen}
 use Rattle.dvg_words.specs.declared.map.TheConstants.{ADDRESS_END}
-use Rattle.dvg_words.specs.Beam.{shift}
-use Rattle.dvg_words.specs.Decoding.{word_count, InstrFits}
-use Rattle.dvg_words.specs.declared.beam.Point.{Point}
 use Rattle.dvg_words.specs.declared.instruction.Format.{Format}
-use Rattle.dvg_words.specs.declared.instruction.Format.TheVariants.{Short, Long}
 use Rattle.dvg_words.specs.declared.instruction.Instr.{Instr}
-use Rattle.dvg_words.specs.declared.instruction.Instr.TheVariants.{Draw as Draws, Labs, Halt, Jsrl, Rtsl, Jmpl}
-use Rattle.dvg_cert.specs.declared.entry.End.{End}
-use Rattle.dvg_cert.specs.declared.entry.End.TheVariants.{Rel, Abs, Lost}
-use Rattle.dvg_items.specs.Items.{Item, Kind, Shape, Frame, address_after, next_address}
-use Rattle.dvg_items.specs.Seen.{Seen}
-use Rattle.dvg_items.specs.Bounds.{IsNear, IsNearPlace, IsSoundCursor, IsSoundSeen}
 
 -- ---- places
 

@@ -1,14 +1,6 @@
 -- The known place, told from all items at once.
-use Rattle.std.proofs.Common.{arith, pos, List, [], ◌∷◌, ◌≡◌, ◌∙◌, refl, sym, ap}
-use Rattle.std.proofs.lemmas.Int.{ints}
-use Rattle.std.specs.Prelude.{◌+ℤ◌}
-use Rattle.dvg_words.specs.Beam.{shift, origin}
-use Rattle.dvg_words.specs.declared.beam.Point.{Point}
-use Rattle.dvg_cert.specs.declared.entry.End.{End}
-use Rattle.dvg_cert.specs.declared.entry.End.TheVariants.{Rel, Abs, Lost}
-use Rattle.dvg_items.specs.Items.{Kind, Shape, Frame}
-use Rattle.dvg_items.specs.Known.{Effect, Sets, Loses, Moves, callee, effect_of, first_place, place_moved_by, place_past, scale_before}
-use Rattle.dvg_items.specs.Places.{effects, fixed_place, total_move, PlaceFromAll}
+use Rattle.dvg_items.proofs.Common.{arith, List, [], ◌∷◌, ◌≡◌, refl, sym, ints, ◌+ℤ◌, shift, origin, Point, End, Rel, Abs, Lost, Kind, Effect, first_place, place_moved_by, place_past}
+use Rattle.dvg_items.specs.Places.{fixed_place, total_move, PlaceFromAll}
 
 pub moves_on : (k : End) (d e : Point) → place_moved_by k (shift d e) ≡ place_moved_by (place_moved_by k d) e
 moves_on (Rel x y) d e =

@@ -1,8 +1,5 @@
 -- Points and moves.
-use Rattle.std.proofs.Common.{arith, ◌≡◌}
-use Rattle.std.proofs.lemmas.Int.{ints}
-use Rattle.dvg_words.specs.Beam.{shift, origin}
-use Rattle.dvg_words.specs.declared.beam.Point.{Point}
+use Rattle.dvg_items.proofs.Common.{arith, ◌≡◌, ints, shift, origin, Point}
 
 pub point_is : (p q : Point) → p.x ≡ q.x → p.y ≡ q.y → p ≡ q
 point_is p q a b = λ i. record { x = a i; y = b i }

@@ -1,9 +1,5 @@
 -- Where a step past an item leads.
-use Rattle.std.proofs.Common.{Option, None, Some, sym, ap, refl, ◌≡◌, ◌∙◌, ℕ}
-use Rattle.std.proofs.Common.{arith}
-use Rattle.dvg_items.specs.Items.{Kind, next_address}
-use Rattle.dvg_items.specs.Known.{Known}
-use Rattle.dvg_items.specs.Seen.{Seen}
+use Rattle.dvg_items.proofs.Common.{Option, None, Some, sym, ◌≡◌, ◌∙◌, ℕ, arith, Kind, next_address, Known, Seen}
 use Rattle.dvg_items.specs.Cursor.{Cursor, Step, Onward, Last, step_to, step_past}
 
 to_next : (p : Option ℕ) (known : Known) (next : Cursor) → Onward next ≡ step_to p known → (p ≡ Some next.at) × (next.known ≡ known)

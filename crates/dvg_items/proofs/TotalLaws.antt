@@ -1,12 +1,7 @@
 -- The known scale, words and depth, told from all items at once.
-use Rattle.std.proofs.Common.{arith, ℕ, List, [], ◌∷◌, ◌≡◌, ◌∙◌, refl, sym, ap}
-use Rattle.std.proofs.Common.{rules}
+use Rattle.dvg_items.proofs.Common.{arith, ℕ, List, [], ◌∷◌, ◌≡◌, refl, rules, max, fold}
 use Rattle.std.proofs.lemmas.List.Sums.{sum_by-cons}
-use Rattle.std.specs.Prelude.{◌+◌, max, fold, Option, Some, None, unwrap_or, slice_get}
-use Rattle.std.specs.List.{cons_option}
-use Rattle.dvg_cert.specs.declared.entry.Key.{Key}
-use Rattle.dvg_items.specs.Places.{map_with_earlier}
-use Rattle.dvg_items.specs.Totals.{scale_of, words_of, depth_of, scales_set, ScaleFromAll, WordsFromAll, DepthFromAll}
+use Rattle.dvg_items.specs.Totals.{ScaleFromAll, WordsFromAll, DepthFromAll}
 
 greatest_from : (n : ℕ) (ns : List ℕ) → fold max n ns ≡ max n (fold max 0 ns)
 greatest_from n [] = omega arith

@@ -1,3 +1,4 @@
+pub mod Common
 mod Parts
 mod Naming
 mod Progress

@@ -1,13 +1,7 @@
 -- What is known of labels when one more is looked at.
-use Rattle.std.proofs.Common.{◌≡◌, ◌≢◌, ℕ, suc, ◌+◌, ◌<◌, ◌≤◌, List, [], ◌∷◌, ◌++◌, length, map, take, drop, get_or, Option, Some, None, true, false, refl, sym, ap, subst, ◌∙◌, append_assoc, arith, add-one}
-use Rattle.std.proofs.Common.{rules}
-use Rattle.std.proofs.lemmas.Grind.{common_steps}
-use Rattle.std.specs.Prelude.{Contains}
-use Rattle.std.specs.List.{All}
-use Rattle.std.proofs.lemmas.List.Elements.{All-push, All-append, All-nil, All-cons, Contains-append_left, Contains-append_right}
+use Rattle.dvg_labels.proofs.Common.{◌≡◌, ◌≢◌, ℕ, suc, ◌+◌, ◌<◌, ◌≤◌, List, [], ◌∷◌, ◌++◌, length, map, take, drop, get_or, Option, Some, None, true, false, refl, sym, ap, subst, append_assoc, arith, rules, common_steps, Contains, All, take_all, take-append-drop, Named, named_of, Label, may_name, Names, IsNearest, StandsAt, StandsAtTwo, IsFound, IsAddress}
+use Rattle.std.proofs.lemmas.List.Elements.{All-push, All-append, All-cons, Contains-append_right}
 use Rattle.std.proofs.Math.Seq.{take-suc}
-use Rattle.std.proofs.lemmas.List.{take_all, take-append-drop}
-use Rattle.dvg_labels.specs.Labels.{Named, named_of, Label, may_name, Names, IsNearest, StandsAt, StandsAtTwo, IsFound, IsAddress}
 use Rattle.std.specs.Option.{ok_or}
 use Rattle.dvg_labels.specs.declared.labels.Nearest.{Nearest}
 use Rattle.dvg_labels.specs.declared.fault.Unnamed.TheVariants.{Unknown}

@@ -1,7 +1,5 @@
 -- How lists are cut at the first element that passes a test.
-use Rattle.std.proofs.Common.{◌≡◌, ℕ, suc, zero, ◌+◌, ◌<◌, ◌≤◌, Bool, true, false, not, cond, List, [], ◌∷◌, length, take, drop, refl, ap, ◌∙◌, sym, subst, arith, one-add, Option, Some, None}
-use Rattle.std.specs.List.{slice_split, position_or_len, onto_first, filter}
-use Rattle.dvg_labels.specs.Cutting.{words, is_blank, has_bytes, first_of}
+use Rattle.dvg_labels.proofs.Common.{◌≡◌, ℕ, suc, zero, ◌+◌, ◌<◌, ◌≤◌, Bool, true, false, not, cond, List, [], ◌∷◌, length, take, drop, refl, ap, ◌∙◌, sym, subst, arith, one-add, slice_split, position_or_len, onto_first, filter, words, is_blank, has_bytes, first_of}
 
 -- the parts behind the first one, by what is left behind it
 abbrev pub parts_behind : {X : Type 0} → (X → Bool) → List X → List (List X)

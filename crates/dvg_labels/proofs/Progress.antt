@@ -1,13 +1,8 @@
 -- How far a label file was read.
-use Rattle.std.proofs.Common.{◌≡◌, ℕ, ◌+◌, ◌<◌, ◌≤◌, List, [], ◌∷◌, ◌++◌, length, length-append, Option, Some, None, refl, sym, ap, subst, ◌∙◌, append_assoc, arith}
-use Rattle.std.proofs.lemmas.List.{append-nil}
+use Rattle.dvg_labels.proofs.Common.{◌≡◌, ℕ, ◌+◌, ◌<◌, ◌≤◌, List, [], ◌∷◌, ◌++◌, length, length-append, Option, Some, None, refl, ap, ◌∙◌, append_assoc, arith, IfSome, lines, lines_behind, Labelling, no_labels, with_line, with_lines, IsLineFault, RefusesLine, left}
 use Rattle.std.proofs.lemmas.Option.{same_Some}
-use Rattle.std.specs.Prelude.{IfSome}
 use Rattle.std.specs.Borrow.{Bor}
-use Rattle.dvg_labels.specs.Cutting.{lines, lines_behind}
-use Rattle.dvg_labels.specs.Labels.{Labelling}
 use Rattle.dvg_labels.specs.declared.fault.LabelWhy.{LabelWhy}
-use Rattle.dvg_labels.specs.Reading.{no_labels, with_line, with_lines, IsLineFault, RefusesLine, left}
 
 -- so many lines of a text are read, these labels are known, and this is left
 pub record Progress (text : List ℕ) (rest : Option (Bor (List ℕ))) (known : Labelling) (n : ℕ) : Type 0 where

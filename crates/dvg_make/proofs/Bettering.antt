@@ -1,13 +1,7 @@
 -- For what an entry of any list claims of a shape there is a made entry that claims all of it, and counts and lights no more.
-use Rattle.dvg_make.proofs.Common.{◌≡◌, ◌≢◌, ℕ, zero, suc, ◌+◌, ◌<◌, ◌≤◌, List, [], ◌∷◌, ◌++◌, Option, Some, None, refl, sym, ap, ◌∙◌, subst, arith, ⊎_elim, ints, Contains, if◌then◌else◌, option_or, screen, cell_at, Rom, rom_word, Point, Cell, Missing, Odd, Holds, Format, Instr, entry_at, Entry, Key, Any, LitBox, Empty, Span, at_holds, next_address, LeadsTo, Context, shape_context, target, callee_at, callee, callee_words, scale_before, place_before, words_before, depth_before, depth_under, known_before, InBox, IsInside, relative_corners, extent, seen_at, HasCallee, Item, Shape, listed_at, all_append, word_count-some, ShapeKeeps, CellKeeps, Bound, ShapeWhy, lit_points, HoldsAll, IsLeast, HasEntry, MadeEntry, IsMade, AllMade, keyed_context, entry_of, AllFine, Extends, KnowsMore}
-use Rattle.std.proofs.Common.{rules}
-use Rattle.std.proofs.lemmas.List.Elements.{Contains-append_cases}
-use Rattle.std.proofs.lemmas.Int.{clamps}
+use Rattle.dvg_make.proofs.Common.{◌≡◌, ◌≢◌, ℕ, zero, suc, ◌+◌, ◌<◌, ◌≤◌, List, [], ◌∷◌, ◌++◌, Option, Some, None, refl, sym, ap, ◌∙◌, subst, arith, ⊎_elim, ints, Contains, option_or, screen, cell_at, Rom, rom_word, Point, Cell, Missing, Odd, Holds, Format, Instr, entry_at, Entry, Key, LitBox, Empty, Span, at_holds, next_address, LeadsTo, Context, shape_context, target, callee_at, callee, callee_words, scale_before, place_before, words_before, depth_before, depth_under, known_before, InBox, IsInside, relative_corners, extent, seen_at, HasCallee, Item, Shape, listed_at, all_append, word_count-some, ShapeKeeps, CellKeeps, Bound, ShapeWhy, lit_points, HoldsAll, IsLeast, HasEntry, MadeEntry, IsMade, AllMade, keyed_context, entry_of, AllFine, Extends, KnowsMore, rules, Contains-append_cases, clamps, named_entry, all_map, Loosens, LoosensPlace, Refines, Covers, Upholds}
 use Rattle.std.specs.Int.{int_min, int_max}
-use Rattle.dvg_cert.specs.Lookup.{named_entry}
-use Rattle.dvg_items.proofs.Lists.{all_map}
 use Rattle.dvg_check.specs.declared.fault.ShapeWhy.TheVariants as shape
-use Rattle.dvg_make.specs.Private.Covering.{Loosens, LoosensPlace, Refines, Covers, Upholds}
 use Rattle.dvg_make.proofs.Matching.{Gathered, gathered_same, exact_named, entry_at-append}
 use Rattle.dvg_make.proofs.Ends.{at_last, made_ends, ends_made}
 use Rattle.dvg_make.proofs.Onward.{matched_fine}

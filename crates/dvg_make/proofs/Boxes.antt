@@ -1,5 +1,5 @@
 -- The least box.
-use Rattle.dvg_make.proofs.Common.{◌≡◌, List, refl, arith, ints, Point, LitBox, Empty, Span, IsInside, IsLeast}
+use Rattle.dvg_make.proofs.Common.{◌≡◌, List, arith, Point, LitBox, IsInside, IsLeast}
 
 both_inside : (a b : LitBox) → IsInside a b → IsInside b a → a ≡ b
 both_inside a b h k = grind (arith)

@@ -1,12 +1,6 @@
 -- The cause of a refusal, told of roots and frames.
-use Rattle.dvg_make.proofs.Common.{◌≡◌, ℕ, zero, suc, List, [], ◌∷◌, Option, Some, None, refl, sym, ◌∙◌, subst, slice_get, Rom, Key, EntryCause, HasCause, HasCallCause, EntryFault, Unstraight, Deep, TooManyWords, TooManyEntries, Memory, FrameCall, shapes}
-use Rattle.std.proofs.Common.{arith}
-use Rattle.dvg_make.specs.declared.obstacle.Blocked.{Blocked}
+use Rattle.dvg_make.proofs.Common.{◌≡◌, ℕ, List, [], ◌∷◌, Option, Some, refl, subst, slice_get, Rom, Key, EntryCause, HasCause, HasCallCause, EntryFault, FrameCall, shapes, arith, Blocked, MakeAccount, IsAccount, IsTold, HasRootCause, entry_fault, refusal_at, FramesFault, make_fault_of, blocked_fault, IsRefused}
 use Rattle.dvg_make.specs.declared.account.EntryCause.TheVariants as cause
-use Rattle.dvg_make.specs.Accounts.{MakeAccount, UnlessMemory, IsAccount, IsTold, HasRootCause, entry_fault}
-use Rattle.dvg_make.specs.Judging.{refusal_at}
-use Rattle.dvg_make.specs.Refusals.{FramesFault, make_fault_of}
-use Rattle.dvg_make.specs.Private.Making.{blocked_fault, IsRefused}
 
 module _ (rom : Rom) (roots : List (ℕ × Key)) (frames : List (List ℕ)) where
   -- where the making stopped

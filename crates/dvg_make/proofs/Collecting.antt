@@ -1,20 +1,7 @@
 -- Root after root, and frame after frame.
-use Rattle.dvg_make.proofs.Common.{Machine, ◌≡◌, ℕ, zero, suc, ◌+◌, ◌<◌, ◌≤◌, List, [], ◌∷◌, ◌++◌, length, Option, Some, None, refl, sym, ap, ◌∙◌, subst, arith, ◌⊎◌, inl, inr, ⊎_elim, Contains, slice_get, Bool, false, Rom, IsKey, Entry, Key, MOST_ENTRIES, listed_at, HasEntry, MadeFor, AllMade, IsAskedFor, EntryFault, Unstraight, Deep, TooManyWords, TooManyEntries, Memory, FramesRefuse, Extends, IsAim, NoAim, InProgress, Bars, obstacle_fault, Collected, HasCalls, IsFramed, BarsHere, AllFramed, PartialEntry, Obstacle, shapes, IsMaking, IsCalled, IsToldOf, TellsHere, keyed_context, start, FrameCall, known_before}
-use Rattle.std.proofs.Common.{rules}
-use Rattle.std.proofs.lemmas.List.Elements.{Contains-append_left, Contains-append_right, Contains-append_cases, Contains-get_or}
+use Rattle.dvg_make.proofs.Common.{Machine, ◌≡◌, ℕ, zero, suc, ◌+◌, ◌<◌, ◌≤◌, List, [], ◌∷◌, ◌++◌, length, Option, Some, None, refl, sym, ap, subst, arith, ◌⊎◌, inl, inr, ⊎_elim, Contains, slice_get, Bool, false, Rom, IsKey, Entry, Key, MOST_ENTRIES, listed_at, HasEntry, MadeFor, AllMade, IsAskedFor, EntryFault, Unstraight, Deep, TooManyWords, TooManyEntries, Memory, FramesRefuse, Extends, IsAim, NoAim, InProgress, Bars, obstacle_fault, Collected, HasCalls, IsFramed, BarsHere, AllFramed, PartialEntry, Obstacle, shapes, IsMaking, IsCalled, IsToldOf, TellsHere, keyed_context, start, FrameCall, known_before, rules, Contains-append_left, Contains-append_right, Contains-append_cases, Contains-get_or, take, drop, get_or, take-suc, take_all, take-append-drop, IsTrue, ◌↔◌, InRom, HasAsked, make_fault_of, Refuses, BarsList, NoFramesMade, HasAll, IsBlocked, IsRefused, BarsCalls, NoneHasCalls, BlocksHere, Blocked, asked_shape, IsToldFrom, KeyedCall, IsGivenHere, RootOutside, IsNamedBy, IsNeededBy, EntryCause, UnlessMemory}
 use Rattle.std.proofs.lemmas.Option.{slice_get-get_or}
-use Rattle.std.proofs.Common.{take, drop, get_or, take-suc, take_all, take-append-drop}
-use Rattle.std.specs.Prelude.{IsTrue, ◌↔◌}
-use Rattle.dvg_words.specs.Memory.{InRom}
-use Rattle.dvg_make.specs.Frames.{HasAsked}
-use Rattle.dvg_make.specs.Refusals.{make_fault_of, Refuses, BarsList, NoFramesMade}
-use Rattle.dvg_make.specs.Private.Making.{HasAll, IsBlocked, IsRefused}
-use Rattle.dvg_make.specs.Private.Framing.{BarsCalls, NoneHasCalls, BlocksHere}
 use Rattle.dvg_make.proofs.Onward.{listed_entry}
-use Rattle.dvg_make.specs.declared.obstacle.Blocked.{Blocked}
-use Rattle.dvg_make.specs.Private.Making.{asked_shape, IsToldFrom}
-use Rattle.dvg_make.specs.Private.Framing.{KeyedCall, IsGivenHere}
-use Rattle.dvg_make.specs.Accounts.{RootOutside, IsNamedBy, IsNeededBy, EntryCause, UnlessMemory}
 use Rattle.dvg_make.specs.declared.account.EntryCause.TheVariants as cause
 use Rattle.dvg_make.proofs.Framing.{done_made, collected_more, call_grows, keyed_call, called_told, calls_grow, has_calls_grow}
 use Rattle.dvg_make.proofs.Merging.{only_listed}

@@ -1,44 +1,76 @@
--- The names that most of these proofs cite, passed on from one place. Declares nothing.
-pub use Rattle.std.proofs.Common.{sym, subst, List, ◌∙◌, ap, ◌≡◌, [], ◌∷◌, ℕ, arith, refl, None, Some, Option, ◌++◌, suc, ◌+◌, zero, ◌≤◌, length, ◌<◌, inl, inr, ⊎_elim, ◌-◌, ◌⊎◌, ◌≢◌, rules, length-append, unwrap_or}
-pub use Rattle.std.specs.List.{All}
-pub use Rattle.std.specs.Map.{values_of}
+-- The names that these proofs share, passed on from one place, the most cited first. Declares nothing.
+pub use Rattle.std.specs.Prelude.{Bool, true, false, ◌*ℤ◌, slice_range, OnOk, IfErr, IsErrAnd, IsSome}
+pub use Rattle.std.proofs.lemmas.List.Elements.{Contains-append_cases, Contains-append_left, Contains-append_right, All-head, All-tail, All-push}
+pub use Rattle.std.specs.Map.{values_of, keys_of, lookup}
 pub use Rattle.std.specs.Option.{option_or}
-pub use Rattle.std.specs.Prelude.{IfSome, false, slice_get, Bool, Ok, Err, IfNone, Result, true}
-pub use Rattle.dvg_cert.proofs.OnlyEntries.{at_holds}
-pub use Rattle.dvg_cert.proofs.Pairs.{pair_test, lookup_is}
-pub use Rattle.dvg_cert.specs.Entry.{IsKey, IsEntry}
-pub use Rattle.dvg_cert.specs.Lookup.{entry_at, is_at}
-pub use Rattle.dvg_cert.specs.Order.{IsRising, IsCertificate}
-pub use Rattle.dvg_cert.specs.Private.Keyed.{IsKeyed}
-pub use Rattle.dvg_cert.specs.declared.entry.Key.TheVariants.{Any}
-pub use Rattle.dvg_cert.specs.declared.limits.TheConstants.{MOST_WORDS, MOST_ENTRIES, MOST_DEPTH}
-pub use Rattle.dvg_check.proofs.Common.{ints, AllByRecursion, Contains, if◌then◌else◌, End, Rel, Lost, Abs, Entry, Key, At, LitBox, Empty, Span, CellKeeps, GoodShape, GoodFrame, Good, ShapeKeeps, LeadsTo, next_address, scale_before, target, shape_context, known_before, Context, callee, place_before, depth_before, words_before, callee_words, place_past, frame_context, depth_under, IsInside, InBox, LitInWindow, seen_at, HasCallee, Item, Shape, Effect, Known, LitExtent, Seen, screen, Rom, rom_word, frame_word, Window, Point, Cell, Holds, Odd, Missing, Format, Instr, Jmpl, Jsrl, Halt, Rtsl, Labs, Machine, Board, ADDRESS_END}
-pub use Rattle.dvg_check.proofs.Modes.{in_bound}
-pub use Rattle.dvg_check.specs.declared.fault.Mode.TheVariants.{Exact, Bound}
-pub use Rattle.dvg_check.specs.declared.fault.ShapeWhy.{ShapeWhy}
-pub use Rattle.dvg_items.proofs.Listed.{listed_at}
-pub use Rattle.dvg_items.proofs.Lists.{all_append}
-pub use Rattle.dvg_items.proofs.Near.{word_count-some}
-pub use Rattle.dvg_items.specs.Bounds.{IsClaim}
-pub use Rattle.dvg_items.specs.Cursor.{step_past}
-pub use Rattle.dvg_items.specs.Known.{callee_at, scale_set, known_past}
-pub use Rattle.dvg_items.specs.Least.{IsLeast, lit_points, HoldsAll}
-pub use Rattle.dvg_items.specs.Lit.{relative_corners, extent_of, box_extent}
-pub use Rattle.dvg_items.specs.Seen.{extent, seen_with}
-pub use Rattle.dvg_items.specs.declared.cursor.Step.TheVariants.{Last}
-pub use Rattle.dvg_items.specs.declared.known.Effect.TheVariants.{Sets, Moves, Loses}
-pub use Rattle.dvg_items.specs.declared.lit.LitExtent.TheVariants.{Between, Nothing}
-pub use Rattle.dvg_make.specs.Accounts.{EntryCause, ShapeAt, HasCause, Reaches}
-pub use Rattle.dvg_make.specs.Frames.{IsAskedFor, FramesMade}
-pub use Rattle.dvg_make.specs.Judging.{HasCallCause, FrameRefused}
-pub use Rattle.dvg_make.specs.Made.{HasEntry, MadeEntry, AllMade, Needs, MadeFor, EachItem, IsMade}
-pub use Rattle.dvg_make.specs.Private.Covering.{KnowsMore}
-pub use Rattle.dvg_make.specs.Private.Framing.{AllFramed, BarsHere, TellsHere, HasCalls, IsFramed}
-pub use Rattle.dvg_make.specs.Private.Making.{IsMaking, InProgress, obstacle_fault, IsPresent, ArePartial, IsCalled, IsDone, Bars, IsAim, IsToldOf, Apart, shapes, NoAim, NotBegun, Collected, Chain}
-pub use Rattle.dvg_make.specs.Private.Partial.{keyed_context, Extends, AreTails, IsFinished, AllFine, entry_of, start, IsPartial, shape_of, IsStraight, IsWaiting, Passes, IsStopped}
-pub use Rattle.dvg_make.specs.Private.Stacked.{IsOwnPartial}
-pub use Rattle.dvg_make.specs.Refusals.{FramesRefuse, Memory, Deep, Unstraight, EntryFault, TooManyWords, TooManyEntries, FrameCall}
-pub use Rattle.dvg_make.specs.declared.obstacle.Obstacle.{Obstacle}
+pub use Rattle.std.specs.List.{All}
+pub use Rattle.std.proofs.Common.{take-suc, take_all, take-append-drop}
+pub use Rattle.indexmap.proofs.CallerLemmas.{insert_entry-new}
+pub use Rattle.dvg_check.proofs.Common.{◌≡◌, ℕ, zero, suc, ◌+◌, ◌<◌, List, [], ◌∷◌, Option, Some, refl, sym, ◌∙◌, subst, arith, Contains, Rom, rom_word, entry_at, LeadsTo, target, scale_before, listed_at, ◌≢◌, ◌≤◌, ◌++◌, None, ap, ⊎_elim, ints, screen, next_address, Context, shape_context, callee, callee_words, place_before, words_before, depth_before, depth_under, known_before, InBox, IsInside, extent, seen_at, HasCallee, all_append, word_count-some, ShapeKeeps, CellKeeps, rules, all_map, length, ◌⊎◌, inl, inr, length-append, if◌then◌else◌, take, drop, get_or, InRom, unwrap_or, IfSome, IsClaim, scale_set, Window, AllBefore, all_right, AtLast, example_entry, example_list, AllKeep, IsCertificate, frame_word, frame_context, LitInWindow, Good, GoodFrame, word_count, FrameKeeps, FramePlaceKeeps, Source, append_assoc, cases_lt, next_near, same_lead, shorter, everywhere, ◌-◌, box_extent, ◌≤ℤ◌, ℤ, neg_ℤ, PlaceKnown, ScaleKnown, seen_by, moved, known_at_end, known_over, place_over, place_past, DrawFields, effect_of, draw_extent, LitInBox, AllByRecursion, IsSoundStep, at_place, Result, Ok, Err, max, IfOk, Safe, SafeOnCircuit, CountsOnCircuit, Shapes, GoodShape, pos, negsuc, ◌*◌, ◌/◌, ◌%◌, nat_le, nat_tests, ◌==◌, origin, shift, effective_scale, axis_move, labs_place, IsWithin, cell_holding, cell_of_words, cell_of_format, draw_effect, callee_effect, place_moved_by, callee_extent, common_steps, ShapePlaceKeeps, slice_index_or, Certificate}
+pub use Rattle.dvg_cert.proofs.Common.{slice_get, IsEntry, is_at, Contains-get_or, IsTrue, ◌↔◌, IsRising, IsMap, IsKeyed, IfNone, IsOnlyAt, HasNoneAt, ◌&&◌, nat_eq, KeyBefore, Before, IsOwn, cond, is_some, All-nil, All-cons, MemoryMap}
+pub use Rattle.dvg_items.proofs.Common.{callee_at, clamps, InstrFits, AtEachOf, AtEveryPlace, same_key}
+unfoldable pub use Rattle.dvg_check.proofs.Common.{cell_at, displacement, instruction_of}
+pub use Rattle.dvg_words.proofs.Common.{factor}
+pub use Rattle.dvg_make.specs.Private.Making.{shapes, blocked_fault, IsRefused, IsMaking, ArePartial, Chain, Apart, IsPresent, IsCalled, IsAim, NoAim, IsDone, InProgress, IsUnique, IsGiven, Bars, obstacle_fault, Collected, IsToldOf, HasAll, IsBlocked, asked_shape, IsToldFrom, AllCalled, AreLinked, NotBegun, TellsObstacle, IsNoRoot, IsBegun, TellsRight, IsRightFor, BarsAll, TellsAll}
+pub use Rattle.dvg_make.specs.Private.Partial.{keyed_context, entry_of, AllFine, Extends, start, IsPartial, IsFinished, IsWaiting, NeverAt, IsTail, Passes, IsCallee, IsStraight, IsFine, IsAsked, KnowsAt, AreTails, EndsBy, EndsByOne, shape_of, IsStopped, LacksCallee, IsAbsent, Advances}
+pub use Rattle.dvg_make.specs.Made.{MadeEntry, HasEntry, IsMade, AllMade, MadeFor, EachItem, AtEnd, MadeKeeps, AllHold, Needs, Made, Barred}
+pub use Rattle.dvg_make.specs.Refusals.{EntryFault, FrameCall, FramesFault, make_fault_of, Unstraight, Deep, TooManyWords, TooManyEntries, Memory, FramesRefuse, Refuses, BarsList, NoFramesMade, NoneAccepts, BarsEntry, CallBarredAt, BarsFrame}
+pub use Rattle.dvg_cert.specs.declared.entry.Entry.{Entry}
+pub use Rattle.dvg_make.specs.Accounts.{EntryCause, HasCause, MakeAccount, IsAccount, IsTold, HasRootCause, entry_fault, RootOutside, IsNamedBy, IsNeededBy, UnlessMemory, AllTaken, ShapeAt, Reaches, Precedes, IsLinked, last_shape, SaysOf, CauseAt, AreUnmade, Tells, CallsAt}
+pub use Rattle.dvg_cert.specs.declared.entry.Key.{Key}
+pub use Rattle.dvg_make.specs.Private.Framing.{HasCalls, IsFramed, BarsHere, AllFramed, TellsHere, BarsCalls, NoneHasCalls, BlocksHere, KeyedCall, IsGivenHere, IsCalledBy, LongHasCalls, BlocksTarget}
+pub use Rattle.dvg_words.specs.declared.instruction.Cell.TheVariants.{Holds, Missing, Odd}
+pub use Rattle.dvg_cert.specs.declared.limits.TheConstants.{MOST_ENTRIES, MOST_WORDS, MOST_DEPTH}
+pub use Rattle.dvg_items.specs.declared.item.Kind.TheVariants.{Shape, Frame}
+pub use Rattle.dvg_items.specs.Least.{lit_points, HoldsAll, IsLeast}
+pub use Rattle.dvg_items.specs.declared.item.Item.{Item}
 pub use Rattle.dvg_make.specs.declared.partial.PartialEntry.{PartialEntry}
-pub use Rattle.dvg_words.specs.Decoding.{InstrFits}
-unfoldable pub use Rattle.dvg_words.specs.Decoding.{cell_at}
+pub use Rattle.dvg_make.specs.Private.Covering.{KnowsMore, Loosens, LoosensPlace, Refines, Covers, Upholds, HasCover}
+pub use Rattle.dvg_check.specs.declared.fault.Mode.TheVariants.{Bound, Exact}
+pub use Rattle.dvg_make.specs.Frames.{IsAskedFor, HasAsked, FramesMade, AllKeyed, FrameAsksFor, FrameMade}
+pub use Rattle.dvg_words.specs.declared.instruction.Instr.TheVariants.{Jmpl, Labs, Halt, Jsrl, Rtsl, Draw as Draws}
+pub use Rattle.dvg_items.specs.declared.known.Known.{Known}
+pub use Rattle.dvg_cert.proofs.OnlyEntries.{at_holds, at_means, found, not_before, before_next, before_later, rising_tail, first_or_later, later}
+pub use Rattle.dvg_cert.proofs.Pairs.{pair_test, pair_eq, lookup_is, values_of-append, keyed_push, length-values_of, key_test}
+pub use Rattle.dvg_cert.specs.Entry.{IsKey, IsBox, IsEnd}
+pub use Rattle.dvg_words.specs.declared.machine.Machine.{Machine}
+pub use Rattle.dvg_make.specs.Judging.{HasCallCause, refusal_at, FrameRefused, VerdictByMade, AreLeast, CheckMeans, checked, refusal_by}
+pub use Rattle.dvg_cert.specs.declared.entry.End.TheVariants.{Rel, Abs, Lost}
+pub use Rattle.dvg_cert.specs.declared.entry.LitBox.TheVariants.{Empty, Span}
+pub use Rattle.dvg_items.specs.Lit.{relative_corners, extent_of}
+pub use Rattle.dvg_cert.specs.declared.entry.LitBox.{LitBox}
+pub use Rattle.dvg_items.specs.declared.lit.LitExtent.TheVariants.{Nothing, Between, Anywhere}
+pub use Rattle.dvg_make.specs.Laws.{WorkedExampleMade, AllInWindow, NoneBetter, OneFramesMade, OneMade, GoodInWindow, ItemInWindow}
+pub use Rattle.dvg_words.specs.declared.instruction.Instr.{Instr}
+pub use Rattle.dvg_cert.specs.declared.entry.Key.TheVariants.{At, Any}
+pub use Rattle.dvg_words.specs.declared.instruction.Cell.{Cell}
+pub use Rattle.dvg_words.specs.declared.instruction.Format.{Format}
+pub use Rattle.dvg_make.specs.declared.obstacle.Obstacle.{Obstacle}
+pub use Rattle.dvg_items.specs.declared.known.Effect.TheVariants.{Sets, Loses, Moves}
+pub use Rattle.dvg_words.specs.declared.map.TheConstants.{ADDRESS_END}
+pub use Rattle.dvg_words.specs.declared.beam.Point.{Point}
+pub use Rattle.dvg_words.specs.declared.machine.Machine.TheVariants.{Profile, Board}
+pub use Rattle.dvg_items.specs.declared.seen.Seen.{Seen}
+pub use Rattle.dvg_check.proofs.Faults.{all_kept, no_fault, no_shape_fault, one_count}
+pub use Rattle.dvg_items.specs.Seen.{seen_with}
+pub use Rattle.dvg_cert.specs.declared.entry.End.{End}
+pub use Rattle.dvg_items.specs.declared.cursor.Step.TheVariants.{Last, Onward}
+pub use Rattle.dvg_items.specs.declared.lit.LitExtent.{LitExtent}
+pub use Rattle.dvg_words.specs.Decoding.{opcode, is_long_opcode, labs_field, magnitude_and_sign}
+pub use Rattle.dvg_make.specs.declared.obstacle.Blocked.{Blocked}
+pub use Rattle.dvg_items.specs.declared.known.Effect.{Effect}
+pub use Rattle.dvg_make.specs.Private.Stacked.{IsOwnPartial}
+pub use Rattle.dvg_check.specs.declared.fault.ShapeWhy.{ShapeWhy}
+pub use Rattle.dvg_words.specs.declared.instruction.Format.TheVariants.{Short, Long}
+pub use Rattle.dvg_items.proofs.Lists.{all_left, all_listed}
+pub use Rattle.dvg_check.proofs.Modes.{in_bound}
+pub use Rattle.dvg_items.specs.Known.{known_past}
+pub use Rattle.dvg_items.specs.Cursor.{step_past}
+pub use Rattle.dvg_check.specs.Safety.{CountsAtHalt}
+pub use Rattle.dvg_items.specs.declared.cursor.Cursor.{Cursor}
+pub use Rattle.dvg_check.specs.declared.fault.FrameWhy.{FrameWhy}
+pub use Rattle.dvg_make.specs.Private.Judged.{IsJudged, IsRelative}
+pub use Rattle.dvg_items.specs.declared.cursor.Step.{Step}
+pub use Rattle.dvg_cert.specs.Lookup.{named_entry}
+pub use Rattle.dvg_words.specs.Beam.{rounded}
+pub use Rattle.dvg_words.specs.Memory.{word_of_rom}

@@ -1,7 +1,5 @@
 -- A list that has so many different entries has at least that length.
-use Rattle.dvg_make.proofs.Common.{◌≡◌, ℕ, ◌+◌, ◌≤◌, List, [], ◌∷◌, length, Option, Some, None, refl, sym, ap, ◌∙◌, subst, arith, inl, inr, Bool, true, false, if◌then◌else◌, is_at, entry_at, Entry, Key, at_holds, PartialEntry, Extends, IsMaking, Chain, Apart}
-use Rattle.dvg_cert.proofs.OnlyEntries.{at_means}
-use Rattle.dvg_make.specs.Private.Making.{IsUnique}
+use Rattle.dvg_make.proofs.Common.{◌≡◌, ℕ, ◌+◌, ◌≤◌, List, [], ◌∷◌, length, Option, Some, None, refl, sym, ap, ◌∙◌, subst, arith, inl, inr, Bool, true, false, if◌then◌else◌, is_at, entry_at, Entry, Key, at_holds, PartialEntry, Extends, IsMaking, Chain, Apart, at_means, IsUnique}
 
 -- the list without the entry with this address and key
 abbrev without : List Entry → ℕ → Key → List Entry

@@ -1,8 +1,5 @@
 -- The entry of a shape after its last item.
-use Rattle.dvg_make.proofs.Common.{◌≡◌, ◌≤◌, List, unwrap_or, Option, Some, None, sym, subst, arith, IfSome, cell_at, InstrFits, Rom, rom_word, Holds, Format, Instr, Labs, Halt, Jsrl, Rtsl, Jmpl, IsKey, IsEntry, Entry, Key, LitBox, MOST_DEPTH, MOST_WORDS, IsClaim, step_past, scale_set, seen_with, Last, Shape, Known, PartialEntry, entry_of, Passes, IsFinished, IsDone}
-use Rattle.dvg_words.specs.declared.instruction.Instr.TheVariants.{Draw as Draws}
-use Rattle.dvg_items.specs.declared.cursor.Step.{Step}
-use Rattle.dvg_make.specs.Private.Partial.{IsCallee}
+use Rattle.dvg_make.proofs.Common.{◌≡◌, ◌≤◌, List, unwrap_or, Option, sym, subst, arith, IfSome, cell_at, InstrFits, Rom, rom_word, Holds, Format, Instr, IsKey, IsEntry, Entry, Key, LitBox, MOST_DEPTH, MOST_WORDS, IsClaim, step_past, scale_set, seen_with, Last, Shape, Known, PartialEntry, entry_of, Passes, IsFinished, IsDone, Step, IsCallee}
 use Rattle.dvg_make.proofs.Onward.{Walking, end, knows_last, finished}
 use Rattle.dvg_make.proofs.Small.{made_is_entry}
 

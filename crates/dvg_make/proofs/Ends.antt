@@ -1,16 +1,9 @@
 -- What a made entry says of its shape: at each item, and at the end.
-use Rattle.dvg_make.proofs.Common.{Machine, ◌≡◌, ◌≢◌, ℕ, zero, suc, ◌+◌, ◌<◌, ◌≤◌, List, [], ◌∷◌, Option, Some, None, refl, sym, ap, ◌∙◌, subst, arith, cell_at, Rom, rom_word, screen, Window, Cell, Missing, Odd, Holds, Format, Instr, entry_at, Entry, Key, next_address, LeadsTo, Context, shape_context, target, callee_at, callee, callee_words, scale_before, place_before, words_before, depth_before, depth_under, known_before, extent, seen_at, HasCallee, InBox, relative_corners, ShapeKeeps, CellKeeps, Exact, ShapeWhy, Item, Shape, Known, Seen, word_count-some, lit_points, HoldsAll, IsLeast, HasEntry, EachItem, MadeEntry, keyed_context, IsStraight, AllFine}
-use Rattle.std.proofs.Common.{rules}
-use Rattle.dvg_check.specs.FirstFault.{AllBefore}
-use Rattle.dvg_items.proofs.Lists.{all_left, all_right}
-use Rattle.dvg_check.specs.Rules.{AtLast}
+use Rattle.dvg_make.proofs.Common.{Machine, ◌≡◌, ◌≢◌, ℕ, zero, suc, ◌+◌, ◌<◌, ◌≤◌, List, [], ◌∷◌, Option, Some, None, refl, sym, ap, ◌∙◌, subst, arith, cell_at, Rom, rom_word, screen, Window, Cell, Missing, Odd, Holds, Format, Instr, entry_at, Entry, Key, next_address, LeadsTo, Context, shape_context, target, callee_at, callee, callee_words, scale_before, place_before, words_before, depth_before, depth_under, known_before, extent, seen_at, HasCallee, InBox, relative_corners, ShapeKeeps, CellKeeps, Exact, ShapeWhy, Item, Shape, Known, Seen, word_count-some, lit_points, HoldsAll, IsLeast, HasEntry, EachItem, MadeEntry, keyed_context, IsStraight, AllFine, rules, AllBefore, all_left, all_right, AtLast, all_kept, AtEnd, MadeKeeps, AllHold, IsFine}
 use Rattle.dvg_check.specs.declared.fault.ShapeWhy.TheVariants as shape
-use Rattle.dvg_check.proofs.Faults.{all_kept}
-use Rattle.dvg_make.specs.Made.{AtEnd, MadeKeeps, AllHold}
-use Rattle.dvg_make.specs.Private.Partial.{IsFine}
 pub use Rattle.dvg_make.specs.Private.Covering.{known_of}
 use Rattle.dvg_make.proofs.Boxes.{one_least}
-use Rattle.dvg_make.proofs.Matching.{Gathered, gathered, Matched, gathered_same, exact_named}
+use Rattle.dvg_make.proofs.Matching.{gathered, Matched, gathered_same, exact_named}
 
 -- ---- at an item
 

@@ -1,16 +1,8 @@
 -- The worked example is made.
-use Rattle.dvg_make.proofs.Common.{◌≡◌, ◌∙◌, ℕ, zero, suc, List, [], ◌∷◌, ◌⊎◌, Some, None, refl, sym, ap, subst, inl, arith, Contains, ints, screen, cell_at, rom_word, Holds, Entry, Key, At, LitBox, Empty, Span, next_address, shape_context, target, scale_before, IsInside, Exact, Item, Shape, lit_points, HoldsAll, IsLeast, HasEntry, EachItem, MadeEntry, Needs}
-use Rattle.std.proofs.Common.{rules}
-use Rattle.dvg_words.specs.Beam.{displacement}
-use Rattle.dvg_words.specs.declared.machine.Machine.TheVariants.{Profile}
+use Rattle.dvg_make.proofs.Common.{◌≡◌, ◌∙◌, ℕ, zero, suc, List, [], ◌∷◌, ◌⊎◌, Some, None, refl, sym, ap, subst, inl, arith, Contains, screen, cell_at, rom_word, Holds, Entry, Key, At, next_address, shape_context, target, scale_before, Exact, Item, Shape, lit_points, IsLeast, HasEntry, EachItem, MadeEntry, Needs, rules, displacement, Profile, example_entry, example_list, AllKeep, all_kept, WorkedExampleMade, MadeKeeps, Made}
 use Rattle.dvg_words.specs.Example.{example_rom}
-use Rattle.dvg_check.specs.Example.{example_entry, example_list}
-use Rattle.dvg_check.specs.Rules.{AllKeep}
 use Rattle.dvg_check.proofs.Example.{draw_item, return_item, draw_there, return_there, worked_example as example_good}
-use Rattle.dvg_check.proofs.Faults.{all_kept}
-use Rattle.dvg_make.specs.Laws.{WorkedExampleMade}
 use Rattle.dvg_make.proofs.Windows.{other_window}
-use Rattle.dvg_make.specs.Made.{MadeKeeps, Made}
 
 -- ---- its items
 

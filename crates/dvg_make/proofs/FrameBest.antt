@@ -1,14 +1,7 @@
 -- No certificate does better for a frame than the list that is made for it.
-use Rattle.dvg_make.proofs.Common.{◌≡◌, ℕ, zero, suc, ◌+◌, ◌<◌, ◌≤◌, List, [], ◌∷◌, Option, Some, None, refl, sym, ap, ◌∙◌, subst, arith, inl, inr, ⊎_elim, Contains, cell_at, Rom, rom_word, frame_word, Window, Cell, Missing, Odd, Holds, IsCertificate, Entry, Key, MOST_WORDS, LeadsTo, Context, shape_context, frame_context, target, callee_at, callee, scale_before, place_before, words_before, depth_before, known_before, LitInWindow, extent, seen_at, HasCallee, Item, Shape, listed_at, CellKeeps, Good, GoodFrame, Bound, Exact, in_bound, Needs, MadeFor, AllMade, IsAskedFor, KnowsMore}
-use Rattle.std.proofs.Common.{rules}
-use Rattle.dvg_words.specs.Decoding.{word_count}
-use Rattle.dvg_items.specs.declared.item.Kind.TheVariants.{Frame}
-use Rattle.dvg_check.specs.Rules.{FrameKeeps, FramePlaceKeeps, AllKeep}
-use Rattle.dvg_check.specs.declared.fault.FrameWhy.{FrameWhy}
+use Rattle.dvg_make.proofs.Common.{◌≡◌, ℕ, zero, suc, ◌+◌, ◌<◌, ◌≤◌, List, [], ◌∷◌, Option, Some, None, refl, sym, ap, ◌∙◌, subst, arith, inl, inr, ⊎_elim, Contains, cell_at, Rom, rom_word, frame_word, Window, Cell, Missing, Odd, Holds, IsCertificate, Entry, Key, MOST_WORDS, LeadsTo, Context, shape_context, frame_context, target, callee_at, callee, scale_before, place_before, words_before, depth_before, known_before, LitInWindow, extent, seen_at, Item, Shape, listed_at, CellKeeps, Good, GoodFrame, Bound, Exact, in_bound, Needs, MadeFor, AllMade, IsAskedFor, KnowsMore, rules, word_count, Frame, FrameKeeps, FramePlaceKeeps, AllKeep, FrameWhy, AllInWindow, NoneBetter, AllKeyed, FrameAsksFor, Covers, HasCover, Upholds}
 use Rattle.dvg_check.specs.declared.fault.FrameWhy.TheVariants as frame
-use Rattle.dvg_make.specs.Laws.{AllInWindow, NoneBetter}
-use Rattle.dvg_make.specs.Frames.{IsKeyed, AllKeyed, FrameAsksFor}
-use Rattle.dvg_make.specs.Private.Covering.{Covers, HasCover, Upholds}
+use Rattle.dvg_make.specs.Frames.{IsKeyed}
 use Rattle.dvg_make.proofs.Matching.{exact_named}
 use Rattle.dvg_make.proofs.Ends.{callee_less, has_callee}
 use Rattle.dvg_make.proofs.Onward.{listed_entry}

@@ -1,21 +1,7 @@
 -- A frame whose calls are made one after another.
-use Rattle.dvg_make.proofs.Common.{Machine, ◌≡◌, ℕ, ◌+◌, ◌<◌, ◌≤◌, List, [], ◌∷◌, ◌++◌, length, unwrap_or, Option, Some, None, refl, sym, ap, ◌∙◌, subst, arith, ◌⊎◌, inl, inr, ⊎_elim, Contains, IfSome, cell_at, InstrFits, Rom, frame_word, ADDRESS_END, Holds, Format, Instr, Labs, Halt, Jsrl, Rtsl, Jmpl, IsKey, entry_at, Entry, Key, Any, MOST_ENTRIES, LeadsTo, next_address, IsClaim, frame_context, target, scale_set, callee_at, scale_before, known_before, known_past, Item, Known, listed_at, in_bound, HasEntry, AllMade, EntryFault, Unstraight, Deep, TooManyWords, TooManyEntries, Memory, Extends, IsAim, NoAim, IsDone, InProgress, Bars, IsCalled, IsPresent, Collected, obstacle_fault, HasCalls, IsFramed, BarsHere, PartialEntry}
-use Rattle.std.proofs.lemmas.List.Elements.{Contains-append_left, Contains-append_right, Contains-append_cases}
-use Rattle.dvg_words.specs.Values.{Source}
-use Rattle.std.proofs.Common.{append_assoc}
+use Rattle.dvg_make.proofs.Common.{Machine, ◌≡◌, ℕ, ◌+◌, ◌<◌, ◌≤◌, List, [], ◌∷◌, ◌++◌, length, unwrap_or, Option, Some, None, refl, sym, ap, ◌∙◌, subst, arith, ◌⊎◌, inl, inr, ⊎_elim, Contains, IfSome, cell_at, InstrFits, Rom, frame_word, ADDRESS_END, Holds, Format, Instr, IsKey, entry_at, Entry, Key, Any, MOST_ENTRIES, LeadsTo, next_address, IsClaim, frame_context, target, scale_set, callee_at, scale_before, known_before, known_past, Item, Known, listed_at, in_bound, HasEntry, AllMade, EntryFault, Unstraight, Deep, TooManyWords, TooManyEntries, Memory, Extends, IsAim, NoAim, IsDone, InProgress, Bars, IsCalled, IsPresent, Collected, obstacle_fault, HasCalls, IsFramed, BarsHere, PartialEntry, Contains-append_left, Contains-append_right, Contains-append_cases, Source, append_assoc, cases_lt, AtEachOf, AtEveryPlace, next_near, Frame, same_lead, shorter, everywhere, Barred, AllKeyed, FrameAsksFor, NoneAccepts, BarsEntry, CallBarredAt, AllCalled, IsToldFrom, IsCalledBy, NoneHasCalls, LongHasCalls, KeyedCall, IsGivenHere, BlocksTarget, BlocksHere, Blocked}
 use Rattle.std.proofs.lemmas.List.{append-nil}
-use Rattle.std.proofs.lemmas.Bool.{cases_lt}
-use Rattle.dvg_words.specs.declared.instruction.Instr.TheVariants.{Draw as Draws}
-use Rattle.dvg_items.specs.Items.{AtEachOf, AtEveryPlace}
-use Rattle.dvg_items.proofs.Near.{next_near}
-use Rattle.dvg_items.specs.declared.item.Kind.TheVariants.{Frame}
-use Rattle.dvg_items.proofs.Leading.{same_lead, shorter, everywhere}
-use Rattle.dvg_make.specs.Made.{Barred}
-use Rattle.dvg_make.specs.Frames.{IsKeyed, AllKeyed, FrameAsksFor}
-use Rattle.dvg_make.specs.Refusals.{NoneAccepts, BarsEntry, CallBarredAt}
-use Rattle.dvg_make.specs.Private.Making.{AllCalled, IsToldFrom}
-use Rattle.dvg_make.specs.Private.Framing.{IsCalledBy, NoneHasCalls, LongHasCalls, KeyedCall, IsGivenHere, BlocksTarget, BlocksHere}
-use Rattle.dvg_make.specs.declared.obstacle.Blocked.{Blocked}
+use Rattle.dvg_make.specs.Frames.{IsKeyed}
 use Rattle.dvg_make.proofs.Matching.{exact_named}
 use Rattle.dvg_make.proofs.Merging.{only_listed, extends_more, extends_second, all_merged}
 use Rattle.dvg_make.proofs.Chains.{called_grows}

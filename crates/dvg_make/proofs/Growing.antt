@@ -1,8 +1,5 @@
 -- What is known by a list is known by each that extends it.
-use Rattle.dvg_make.proofs.Common.{Machine, ◌≡◌, List, [], ◌∷◌, sym, ap, ◌∙◌, subst, Rom, rom_word, LeadsTo, entry_at, Entry, Key, target, scale_before, known_before, Item, Shape, LitBox, Known, PartialEntry, IsLeast, MadeEntry, keyed_context, IsStraight, AllFine, IsPartial, Extends}
-use Rattle.std.proofs.Common.{arith}
-use Rattle.dvg_make.specs.Accounts.{AllTaken}
-use Rattle.dvg_make.specs.Private.Partial.{IsAsked, KnowsAt}
+use Rattle.dvg_make.proofs.Common.{Machine, ◌≡◌, List, [], ◌∷◌, sym, ap, ◌∙◌, subst, Rom, rom_word, LeadsTo, entry_at, Entry, Key, target, scale_before, known_before, Item, Shape, LitBox, Known, PartialEntry, IsLeast, MadeEntry, keyed_context, IsStraight, AllFine, IsPartial, Extends, arith, AllTaken, IsAsked, KnowsAt}
 use Rattle.dvg_make.proofs.Matching.{Gathered, Matched, gathered_same, seen_matched}
 use Rattle.dvg_make.proofs.Ends.{made_ends, ends_made, same_sums, sums_of}
 use Rattle.dvg_make.proofs.Onward.{same_if, matched_fine, fine_taken}

@@ -1,18 +1,7 @@
 -- A shape so far and the tail behind it are a made entry.
-use Rattle.dvg_make.proofs.Common.{Machine, ◌≡◌, ℕ, ◌+◌, ◌-◌, ◌<◌, ◌≤◌, List, [], ◌∷◌, ◌++◌, Option, Some, None, refl, sym, ap, ◌∙◌, subst, arith, ⊎_elim, Contains, IfSome, ints, Rom, rom_word, Point, Jmpl, ADDRESS_END, IsKey, IsEntry, entry_at, End, Rel, Abs, Lost, Entry, Key, LitBox, Empty, Span, MOST_DEPTH, MOST_WORDS, IsClaim, LeadsTo, Context, scale_before, place_before, known_before, InBox, IsInside, box_extent, relative_corners, step_past, seen_at, seen_with, extent, Last, Item, Shape, Known, LitExtent, Nothing, Between, Seen, all_append, listed_at, PartialEntry, lit_points, HoldsAll, IsLeast, HasEntry, MadeEntry, IsDone, keyed_context, entry_of, IsStraight, AllFine, IsPartial, Passes, Extends, AreTails, IsFinished}
-use Rattle.std.proofs.Common.{rules}
-use Rattle.std.proofs.lemmas.List.Elements.{Contains-append_cases}
-use Rattle.std.proofs.Common.{◌≤ℤ◌, ℤ, neg_ℤ}
-use Rattle.dvg_words.specs.declared.instruction.Format.TheVariants.{Short}
-use Rattle.dvg_cert.specs.Entry.{IsBox}
-use Rattle.dvg_items.specs.Lit.{PlaceKnown, ScaleKnown}
-use Rattle.dvg_items.specs.declared.lit.LitExtent.TheVariants.{Anywhere}
-use Rattle.dvg_items.proofs.Lists.{all_left, all_right}
-use Rattle.dvg_check.specs.Private.Judging.{seen_by}
-use Rattle.dvg_check.specs.Passing.{moved}
-use Rattle.dvg_check.specs.Private.Tails.{known_at_end, known_over, place_over}
+use Rattle.dvg_make.proofs.Common.{Machine, ◌≡◌, ℕ, ◌+◌, ◌-◌, ◌<◌, ◌≤◌, List, [], ◌∷◌, ◌++◌, Option, Some, refl, sym, ap, ◌∙◌, subst, arith, ⊎_elim, Contains, IfSome, ints, Rom, rom_word, Point, Jmpl, ADDRESS_END, IsKey, IsEntry, entry_at, End, Rel, Abs, Lost, Entry, Key, LitBox, Empty, Span, MOST_DEPTH, MOST_WORDS, IsClaim, LeadsTo, Context, scale_before, place_before, known_before, InBox, IsInside, box_extent, relative_corners, step_past, seen_at, seen_with, extent, Last, Item, Shape, Known, LitExtent, Nothing, Between, Seen, all_append, listed_at, PartialEntry, lit_points, HoldsAll, IsLeast, MadeEntry, IsDone, keyed_context, entry_of, AllFine, IsPartial, Passes, Extends, AreTails, IsFinished, rules, Contains-append_cases, ℤ, neg_ℤ, Short, IsBox, PlaceKnown, ScaleKnown, Anywhere, all_left, all_right, seen_by, moved, known_at_end, known_over, place_over, IsFine, IsTail, EndsBy, EndsByOne}
+use Rattle.std.proofs.Common.{◌≤ℤ◌}
 use Rattle.dvg_check.proofs.TailLaws.{seen_over, seen_by_over, over_none}
-use Rattle.dvg_make.specs.Private.Partial.{IsFine, IsTail, EndsBy, EndsByOne}
 use Rattle.dvg_make.proofs.Ends.{made_ends, ends_made}
 use Rattle.dvg_make.proofs.Onward.{Walking}
 use Rattle.dvg_make.proofs.Growing.{made_grows}

@@ -1,11 +1,6 @@
 -- Who knows more before an item knows more after it, and lights no more.
-use Rattle.dvg_make.proofs.Common.{Machine, ◌≡◌, ◌≢◌, ℕ, zero, suc, ◌≤◌, unwrap_or, Option, Some, None, refl, sym, ap, subst, arith, ints, Window, Point, Instr, Labs, Halt, Jsrl, Rtsl, Jmpl, End, Rel, Abs, Lost, Entry, Key, At, Any, LitBox, Empty, Span, Item, Effect, Sets, Loses, Moves, scale_set, place_past, callee_words, depth_under, known_past, LitExtent, Nothing, Between, box_extent, extent_of, LitInWindow, IsInside, Known, KnowsMore}
-use Rattle.std.specs.Prelude.{ℤ, ◌≤ℤ◌}
-use Rattle.dvg_words.specs.Values.{DrawFields}
-use Rattle.dvg_words.specs.declared.instruction.Instr.TheVariants.{Draw as Draws}
-use Rattle.dvg_items.specs.Known.{draw_effect, stop_effect, effect_of, place_moved_by}
-use Rattle.dvg_items.specs.Lit.{draw_extent, PlaceKnown, ScaleKnown, LitInBox}
-use Rattle.dvg_make.specs.Private.Covering.{Loosens, LoosensPlace, Refines}
+use Rattle.dvg_make.proofs.Common.{Machine, ◌≡◌, ℕ, ◌≤◌, Option, Some, None, refl, sym, subst, arith, ints, Window, Instr, Labs, Halt, Jsrl, Rtsl, Jmpl, End, Rel, Abs, Lost, Entry, Key, LitBox, Empty, Span, Item, Effect, Sets, Loses, Moves, scale_set, place_past, known_past, LitExtent, Nothing, Between, box_extent, extent_of, LitInWindow, IsInside, Known, KnowsMore, ◌≤ℤ◌, DrawFields, Draws, effect_of, draw_extent, PlaceKnown, ScaleKnown, LitInBox, Loosens, LoosensPlace, Refines}
+use Rattle.std.specs.Prelude.{ℤ}
 
 -- ---- the entries that an item calls by the two lists
 

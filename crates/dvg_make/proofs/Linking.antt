@@ -1,8 +1,5 @@
 -- The shapes in the making, each of which calls or tail jumps to the next.
-use Rattle.dvg_make.proofs.Common.{◌≡◌, ℕ, List, [], ◌∷◌, ◌++◌, refl, sym, ap, ◌∙◌, subst, Rom, Entry, Key, Known, PartialEntry, ShapeAt, Reaches, keyed_context, shape_of, Extends, shapes}
-use Rattle.std.proofs.Common.{arith}
-use Rattle.dvg_make.specs.Accounts.{Precedes, IsLinked, last_shape}
-use Rattle.dvg_make.specs.Private.Making.{AreLinked}
+use Rattle.dvg_make.proofs.Common.{◌≡◌, ℕ, List, [], ◌∷◌, ◌++◌, refl, sym, ap, ◌∙◌, Rom, Entry, Key, Known, PartialEntry, ShapeAt, Reaches, keyed_context, shape_of, Extends, shapes, arith, Precedes, IsLinked, last_shape, AreLinked}
 use Rattle.dvg_make.proofs.Onward.{fine_taken}
 use Rattle.dvg_make.proofs.Growing.{known_grows, taken_grows}
 

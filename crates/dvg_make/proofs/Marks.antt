@@ -1,6 +1,5 @@
 -- The partial entries that begin at marks, and the tails that come of them.
-use Rattle.dvg_make.proofs.Common.{◌≡◌, ◌<◌, ℕ, List, [], ◌∷◌, ◌++◌, Option, Some, None, sym, subst, arith, Contains, IfSome, Rom, ADDRESS_END, IsKey, entry_at, Entry, Key, IsClaim, listed_at, PartialEntry, IsDone, ArePartial, start, IsFinished, AreTails}
-use Rattle.dvg_make.specs.Private.Partial.{IsTail}
+use Rattle.dvg_make.proofs.Common.{◌≡◌, ◌<◌, ℕ, List, [], ◌∷◌, ◌++◌, Option, Some, None, sym, subst, arith, Contains, IfSome, Rom, ADDRESS_END, IsKey, entry_at, Entry, Key, IsClaim, listed_at, PartialEntry, IsDone, ArePartial, start, IsFinished, AreTails, IsTail}
 use Rattle.dvg_make.proofs.Chains.{walks_push}
 use Rattle.dvg_make.proofs.Joining.{tails_more}
 use Rattle.dvg_make.proofs.Turns.{start_walk}

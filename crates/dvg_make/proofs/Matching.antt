@@ -1,8 +1,5 @@
 -- Two lists that have the same entries for what items call know the same after them.
-use Rattle.dvg_make.proofs.Common.{Machine, ◌≡◌, ℕ, List, [], ◌∷◌, ◌++◌, Option, Some, None, refl, sym, ap, ◌∙◌, Bool, true, false, if◌then◌else◌, Contains, IfSome, IfNone, Point, option_or, is_at, entry_at, IsRising, Entry, Key, Any, Context, target, callee_at, callee, scale_before, known_before, known_past, extent_of, relative_corners, seen_at, seen_with, Item, Shape, Known, lit_points, keyed_context}
-use Rattle.std.proofs.Common.{arith}
-use Rattle.dvg_cert.specs.Lookup.{named_entry, IsOnlyAt, HasNoneAt}
-use Rattle.dvg_cert.proofs.OnlyEntries.{found}
+use Rattle.dvg_make.proofs.Common.{Machine, ◌≡◌, ℕ, List, [], ◌∷◌, ◌++◌, Option, Some, None, refl, sym, ap, Contains, IfSome, IfNone, Point, option_or, is_at, entry_at, IsRising, Entry, Key, Any, Context, target, callee_at, callee, scale_before, known_before, known_past, extent_of, relative_corners, seen_at, seen_with, Item, Shape, Known, lit_points, keyed_context, arith, named_entry, IsOnlyAt, HasNoneAt, found}
 
 -- ---- what is known after items, in one record
 

@@ -1,6 +1,5 @@
 -- Two lists of made entries are one such list.
-use Rattle.dvg_make.proofs.Common.{◌≡◌, ℕ, zero, suc, List, [], ◌∷◌, ◌++◌, Option, Some, None, refl, ap, ◌∙◌, arith, ⊎_elim, Contains, option_or, Rom, entry_at, Entry, Key, Extends, IsMade, AllMade}
-use Rattle.std.proofs.lemmas.List.Elements.{Contains-append_cases}
+use Rattle.dvg_make.proofs.Common.{◌≡◌, ℕ, List, [], ◌∷◌, ◌++◌, Some, ap, ◌∙◌, arith, ⊎_elim, Contains, option_or, Rom, entry_at, Entry, Key, Extends, IsMade, AllMade, Contains-append_cases}
 use Rattle.dvg_make.proofs.Matching.{entry_at-append}
 use Rattle.dvg_make.proofs.Agreeing.{agree}
 use Rattle.dvg_make.proofs.Growing.{made_grows}

@@ -1,7 +1,5 @@
 -- A ROM, roots and frames have one made list at most.
-use Rattle.dvg_make.proofs.Common.{ℕ, List, ◌++◌, inl, inr, Contains, Rom, Entry, Key, HasEntry, IsAskedFor, FramesMade, HasCalls}
-use Rattle.std.proofs.Common.{arith}
-use Rattle.dvg_make.specs.Laws.{OneFramesMade}
+use Rattle.dvg_make.proofs.Common.{ℕ, List, ◌++◌, inl, inr, Contains, Rom, Entry, Key, HasEntry, IsAskedFor, FramesMade, HasCalls, arith, OneFramesMade}
 use Rattle.dvg_make.proofs.Merging.{extends_more, extends_second}
 use Rattle.dvg_make.proofs.OneList.{one_made_for}
 use Rattle.dvg_make.proofs.Framing.{calls_grow, calls_shrink}

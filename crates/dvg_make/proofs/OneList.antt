@@ -1,8 +1,5 @@
 -- A ROM and roots have one made list at most.
-use Rattle.dvg_make.proofs.Common.{◌≡◌, ℕ, zero, suc, ◌+◌, ◌<◌, ◌≤◌, List, [], ◌∷◌, Option, Some, None, refl, sym, ap, ◌∙◌, subst, arith, ⊎_elim, Contains, Rom, IsRising, entry_at, Entry, Key, MOST_WORDS, shape_context, target, callee_at, scale_before, Shape, HasEntry, Needs, MadeFor, listed_at}
-use Rattle.std.proofs.Common.{rules}
-use Rattle.dvg_cert.proofs.OnlyEntries.{not_before, before_next, before_later, rising_tail, first_or_later, later}
-use Rattle.dvg_make.specs.Laws.{OneMade}
+use Rattle.dvg_make.proofs.Common.{◌≡◌, ℕ, zero, suc, ◌+◌, ◌<◌, ◌≤◌, List, [], ◌∷◌, Option, Some, refl, sym, ap, ◌∙◌, subst, arith, ⊎_elim, Contains, Rom, IsRising, entry_at, Entry, Key, MOST_WORDS, shape_context, target, callee_at, scale_before, Shape, HasEntry, Needs, MadeFor, listed_at, rules, not_before, before_next, before_later, rising_tail, first_or_later, later, OneMade}
 use Rattle.dvg_make.proofs.Matching.{Gathered, gathered_same, exact_named, found_listed}
 use Rattle.dvg_make.proofs.Ends.{callee_less}
 use Rattle.dvg_make.proofs.Agreeing.{agree, matched_made}

@@ -1,16 +1,7 @@
 -- A shape in the making, item by item.
-use Rattle.dvg_make.proofs.Common.{Machine, ◌≡◌, ℕ, ◌<◌, ◌≤◌, List, [], ◌∷◌, ◌++◌, Option, Some, None, refl, sym, ap, ◌∙◌, subst, arith, Contains, IfSome, AllByRecursion, cell_at, InstrFits, Rom, rom_word, Holds, Format, Instr, Labs, Halt, Jsrl, Rtsl, Jmpl, IsEntry, Entry, Key, MOST_DEPTH, MOST_WORDS, next_address, LeadsTo, Context, shape_context, target, callee_at, callee, scale_before, words_before, depth_before, known_before, seen_at, seen_with, IsClaim, Item, Shape, Known, Seen, ADDRESS_END, LitBox, Last, step_past, relative_corners, PartialEntry, lit_points, IsLeast, HasEntry, IsMade, AllMade, Obstacle, ShapeAt, EntryCause, Reaches, keyed_context, entry_of, shape_of, IsStraight, Passes, AllFine, IsPartial, Extends, IsFinished, IsWaiting, IsStopped, listed_at}
-use Rattle.std.proofs.Common.{rules}
-use Rattle.dvg_words.specs.declared.instruction.Instr.TheVariants.{Draw as Draws}
-use Rattle.dvg_items.specs.Bounds.{IsSoundStep}
-use Rattle.dvg_items.proofs.Lists.{at_place}
+use Rattle.dvg_make.proofs.Common.{Machine, ◌≡◌, ℕ, ◌<◌, ◌≤◌, List, [], ◌∷◌, Option, Some, None, refl, sym, ap, ◌∙◌, subst, arith, Contains, IfSome, AllByRecursion, cell_at, InstrFits, Rom, rom_word, Holds, Format, Instr, IsEntry, Entry, Key, MOST_DEPTH, MOST_WORDS, next_address, LeadsTo, Context, shape_context, target, callee_at, callee, scale_before, words_before, depth_before, known_before, seen_at, seen_with, IsClaim, Item, Shape, Known, Seen, ADDRESS_END, LitBox, Last, step_past, relative_corners, PartialEntry, lit_points, HasEntry, IsMade, AllMade, Obstacle, ShapeAt, EntryCause, Reaches, keyed_context, entry_of, shape_of, Passes, AllFine, IsPartial, Extends, IsFinished, IsWaiting, IsStopped, listed_at, rules, IsSoundStep, at_place, Cursor, Step, Onward, AllTaken, SaysOf, CauseAt, IsAsked, KnowsAt, NeverAt, IsCallee, LacksCallee, IsAbsent}
 use Rattle.dvg_items.proofs.Stepping.{leads_on, ends_at}
-use Rattle.dvg_items.specs.declared.cursor.Cursor.{Cursor}
-use Rattle.dvg_items.specs.declared.cursor.Step.{Step}
-use Rattle.dvg_items.specs.declared.cursor.Step.TheVariants.{Onward}
-use Rattle.dvg_make.specs.Accounts.{AllTaken, SaysOf, SaysAt, CauseAt}
 use Rattle.dvg_make.specs.declared.account.EntryCause.TheVariants as cause
-use Rattle.dvg_make.specs.Private.Partial.{IsAsked, KnowsAt, NeverAt, IsCallee, LacksCallee, IsAbsent}
 use Rattle.dvg_make.proofs.Matching.{SameAt, Matched, exact_named, seen_matched}
 use Rattle.dvg_make.proofs.Ends.{Allows, allows_at, stands_at, ends_made}
 

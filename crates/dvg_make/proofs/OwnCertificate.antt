@@ -1,25 +1,12 @@
 -- A frame judged by the certificate that is made for it.
-use Rattle.dvg_make.proofs.Common.{Machine, Board, ◌≡◌, ℕ, zero, suc, ◌≤◌, List, [], ◌∷◌, Option, None, Some, sym, subst, arith, slice_get, Result, Ok, Err, cell_at, Rom, frame_word, Window, Cell, Missing, Odd, Holds, Entry, frame_context, seen_at, Item, Seen, CellKeeps, GoodFrame, Exact, EntryFault, Unstraight, Deep, TooManyWords, TooManyEntries, Memory, FrameCall, FramesRefuse, FrameRefused}
-use Rattle.std.proofs.Common.{max}
-use Rattle.std.specs.Prelude.{IfOk}
-use Rattle.dvg_items.specs.declared.item.Kind.TheVariants.{Frame}
-use Rattle.dvg_check.specs.Rules.{FrameKeeps, AllKeep, FramePlaceKeeps}
+use Rattle.dvg_make.proofs.Common.{Machine, Board, ◌≡◌, ℕ, ◌≤◌, List, [], ◌∷◌, Option, None, Some, sym, subst, arith, slice_get, Result, Ok, Err, cell_at, Rom, frame_word, Window, Cell, Odd, Entry, frame_context, seen_at, Item, Seen, CellKeeps, GoodFrame, Exact, EntryFault, Unstraight, Deep, TooManyWords, TooManyEntries, Memory, FrameCall, FramesRefuse, FrameRefused, max, IfOk, Frame, FrameKeeps, AllKeep, FramePlaceKeeps, Safe, CountsAtHalt, SafeOnCircuit, CountsOnCircuit, FrameWhy, no_fault, no_shape_fault, one_count, FrameMade, BarsFrame, CallBarredAt, VerdictByMade, AreLeast, CheckMeans, checked, refusal_at, IsJudged, Shapes}
 use Rattle.dvg_check.specs.Verdict.{PartsVerdict}
-use Rattle.dvg_check.specs.Causes.{refusal_of, verdict_of}
+use Rattle.dvg_check.specs.Causes.{verdict_of}
 use Rattle.dvg_check.specs.declared.finding.RomFinding.{RomFinding}
-use Rattle.dvg_check.specs.Safety.{Safe, CountsAtHalt}
-use Rattle.dvg_check.specs.Circuit.{SafeOnCircuit, CountsOnCircuit}
 use Rattle.dvg_check.specs.declared.verdict.Yes.{Yes}
-use Rattle.dvg_check.specs.declared.fault.FrameWhy.{FrameWhy}
 use Rattle.dvg_check.specs.declared.fault.FrameWhy.TheVariants as frame
 use Rattle.dvg_check.specs.declared.verdict.Refusal.{Refusal}
 use Rattle.dvg_check.specs.declared.verdict.Refusal.TheVariants as refusal
-use Rattle.dvg_check.proofs.Faults.{no_fault, no_shape_fault, one_count}
-use Rattle.dvg_make.specs.Frames.{FrameMade}
-use Rattle.dvg_make.specs.Refusals.{BarsFrame, CallBarredAt}
-use Rattle.dvg_make.specs.Judging.{VerdictByMade, AreLeast, CheckMeans, checked, refusal_at}
-use Rattle.dvg_make.specs.Private.Judged.{IsJudged}
-use Rattle.dvg_check.specs.Judged.{Shapes}
 use Rattle.dvg_make.proofs.FrameBest.{none_better}
 
 -- ---- budgets

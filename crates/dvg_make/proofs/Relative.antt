@@ -1,9 +1,5 @@
 -- Where a made shape ends at a relative place, none of its items stands at an absolute one.
-use Rattle.dvg_make.proofs.Common.{ℕ, List, [], ◌∷◌, sym, ap, subst, Rom, rom_word, Window, End, Rel, Abs, Lost, Entry, Context, shape_context, place_past, place_before, LitInWindow, extent, Item, Shape, Effect, Sets, Loses, Moves, Known, LitExtent, GoodShape, Exact, MadeEntry}
-use Rattle.std.proofs.Common.{arith}
-use Rattle.dvg_items.specs.Items.{AtEachOf, AtEveryPlace}
-use Rattle.dvg_items.proofs.Leading.{everywhere}
-use Rattle.dvg_make.specs.Private.Judged.{IsRelative}
+use Rattle.dvg_make.proofs.Common.{ℕ, List, [], ◌∷◌, sym, ap, subst, Rom, rom_word, Window, End, Entry, Context, shape_context, place_past, place_before, LitInWindow, extent, Item, Shape, Effect, Known, LitExtent, GoodShape, Exact, MadeEntry, arith, AtEachOf, AtEveryPlace, everywhere, IsRelative}
 use Rattle.dvg_make.proofs.Ends.{made_ends}
 use Rattle.dvg_make.proofs.Windows.{good_entry}
 

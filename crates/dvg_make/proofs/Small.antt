@@ -1,25 +1,8 @@
 -- What the maker makes has only small numbers: on either machine a word moves the beam by 1024 screen places at most.
-use Rattle.dvg_words.specs.Values.{Source}
-use Rattle.std.proofs.Common.{rules}
-use Rattle.dvg_make.proofs.Common.{Machine, Board, ◌≡◌, ℕ, zero, suc, ◌+◌, ◌-◌, ◌<◌, ◌≤◌, List, [], ◌∷◌, Option, Some, None, refl, sym, ap, ◌∙◌, subst, arith, ints, AllByRecursion, Contains, IfSome, if◌then◌else◌, slice_get, cell_at, Rom, rom_word, Point, Cell, Holds, Format, Instr, Labs, Halt, Jsrl, Rtsl, Jmpl, IsKey, IsEntry, entry_at, End, Rel, Abs, Lost, Entry, Key, At, Any, LitBox, Empty, Span, MOST_DEPTH, MOST_WORDS, LeadsTo, Context, shape_context, target, callee_at, callee, callee_words, place_past, scale_before, place_before, words_before, depth_before, known_before, InBox, IsInside, box_extent, extent_of, relative_corners, extent, Item, Shape, Effect, Sets, Loses, Moves, Known, LitExtent, Nothing, Between, listed_at, all_append, word_count-some, lit_points, IsLeast, HasEntry, MadeEntry, keyed_context, entry_of, AllFine}
-use Rattle.dvg_words.specs.declared.machine.Machine.TheVariants.{Profile}
-use Rattle.std.proofs.Common.{ℤ, pos, negsuc, neg_ℤ, ◌*◌, ◌/◌, ◌%◌, ◌^◌, nat_le, ◌+ℤ◌, Bool, true, false}
-use Rattle.std.proofs.Math.IntN.{pos-*ℤ-pos, negsuc-*ℤ-pos}
+use Rattle.dvg_make.proofs.Common.{Source, rules, Machine, Board, ◌≡◌, ℕ, zero, suc, ◌+◌, ◌-◌, ◌<◌, ◌≤◌, List, [], ◌∷◌, Option, Some, None, refl, sym, ap, ◌∙◌, subst, arith, ints, AllByRecursion, Contains, IfSome, if◌then◌else◌, slice_get, cell_at, Rom, rom_word, Point, Cell, Holds, Format, Instr, Labs, Halt, Jsrl, Rtsl, Jmpl, IsKey, IsEntry, entry_at, End, Rel, Abs, Lost, Entry, Key, LitBox, Empty, Span, MOST_DEPTH, MOST_WORDS, LeadsTo, Context, shape_context, target, callee_at, callee, callee_words, place_past, scale_before, place_before, words_before, depth_before, known_before, InBox, IsInside, extent_of, relative_corners, extent, Item, Shape, Effect, Sets, Loses, Moves, Known, LitExtent, Nothing, Between, listed_at, all_append, word_count-some, lit_points, IsLeast, HasEntry, MadeEntry, keyed_context, entry_of, AllFine, Profile, ℤ, pos, negsuc, neg_ℤ, ◌*◌, ◌/◌, ◌%◌, nat_le, nat_tests, ◌≤ℤ◌, ◌*ℤ◌, ◌==◌, origin, shift, effective_scale, factor, rounded, axis_move, displacement, labs_place, IsWithin, opcode, is_long_opcode, labs_field, magnitude_and_sign, instruction_of, word_count, cell_holding, cell_of_words, cell_of_format, word_of_rom, DrawFields, Short, Long, Draws, IsEnd, IsBox, draw_effect, callee_effect, effect_of, place_moved_by, draw_extent, callee_extent, Anywhere, all_map}
+use Rattle.std.proofs.Common.{Bool, true, false}
 use Rattle.std.proofs.Math.Pow.{pow_mono}
-use Rattle.std.proofs.lemmas.Bool.Decides.{nat_tests}
 use Rattle.std.proofs.lemmas.Nat.{mul-le}
-use Rattle.std.specs.Prelude.{◌≤ℤ◌, ◌*ℤ◌, ◌==◌, ◌&&◌}
-use Rattle.dvg_words.specs.Beam.{origin, shift, effective_scale, factor, rounded, rounded_move, axis_move, displacement, labs_coordinate, labs_place, IsWithin}
-use Rattle.dvg_words.specs.Decoding.{opcode, is_long_opcode, target_of, is_plain_labs, labs_field, magnitude_and_sign, vctr_draw, svec_draw, instruction_of, word_count, cell_holding, cell_of_words, cell_of_format}
-use Rattle.dvg_words.specs.Memory.{word_of_rom}
-use Rattle.dvg_words.specs.Values.{DrawFields}
-use Rattle.dvg_words.specs.declared.instruction.Format.TheVariants.{Short, Long}
-use Rattle.dvg_words.specs.declared.instruction.Instr.TheVariants.{Draw as Draws}
-use Rattle.dvg_cert.specs.Entry.{IsEnd, IsBox}
-use Rattle.dvg_items.specs.Known.{draw_effect, stop_effect, callee_effect, effect_of, place_moved_by}
-use Rattle.dvg_items.specs.Lit.{draw_extent, callee_extent}
-use Rattle.dvg_items.specs.declared.lit.LitExtent.TheVariants.{Anywhere}
-use Rattle.dvg_items.proofs.Lists.{all_map}
 use Rattle.dvg_make.proofs.Matching.{exact_named}
 use Rattle.dvg_make.proofs.Ends.{callee_less, made_ends}
 

@@ -1,18 +1,10 @@
 -- Entries among pairs that are sorted by address and key rise.
-use Rattle.dvg_make.proofs.Common.{◌≡◌, ℕ, suc, ◌+◌, ◌<◌, ◌≤◌, List, [], ◌∷◌, length, sym, ap, ◌∙◌, subst, arith, ◌⊎◌, inl, inr, ⊎_elim, values_of, IsRising, Entry, Key, At, Any, IsKeyed}
-use Rattle.std.proofs.Common.{Bool, true, false, ◌&&◌, get_or}
-use Rattle.std.specs.Prelude.{nat_eq}
+use Rattle.dvg_make.proofs.Common.{◌≡◌, ℕ, suc, ◌+◌, ◌<◌, List, [], ◌∷◌, length, sym, ◌∙◌, subst, arith, ◌⊎◌, values_of, IsRising, Entry, Key, At, Any, IsKeyed, ◌&&◌, get_or, nat_eq, keys_of, cases_lt, nat_tests, same_key, KeyBefore, Before, IsOwn}
+use Rattle.std.proofs.Common.{Bool, false}
 use Rattle.std.specs.declared.cmp.Ordering.{Ordering}
-use Rattle.std.specs.declared.cmp.Ordering.TheVariants.{Less, Equal}
+use Rattle.std.specs.declared.cmp.Ordering.TheVariants.{Less}
 use Rattle.std.specs.Ordering.{nat_cmp, is_lt, ordering_then}
-use Rattle.std.specs.Cmp.{nat_cmp_is}
 use Rattle.std.specs.List.Sorted.{IsSorted}
-use Rattle.std.specs.Map.{keys_of}
-use Rattle.std.proofs.lemmas.Bool.{cases_lt}
-use Rattle.std.proofs.lemmas.Bool.Decides.{nat_tests}
-use Rattle.dvg_cert.specs.Lookup.{same_key}
-use Rattle.dvg_cert.specs.Order.{KeyBefore, Before}
-use Rattle.dvg_cert.specs.Private.Keyed.{IsOwn}
 
 -- the numbers in their order, then any
 pub record IsKeyOrder (cmp : Key → Key → Ordering) : Type 0 where

@@ -1,15 +1,8 @@
 -- The stack of shapes in the making, as pairs of an address and key with a shape.
-use Rattle.dvg_make.proofs.Common.{◌≡◌, ℕ, zero, suc, ◌+◌, ◌-◌, ◌<◌, List, [], ◌∷◌, ◌++◌, length, Option, Some, None, refl, sym, ap, ◌∙◌, subst, arith, inl, inr, IfSome, IfNone, values_of, Entry, Key, at_holds, pair_test, PartialEntry, entry_of, All, IsOwnPartial, IsMaking}
-use Rattle.std.proofs.Common.{rules}
-use Rattle.std.proofs.lemmas.Grind.{common_steps}
-use Rattle.std.proofs.Common.{Bool, true, false, cond, is_some, slice_get}
-use Rattle.std.specs.Map.{lookup}
-use Rattle.std.proofs.lemmas.List.Elements.{All-nil, All-cons, All-head, All-tail, All-push}
-use Rattle.std.specs.Prelude.{slice_range}
+use Rattle.dvg_make.proofs.Common.{◌≡◌, ℕ, zero, suc, ◌+◌, ◌-◌, ◌<◌, List, [], ◌∷◌, ◌++◌, length, Option, Some, None, refl, sym, ap, ◌∙◌, subst, arith, inl, inr, IfSome, IfNone, values_of, Entry, Key, at_holds, pair_test, PartialEntry, entry_of, All, IsOwnPartial, IsMaking, rules, common_steps, cond, is_some, lookup, All-nil, All-cons, All-head, All-tail, All-push, slice_range, at_means, pair_eq}
+use Rattle.std.proofs.Common.{Bool, true, false, slice_get}
 use Rattle.indexmap.specs.IndexMap.{set_value_at}
 use Rattle.indexmap.proofs.MapLemmas.{split_last}
-use Rattle.dvg_cert.proofs.OnlyEntries.{at_means}
-use Rattle.dvg_cert.proofs.Pairs.{pair_eq}
 
 abbrev Pairs : Type 0
 Pairs = List ((ℕ × Key) × PartialEntry)

@@ -1,11 +1,7 @@
 -- What is told where the making stops.
-use Rattle.dvg_make.proofs.Common.{◌≡◌, ℕ, zero, suc, ◌+◌, ◌<◌, ◌≤◌, List, [], ◌∷◌, ◌++◌, length, slice_get, Some, None, refl, sym, ap, ◌∙◌, subst, arith, inl, inr, length-append, Contains, Rom, IsKey, entry_at, Entry, Key, MOST_ENTRIES, Shape, Known, PartialEntry, Obstacle, ShapeAt, EntryCause, Reaches, start, shape_of, IsWaiting, IsStopped, shapes, IsMaking, Apart, InProgress, NotBegun}
-use Rattle.dvg_words.specs.Memory.{InRom}
-use Rattle.dvg_items.specs.declared.cursor.Cursor.{Cursor}
-use Rattle.dvg_items.specs.Known.{start as first_known}
+use Rattle.dvg_make.proofs.Common.{◌≡◌, ℕ, zero, suc, ◌+◌, ◌<◌, ◌≤◌, List, [], ◌∷◌, ◌++◌, length, slice_get, Some, None, refl, sym, ap, ◌∙◌, subst, arith, inl, inr, length-append, Contains, Rom, IsKey, entry_at, Entry, Key, MOST_ENTRIES, Known, PartialEntry, Obstacle, ShapeAt, EntryCause, Reaches, start, shape_of, IsWaiting, IsStopped, shapes, IsMaking, Apart, InProgress, NotBegun, InRom, Cursor, AreUnmade, CauseAt, Tells, asked_shape, AreLinked, TellsObstacle, IsNoRoot}
 use Rattle.dvg_make.specs.declared.account.EntryCause.TheVariants as cause
-use Rattle.dvg_make.specs.Accounts.{IsUnique, AreUnmade, last_shape, CauseAt, Tells}
-use Rattle.dvg_make.specs.Private.Making.{asked_shape, AreLinked, TellsObstacle, IsNoRoot}
+use Rattle.dvg_make.specs.Accounts.{IsUnique}
 use Rattle.dvg_make.proofs.Onward.{reached}
 use Rattle.dvg_make.proofs.Linking.{links_push, last_push, are_moved}
 use Rattle.dvg_make.proofs.Turns.{calls_it, apart_moved}

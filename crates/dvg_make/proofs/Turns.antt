@@ -1,12 +1,7 @@
 -- What begins, and what each turn gives.
-use Rattle.dvg_make.proofs.Common.{◌≡◌, ℕ, ◌+◌, ◌<◌, ◌≤◌, List, [], ◌∷◌, ◌++◌, length, Some, None, refl, sym, ap, ◌∙◌, subst, arith, inl, inr, ⊎_elim, length-append, Result, Ok, Err, false, ints, Rom, rom_word, IsKey, entry_at, Entry, Key, LeadsTo, Shape, Known, ADDRESS_END, MOST_ENTRIES, MOST_WORDS, PartialEntry, HasEntry, start, IsPartial, IsWaiting, IsMaking, Apart, IsPresent, IsCalled, Chain, IsAim, NoAim, Bars, IsDone, NotBegun, InProgress, EntryCause, shape_of, listed_at}
+use Rattle.dvg_make.proofs.Common.{◌≡◌, ℕ, ◌+◌, ◌<◌, ◌≤◌, List, [], ◌∷◌, ◌++◌, length, None, refl, sym, ap, ◌∙◌, subst, arith, inl, inr, length-append, Result, false, Rom, rom_word, IsKey, entry_at, Entry, Key, ADDRESS_END, MOST_ENTRIES, MOST_WORDS, PartialEntry, HasEntry, start, IsPartial, IsWaiting, IsMaking, Apart, IsPresent, IsCalled, Chain, IsAim, NoAim, Bars, IsDone, NotBegun, InProgress, EntryCause, shape_of, listed_at, OnOk, IfErr, IsErrAnd, EntryFault, Unstraight, Deep, TooManyWords, TooManyEntries, Memory, AllCalled, IsBegun, CallsAt, Precedes, entry_fault}
 use Rattle.std.proofs.Common.{slice_get}
-use Rattle.std.specs.Prelude.{OnOk, IfErr, IsErrAnd}
 use Rattle.std.specs.Result.{is_err}
-use Rattle.dvg_make.specs.declared.fault.EntryFault.{EntryFault}
-use Rattle.dvg_make.specs.declared.fault.EntryFault.TheVariants.{Unstraight, Deep, TooManyWords, TooManyEntries, Memory}
-use Rattle.dvg_make.specs.Private.Making.{AllCalled, IsBegun}
-use Rattle.dvg_make.specs.Accounts.{CallsAt, Precedes, entry_fault}
 use Rattle.dvg_make.specs.declared.account.EntryCause.TheVariants as cause
 use Rattle.dvg_make.proofs.InMaking.{making_slice}
 use Rattle.dvg_make.proofs.Linking.{are_moved, are_pushed}

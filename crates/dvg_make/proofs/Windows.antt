@@ -1,11 +1,7 @@
 -- A made list is good where nothing that is lit at an absolute place leaves the window.
-use Rattle.dvg_make.proofs.Common.{Machine, ◌≡◌, ◌≢◌, ℕ, List, refl, sym, subst, ◌⊎◌, inl, inr, ⊎_elim, Contains, cell_at, Rom, rom_word, Window, Cell, Missing, Odd, Holds, Entry, shape_context, seen_at, ShapeKeeps, CellKeeps, Good, GoodShape, Bound, Exact, ShapeWhy, Item, Seen, EachItem, MadeEntry, in_bound}
-use Rattle.std.proofs.Common.{rules}
-use Rattle.std.proofs.Common.{arith}
-use Rattle.dvg_check.specs.Rules.{ShapePlaceKeeps}
+use Rattle.dvg_make.proofs.Common.{Machine, ◌≡◌, ◌≢◌, ℕ, List, refl, sym, subst, ◌⊎◌, ⊎_elim, Contains, cell_at, Rom, rom_word, Window, Cell, Missing, Odd, Holds, Entry, shape_context, seen_at, ShapeKeeps, CellKeeps, Good, GoodShape, Bound, Exact, ShapeWhy, Item, EachItem, MadeEntry, in_bound, arith, ShapePlaceKeeps, AllInWindow, GoodInWindow, ItemInWindow}
 use Rattle.dvg_check.specs.declared.fault.Mode.{Mode}
 use Rattle.dvg_check.specs.declared.fault.ShapeWhy.TheVariants as shape
-use Rattle.dvg_make.specs.Laws.{AllInWindow, GoodInWindow, ItemInWindow}
 
 is_off_screen : (why : ShapeWhy) → (why ≡ shape.OffScreen) ⊎ (why ≢ shape.OffScreen)
 is_off_screen why = grind (arith)

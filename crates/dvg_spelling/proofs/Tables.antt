@@ -1,9 +1,5 @@
 -- The lines of a table, one after another.
-use Rattle.std.proofs.Common.{◌≡◌, ℕ, suc, ◌<◌, List, [], ◌∷◌, ◌++◌, length, take, get_or, sym, ap, ◌∙◌, arith}
-use Rattle.std.proofs.Common.{rules}
-use Rattle.std.proofs.lemmas.Grind.{common_steps}
-use Rattle.std.proofs.Math.Seq.{take-suc}
-use Rattle.dvg_spelling.specs.Rules.{row_text, rows_text}
+use Rattle.dvg_spelling.proofs.Common.{◌≡◌, ℕ, suc, ◌<◌, List, [], ◌∷◌, ◌++◌, length, take, get_or, arith, rules, common_steps, take-suc, row_text, rows_text}
 use Rattle.dvg_spelling.specs.declared.rules.Rule.{Rule}
 
 behind : (xs ys zs : List ℕ) → (xs ++ ys) ++ zs ≡ xs ++ (ys ++ zs)

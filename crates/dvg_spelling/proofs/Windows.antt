@@ -1,12 +1,8 @@
 -- How the text of a window is cut at its commas.
-use Rattle.std.proofs.Common.{◌≡◌, ◌≢◌, ℕ, ◌<◌, ◌≤◌, List, [], ◌∷◌, ◌++◌, length, get_or, Option, Some, None, Bor, refl, sym, subst, arith, ◌∙◌, ℤ, pos, negsuc, rules}
-use Rattle.std.specs.Prelude.{decimal, nat_abs, ◌≤ℤ◌, MatchOption, IfNone}
-use Rattle.std.specs.Fmt.{signed_decimal}
-use Rattle.std.proofs.lemmas.Int.{ints}
-use Rattle.std.specs.List.{join_with_byte}
+use Rattle.dvg_spelling.proofs.Common.{◌≡◌, ◌≢◌, ℕ, ◌<◌, ◌≤◌, List, [], ◌∷◌, ◌++◌, length, get_or, Option, Some, None, Bor, refl, sym, subst, arith, ◌∙◌, ℤ, pos, negsuc, rules, decimal, ◌≤ℤ◌, IfNone, signed_decimal, ints, join_with_byte, Window, IsWindow}
+use Rattle.std.specs.Prelude.{nat_abs, MatchOption}
 use Rattle.std.proofs.lemmas.Str.Parse.{not_in_digits}
 use Rattle.std.proofs.lemmas.Str.Pattern.{split_after, IsSplitOnceResult}
-use Rattle.dvg_words.specs.Values.{Window, IsWindow}
 use Rattle.dvg_text.proofs.Digits.{own, same_decimal}
 use Rattle.dvg_text.proofs.FieldValues.{first_digit}
 use Rattle.dvg_text.proofs.Leading.{same_number}

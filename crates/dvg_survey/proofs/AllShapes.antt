@@ -1,9 +1,5 @@
 -- What the shapes of a list light at absolute places, entry after entry.
-use Rattle.dvg_survey.proofs.Common.{◌≡◌, ℕ, ◌+◌, ◌<◌, ◌≤◌, List, length, get_or, sym, ◌∙◌, subst, arith, ⊎_elim, cases_lt, Contains, Rom, rom_word, Entry, LitBox, Empty, Shape, shape_context, HoldsAll, absolute_points, InBox, all_map, IsJoined}
-use Rattle.std.proofs.lemmas.List.{get_or_default}
-use Rattle.dvg_items.specs.Lit.{IsInside}
-use Rattle.dvg_items.proofs.LeastBoxes.{in_wider}
-use Rattle.dvg_survey.specs.Calls.{IsExtent, IsShapesExtent, HoldsShape, HoldsShapes}
+use Rattle.dvg_survey.proofs.Common.{◌≡◌, ℕ, ◌+◌, ◌<◌, ◌≤◌, List, length, get_or, sym, ◌∙◌, subst, arith, ⊎_elim, cases_lt, Contains, Rom, rom_word, Entry, LitBox, Empty, Shape, shape_context, HoldsAll, absolute_points, InBox, all_map, IsJoined, get_or_default, IsInside, in_wider, IsExtent, IsShapesExtent, HoldsShape, HoldsShapes}
 use Rattle.dvg_survey.proofs.AllItems.{one_all}
 
 module _ (rom : Rom) (list : List Entry) where

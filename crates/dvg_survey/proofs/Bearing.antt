@@ -1,9 +1,5 @@
 -- Which call of a shape bears out its entry's depth, and calls that do one below another.
-use Rattle.dvg_survey.proofs.Common.{◌≡◌, ℕ, suc, ◌+◌, ◌-◌, ◌<◌, ◌≤◌, List, [], ◌∷◌, ◌++◌, Option, None, Some, refl, sym, ap, ◌∙◌, subst, arith, AllByRecursion, Contains, Rom, rom_word, cell_at, Holds, Entry, Cursor, Item, Shape, Seen, IsClaim, IsSomeCertificate, Context, callee, scale_before, shape_context, target, listed_claim, all_append, Call, AreAll, call_of, calls_among, IsShapeCall, IsSeenAt}
-use Rattle.std.proofs.Common.{append_assoc}
-use Rattle.std.proofs.lemmas.List.{append-nil}
-use Rattle.dvg_items.specs.Known.{depth_under}
-use Rattle.dvg_items.proofs.Listed.{named_listed}
+use Rattle.dvg_survey.proofs.Common.{◌≡◌, ℕ, suc, ◌+◌, ◌-◌, ◌<◌, ◌≤◌, List, [], ◌∷◌, ◌++◌, Some, refl, sym, ap, ◌∙◌, subst, arith, AllByRecursion, Contains, Rom, rom_word, cell_at, Holds, Entry, Cursor, Item, Shape, Seen, IsClaim, IsSomeCertificate, Context, callee, scale_before, shape_context, target, listed_claim, all_append, Call, AreAll, call_of, calls_among, IsShapeCall, IsSeenAt, append_assoc, append-nil, depth_under, named_listed}
 use Rattle.dvg_survey.specs.Deepest.{BearsOut, BearsNot, FirstBears, GoDeepest}
 use Rattle.dvg_survey.proofs.Coming.{is_among}
 use Rattle.dvg_survey.proofs.Walking.{Walked, seen_is, here_leads, here_stands}

@@ -1,10 +1,5 @@
 -- What a frame comes to, link after link: each link is a step, and in the end no entry that the frame comes to is left out.
-use Rattle.dvg_survey.proofs.Common.{Source, ◌≡◌, ℕ, ◌<◌, ◌≤◌, List, [], ◌∷◌, ◌++◌, length, Option, Some, None, refl, sym, ap, ◌∙◌, subst, arith, ⊎_elim, cases_lt, AllByRecursion, IfSome, Rom, Entry, Key, Any, entry_at, Item, Context, callee, callee_at, all_append, all_map, listed_at, Call, Stand, AreAll, call_of, calls_among, Link, AllSteps, IsBackward, IsStep, reach, reach_all}
-use Rattle.std.proofs.Common.{rules}
-use Rattle.std.proofs.lemmas.Grind.{common_steps}
-use Rattle.std.specs.Option.{option_or}
-use Rattle.dvg_items.proofs.Lists.{all_left, all_right}
-use Rattle.dvg_survey.specs.Chains.{Calls}
+use Rattle.dvg_survey.proofs.Common.{Source, ◌≡◌, ℕ, ◌<◌, ◌≤◌, List, [], ◌∷◌, ◌++◌, length, Option, Some, arith, ⊎_elim, cases_lt, AllByRecursion, IfSome, Rom, Entry, Key, Any, entry_at, Item, Context, callee, callee_at, all_append, all_map, listed_at, Call, Stand, AreAll, call_of, calls_among, Link, AllSteps, IsBackward, IsStep, reach, reach_all, rules, common_steps, option_or, all_left, all_right, Calls}
 use Rattle.dvg_survey.proofs.AllItems.{stand_before, same_stand, no_more}
 use Rattle.dvg_survey.proofs.Linking.{at_or_new, at_still, reach_keeps}
 

@@ -1,16 +1,5 @@
 -- No entry that a frame comes to is left out.
-use Rattle.dvg_words.specs.declared.machine.Machine.{Machine}
-use Rattle.dvg_survey.proofs.Common.{Source, ◌≡◌, ℕ, zero, suc, ◌+◌, ◌<◌, ◌≤◌, Bool, true, false, List, [], ◌∷◌, ◌++◌, length, Option, Some, None, is_some, if◌then◌else◌, refl, sym, ap, ◌∙◌, subst, arith, ⊎_elim, cases_lt, All, AllByRecursion, Contains, slice_get, Rom, rom_word, Entry, entry_at, Context, shape_context, all_map, IsClaim, IsSomeCertificate, listed_at, listed_claim, Call, IsShapeCall, LeadsOn, IsChain, Link, AllSteps, IsBackward, IsStep, entries_of, reach, reach_all, KeyedWord, AreNone, HasWord}
-use Rattle.std.proofs.lemmas.Option.{slice_get_within}
-use Rattle.std.proofs.lemmas.List.Elements.{All-nil, All-cons}
-use Rattle.dvg_words.specs.Memory.{frame_word}
-use Rattle.dvg_cert.specs.Lookup.{is_at}
-use Rattle.dvg_items.specs.Known.{frame_context}
-use Rattle.dvg_survey.specs.Calls.{AreCalls}
-use Rattle.dvg_survey.specs.Chains.{Calls, IsFrameCall}
-use Rattle.dvg_survey.specs.Private.Reaching.{IsReachedByFrame, IsReachedByShape}
-use Rattle.dvg_survey.specs.Private.Visiting.{CallsFrom, IsMet, AreNewCalls}
-use Rattle.dvg_survey.specs.Survey.{FrameSurvey, IsSurvey}
+use Rattle.dvg_survey.proofs.Common.{Machine, Source, ◌≡◌, ℕ, zero, suc, ◌+◌, ◌<◌, ◌≤◌, Bool, true, false, List, [], ◌∷◌, ◌++◌, length, Option, Some, None, is_some, if◌then◌else◌, refl, sym, ap, ◌∙◌, subst, arith, ⊎_elim, cases_lt, All, AllByRecursion, Contains, slice_get, Rom, rom_word, Entry, entry_at, Context, shape_context, all_map, IsClaim, IsSomeCertificate, listed_at, listed_claim, Call, IsShapeCall, LeadsOn, IsChain, Link, AllSteps, IsBackward, IsStep, entries_of, reach, reach_all, KeyedWord, AreNone, HasWord, slice_get_within, All-nil, frame_word, frame_context, AreCalls, Calls, IsFrameCall, IsReachedByFrame, IsReachedByShape, CallsFrom, IsMet, AreNewCalls, FrameSurvey, IsSurvey}
 use Rattle.dvg_survey.proofs.Linking.{at_self, at_still, reach_keeps}
 use Rattle.dvg_survey.proofs.Coming.{calls_hold, is_among, named_self, step_named, reach_steps, reach_still, all_steps, all_back}
 use Rattle.dvg_survey.proofs.Visiting.{of_each}

@@ -1,11 +1,5 @@
 -- The names of links, and one link more.
-use Rattle.dvg_survey.proofs.Common.{◌≡◌, ◌≢◌, ℕ, zero, suc, ◌+◌, ◌<◌, Bool, true, false, List, [], ◌∷◌, ◌++◌, take, get_or, length, Option, Some, None, is_some, if◌then◌else◌, refl, sym, ap, ◌∙◌, subst, arith, ◌⊎◌, inl, inr, ⊎_elim, slice_get, IsKey, Entry, Key, At, Any, entry_at, listed_at, Call, KeyedWord, word_number, is_marked, with_word, AreNone, Link, entries_of, reach, reach_all}
-use Rattle.std.proofs.Common.{rules}
-use Rattle.std.proofs.Common.{◌||◌}
-use Rattle.std.proofs.lemmas.Bool.Decides.{nat_tests}
-use Rattle.std.specs.Prelude.{◌==◌}
-use Rattle.dvg_cert.specs.Lookup.{is_at, same_key}
-use Rattle.dvg_survey.specs.Private.Reaching.{AreNames, name_of}
+use Rattle.dvg_survey.proofs.Common.{◌≡◌, ℕ, zero, suc, ◌+◌, ◌<◌, Bool, true, List, [], ◌∷◌, ◌++◌, take, get_or, length, Option, Some, is_some, refl, sym, ap, ◌∙◌, arith, ◌⊎◌, inl, inr, ⊎_elim, slice_get, IsKey, Entry, Key, At, Any, entry_at, listed_at, Call, word_number, is_marked, with_word, AreNone, Link, entries_of, reach, reach_all, rules, ◌||◌, nat_tests, is_at, same_key, AreNames, name_of}
 use Rattle.dvg_survey.proofs.Marks.{here_among, others_among, here_or_other}
 
 same_key_self : (k : Key) → same_key k k ≡ true

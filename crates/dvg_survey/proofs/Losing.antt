@@ -1,9 +1,5 @@
 -- Where no items lead.
-use Rattle.dvg_survey.proofs.Common.{◌≡◌, ℕ, List, ◌∷◌, length, None, refl, sym, arith, ⊎_elim, cases_lt, Source, cell_at, Holds, Item, LeadsTo, next_address, AreAll}
-use Rattle.dvg_items.specs.declared.item.Kind.{Kind}
-use Rattle.dvg_items.specs.Items.{AtEachOf}
-use Rattle.dvg_items.proofs.Leading.{same_lead, shorter, everywhere}
-use Rattle.dvg_survey.specs.Losses.{NoneLead}
+use Rattle.dvg_survey.proofs.Common.{◌≡◌, ℕ, List, ◌∷◌, length, None, refl, arith, cases_lt, Source, cell_at, Holds, Item, LeadsTo, next_address, AreAll, Kind, AtEachOf, same_lead, shorter, everywhere, NoneLead}
 use Rattle.dvg_survey.proofs.AllItems.{stand_before, no_more}
 
 -- none of these items stands at this word address

@@ -1,9 +1,5 @@
 -- KeyedWords and their numbers, and sets of them.
-use Rattle.dvg_survey.proofs.Common.{◌≡◌, ◌≢◌, ℕ, zero, suc, ◌<◌, List, Bool, true, false, length, get_or, refl, sym, ap, ◌∙◌, arith, ◌⊎◌, inl, inr, ⊎_elim, cases_lt, ADDRESS_END, IsKey, Key, At, Any, KeyedWord, word_number, is_marked, with_word, AreNone, HasWord}
-use Rattle.std.proofs.Common.{replicate}
-use Rattle.std.proofs.lemmas.List.{get_or-set_same, get_or-set_other}
-use Rattle.dvg_check.specs.Passing.{key_number}
-use Rattle.dvg_survey.specs.Private.KeyedWords.{MOST_KEYED_WORDS}
+use Rattle.dvg_survey.proofs.Common.{◌≡◌, ◌≢◌, ℕ, zero, suc, ◌<◌, List, Bool, true, false, length, get_or, refl, sym, ap, ◌∙◌, arith, ◌⊎◌, inl, inr, ⊎_elim, cases_lt, IsKey, Key, KeyedWord, word_number, is_marked, with_word, AreNone, HasWord, replicate, get_or-set_same, get_or-set_other, key_number}
 
 key_same : (k l : Key) → IsKey k → IsKey l → key_number k ≡ key_number l → k ≡ l
 key_same k l h g e = grind (arith)

@@ -1,11 +1,5 @@
 -- Whole places from which a distance leads no further than to a screen place, and those at which a box lies in the window.
-use Rattle.dvg_survey.proofs.Common.{◌≡◌, pos, ◌-ℤ◌, sym, subst, arith, int_div_euclid, End, Entry, LitBox, Span, LitExtent, Seen}
-use Rattle.std.proofs.Common.{ℤ, ◌+ℤ◌, ◌*ℤ◌, ◌≤ℤ◌, ◌↔◌}
-use Rattle.std.proofs.lemmas.Int.{ints}
-use Rattle.dvg_words.specs.Values.{Window}
-use Rattle.dvg_cert.specs.Entry.{IsBox}
-use Rattle.dvg_items.specs.Lit.{LitInWindow, box_extent}
-use Rattle.dvg_survey.specs.Places.{CallPlaces, HasPlace, IsCallAt, whole_place}
+use Rattle.dvg_survey.proofs.Common.{◌≡◌, pos, ◌-ℤ◌, arith, int_div_euclid, Entry, LitBox, Span, Seen, ℤ, ◌+ℤ◌, ◌*ℤ◌, ◌≤ℤ◌, ◌↔◌, ints, Window, IsBox, LitInWindow, box_extent, CallPlaces, HasPlace, IsCallAt, whole_place}
 
 pub quotient : (d : ℤ) → ((pos 1024 *ℤ int_div_euclid d (pos 1024)) ≤ℤ d) × (d ≤ℤ ((pos 1024 *ℤ int_div_euclid d (pos 1024)) +ℤ pos 1023))
 quotient d = grind (arith, ints)

@@ -1,8 +1,6 @@
 -- The test of equality tells whether entries are the same.
-use Rattle.dvg_survey.proofs.Common.{◌≡◌, refl, ap, Entry, Key, At, Any, End, Rel, Abs, Lost, LitBox, Empty, Span}
-use Rattle.std.proofs.Common.{arith}
+use Rattle.dvg_survey.proofs.Common.{◌≡◌, refl, ap, Entry, Key, At, Any, End, Rel, Abs, Lost, LitBox, Empty, Span, arith, Decides-and, Decides-eqb, Decides-int_eq, Decides-like}
 use Rattle.std.specs.Bool.{Decides}
-use Rattle.std.proofs.lemmas.Bool.Decides.{Decides-and, Decides-eqb, Decides-int_eq, Decides-like}
 use Rattle.dvg_cert.specs.contracts.entry.KeyPartialEq.TheImpl as key
 use Rattle.dvg_cert.specs.contracts.entry.EndPartialEq.TheImpl as end
 use Rattle.dvg_cert.specs.contracts.entry.LitBoxPartialEq.TheImpl as box

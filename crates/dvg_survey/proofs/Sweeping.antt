@@ -1,26 +1,11 @@
 -- The entries from which calls lead to a shape that lights outside the window, found sweep by sweep.
-use Rattle.dvg_survey.proofs.Common.{◌≡◌, ℕ, zero, suc, ◌+◌, ◌<◌, ◌≤◌, Bool, true, false, List, [], ◌∷◌, ◌++◌, length, get_or, take, Option, Some, None, refl, sym, ap, ◌∙◌, subst, arith, ◌⊎◌, inl, inr, ⊎_elim, cases_lt, Contains, IfSome, Rom, rom_word, cell_at, Holds, Entry, entry_at, Item, Shape, Cursor, LeadsTo, Context, shape_context, callee, scale_before, target, seen_at, IsSomeCertificate, listed_claim, Seen, Call, Stand, AreAll, LeadsOn, KeyedWord, with_word, word_number, AreNone, IsSeenAt}
-use Rattle.std.proofs.Common.{set}
-use Rattle.std.proofs.lemmas.List.{get_or_default}
+use Rattle.dvg_survey.proofs.Common.{◌≡◌, ℕ, zero, suc, ◌+◌, ◌<◌, ◌≤◌, Bool, true, false, List, [], ◌∷◌, ◌++◌, length, get_or, take, Option, Some, None, refl, sym, ap, ◌∙◌, subst, arith, ◌⊎◌, inl, inr, ⊎_elim, cases_lt, Contains, IfSome, Rom, rom_word, cell_at, Holds, Entry, entry_at, Item, Shape, Cursor, LeadsTo, Context, shape_context, callee, scale_before, target, seen_at, IsSomeCertificate, listed_claim, Seen, Call, Stand, AreAll, LeadsOn, KeyedWord, with_word, word_number, AreNone, IsSeenAt, set, get_or_default, Contains-append_left, Contains-push, Contains-push_cases, IfNone, IsPermutation, Window, Missing, Odd, IsOnlyAt, HasNoneAt, IsRising, place_before, extent, LitInWindow, named_listed, ShapeKeeps, CellKeeps, ShapePlaceKeeps, EntryPlaces, ArePlaces, AreAllPlaces, IsNotEmpty, ShapeKeepsWindow, is_broken, IsUnbroken, IsCleanItem, IsClean, IsFaulty, Breaks, AllBreak, IsSwept, TellsBroken}
 use Rattle.std.proofs.Math.Seq.{take-suc}
-use Rattle.std.proofs.lemmas.List.Elements.{Contains-append_left, Contains-push, Contains-push_cases}
 use Rattle.std.proofs.lemmas.List.Sorted.{Contains-permutation, IsPermutation-sym}
-use Rattle.std.specs.Prelude.{IfNone, IsPermutation}
-use Rattle.dvg_words.specs.Values.{Window}
 use Rattle.dvg_words.specs.declared.instruction.Cell.{Cell}
-use Rattle.dvg_words.specs.declared.instruction.Cell.TheVariants.{Missing, Odd}
-use Rattle.dvg_cert.specs.Lookup.{IsOnlyAt, HasNoneAt}
-use Rattle.dvg_cert.specs.Order.{IsRising}
 use Rattle.dvg_cert.proofs.OnlyEntries.{found}
-use Rattle.dvg_items.specs.Known.{place_before}
-use Rattle.dvg_items.specs.Seen.{extent}
-use Rattle.dvg_items.specs.Lit.{LitInWindow}
-use Rattle.dvg_items.proofs.Listed.{named_listed}
-use Rattle.dvg_check.specs.Rules.{ShapeKeeps, CellKeeps, ShapePlaceKeeps}
 use Rattle.dvg_check.specs.declared.fault.Mode.TheVariants.{Bound}
 use Rattle.dvg_check.specs.declared.fault.ShapeWhy.TheVariants as shape
-use Rattle.dvg_survey.specs.Places.{EntryPlaces, ArePlaces, AreAllPlaces, IsNotEmpty, ShapeKeepsWindow}
-use Rattle.dvg_survey.specs.Private.Sweeping.{is_broken, IsUnbroken, IsCleanItem, IsClean, IsFaulty, Breaks, AllBreak, IsSwept, TellsBroken}
 use Rattle.dvg_survey.proofs.AllItems.{stand_before, same_stand, no_more}
 use Rattle.dvg_survey.proofs.Marks.{here_or_other, others_among}
 use Rattle.dvg_survey.proofs.Walking.{Walked, seen_is, here_leads, here_stands}

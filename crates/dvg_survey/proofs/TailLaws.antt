@@ -1,20 +1,6 @@
 -- An item and what stands behind it light together what the shape from the item on lights.
-use Rattle.dvg_words.specs.declared.machine.Machine.{Machine}
-use Rattle.dvg_survey.proofs.Common.{◌≡◌, ℕ, pos, ◌+◌, ◌-◌, ◌<◌, ◌≤◌, List, [], ◌∷◌, ◌++◌, Option, Some, None, refl, sym, ap, ◌∙◌, subst, arith, cell_at, Rom, rom_word, Point, Holds, ADDRESS_END, End, Rel, Abs, Lost, Entry, Key, LitBox, Empty, LeadsTo, next_address, callee_at, target, HoldsAll, IsLeast, absolute_points, InBox, absolute_corners, relative_corners, seen_at, Cursor, Item, Shape, Known, Seen, IsJoined, all_append, Stand, AreAll, Lit, IsLitFrom, keyed, relative_part, absolute_part, Context}
-use Rattle.dvg_items.specs.Bounds.{IsNearPlace}
-use Rattle.dvg_items.specs.Cursor.{first_cursor}
-use Rattle.dvg_items.specs.Known.{known_before, known_past, start}
-use Rattle.dvg_items.specs.Least.{lit_points}
-use Rattle.dvg_items.specs.Lit.{extent_of}
-use Rattle.dvg_items.specs.Seen.{seen_with}
-use Rattle.dvg_items.proofs.Lists.{all_left, all_right}
-use Rattle.dvg_items.proofs.Near.{next_further}
-use Rattle.std.proofs.Common.{append_assoc}
-use Rattle.dvg_check.specs.Private.Judging.{seen_by}
-use Rattle.dvg_check.specs.Passing.{IsNearBox}
-use Rattle.dvg_check.specs.Private.Tails.{first_seen, known_over}
+use Rattle.dvg_survey.proofs.Common.{Machine, ◌≡◌, ℕ, pos, ◌+◌, ◌-◌, ◌<◌, ◌≤◌, List, [], ◌∷◌, ◌++◌, Option, Some, None, refl, sym, ap, ◌∙◌, subst, arith, cell_at, Rom, rom_word, Point, Holds, ADDRESS_END, End, Rel, Abs, Lost, Entry, Key, LitBox, Empty, LeadsTo, next_address, callee_at, target, HoldsAll, IsLeast, absolute_points, InBox, absolute_corners, relative_corners, seen_at, Cursor, Item, Shape, Known, Seen, IsJoined, all_append, Stand, AreAll, Lit, IsLitFrom, keyed, relative_part, absolute_part, Context, IsNearPlace, first_cursor, known_before, lit_points, seen_with, all_left, all_right, next_further, append_assoc, seen_by, IsNearBox, first_seen, known_over, IsNearBox-joined, IsNearBox-more, IsNearBox-moved}
 use Rattle.dvg_check.proofs.TailLaws.{seen_over, seen_by_over, over_none}
-use Rattle.dvg_check.proofs.TailSizes.{IsNearBox-joined, IsNearBox-more, IsNearBox-moved}
 use Rattle.dvg_survey.proofs.TailPoints.{relative_from, absolute_from, relative_from_both, absolute_from_both, relative_over, absolute_over, relative_least, absolute_least, both_least, and_none, relative_none, no_absolute}
 use Rattle.dvg_survey.proofs.Walking.{least_none}
 

@@ -1,16 +1,7 @@
 -- What is lit behind an item, from the points that a tail lights.
-use Rattle.dvg_survey.proofs.Common.{◌≡◌, List, [], ◌∷◌, ◌++◌, refl, sym, ap, subst, arith, Point, End, Rel, Abs, Lost, LitBox, Empty, Span, HoldsAll, IsLeast, LitExtent, InBox, absolute_corners, relative_corners, IsJoined, all_map, relative_part, absolute_part}
-use Rattle.std.proofs.Common.{rules}
-use Rattle.std.proofs.lemmas.Grind.{common_steps}
-use Rattle.std.proofs.lemmas.Int.{ints}
-use Rattle.std.specs.Prelude.{map, ◌-ℤ◌}
-use Rattle.dvg_words.specs.Beam.{origin, shift}
-use Rattle.dvg_items.specs.declared.lit.LitExtent.TheVariants.{Nothing, Between, Anywhere}
-use Rattle.dvg_items.specs.Lit.{IsInside, corners}
-use Rattle.dvg_items.proofs.LeastBoxes.{in_wider}
-use Rattle.dvg_items.proofs.Points.{origin_shift, shift_shift}
-use Rattle.dvg_check.specs.Passing.{moved}
-use Rattle.dvg_check.specs.Private.Tails.{place_over}
+use Rattle.dvg_survey.proofs.Common.{◌≡◌, List, [], ◌∷◌, ◌++◌, refl, ap, arith, Point, End, Rel, Abs, Lost, LitBox, Empty, Span, HoldsAll, IsLeast, LitExtent, InBox, absolute_corners, relative_corners, IsJoined, all_map, relative_part, absolute_part, rules, common_steps, ints, map, origin, shift, IsInside, corners, in_wider, origin_shift, shift_shift, moved, place_over}
+use Rattle.std.specs.Prelude.{◌-ℤ◌}
+use Rattle.dvg_items.specs.declared.lit.LitExtent.TheVariants.{Between}
 use Rattle.dvg_survey.proofs.Walking.{least_none}
 
 -- ---- points, seen from a place

@@ -1,8 +1,5 @@
 -- A chain followed back from a link to the frame.
-use Rattle.dvg_survey.proofs.Common.{◌≡◌, ℕ, ◌+◌, ◌<◌, List, [], ◌∷◌, ◌++◌, length, Option, None, Some, refl, sym, ap, ◌∙◌, subst, arith, slice_get, IfSome, Rom, Entry, Call, LeadsOn, IsChain, Link, AllSteps, IsBackward, IsStep}
-use Rattle.std.proofs.Common.{reverse}
-use Rattle.std.proofs.lemmas.List.{reverse-append}
-use Rattle.dvg_survey.specs.Private.Reaching.{IsTrace}
+use Rattle.dvg_survey.proofs.Common.{◌≡◌, ℕ, ◌+◌, ◌<◌, List, [], ◌∷◌, ◌++◌, length, Option, None, Some, refl, sym, ◌∙◌, subst, arith, slice_get, IfSome, Rom, Entry, Call, LeadsOn, IsChain, Link, AllSteps, IsBackward, IsStep, reverse, reverse-append, IsTrace}
 
 -- these calls lead from the link at an index, or where there is none from the frame, to the goal
 abbrev pub Leads : Rom → List ℕ → List Entry → List Link → Option ℕ → List Call → Entry → Type 0

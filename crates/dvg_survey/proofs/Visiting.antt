@@ -1,13 +1,5 @@
 -- A walk over a shape that stops where an earlier one came by: what is called from there on was met then.
-use Rattle.dvg_survey.proofs.Common.{◌≡◌, ℕ, ◌+◌, ◌<◌, ◌≤◌, List, [], ◌∷◌, ◌++◌, Option, Some, None, refl, sym, ap, ◌∙◌, subst, arith, ◌⊎◌, inl, inr, ⊎_elim, Bool, true, zero, suc, Contains, AllByRecursion, cell_at, Rom, rom_word, Holds, Entry, Key, IsKey, LeadsTo, next_address, callee_at, scale_before, shape_context, target, Item, Shape, Call, call_of, calls_among, IsShapeCall, keyed, KeyedWord, is_marked, with_word, HasWord}
-use Rattle.std.proofs.lemmas.List.Elements.{Contains-append_left, Contains-append_right}
-use Rattle.std.specs.Option.{unwrap_or}
-use Rattle.dvg_words.specs.declared.instruction.Format.{Format}
-use Rattle.dvg_words.specs.declared.instruction.Instr.{Instr}
-use Rattle.dvg_items.specs.Known.{scale_set}
-use Rattle.dvg_items.proofs.Leading.{item_same}
-use Rattle.dvg_items.proofs.Near.{next_further}
-use Rattle.dvg_survey.specs.Private.Visiting.{CallsFrom, IsMet, AllMet, AreNewCalls}
+use Rattle.dvg_survey.proofs.Common.{◌≡◌, ℕ, ◌+◌, ◌<◌, ◌≤◌, List, [], ◌∷◌, ◌++◌, Option, Some, None, refl, sym, ap, ◌∙◌, subst, arith, ◌⊎◌, inl, inr, ⊎_elim, Bool, true, zero, suc, Contains, AllByRecursion, cell_at, Rom, rom_word, Holds, Entry, Key, IsKey, LeadsTo, next_address, callee_at, scale_before, shape_context, target, Item, Shape, Call, call_of, calls_among, IsShapeCall, keyed, KeyedWord, is_marked, with_word, HasWord, Contains-append_left, Contains-append_right, unwrap_or, Format, Instr, scale_set, item_same, next_further, CallsFrom, IsMet, AllMet, AreNewCalls}
 use Rattle.dvg_survey.proofs.AllItems.{stand_before}
 use Rattle.dvg_survey.proofs.Coming.{calls_hold}
 use Rattle.dvg_survey.proofs.Marks.{there_or_here}

@@ -1,21 +1,8 @@
 -- What a walk over all items keeps, and what follows where it stops.
-use Rattle.dvg_survey.proofs.Common.{Source, ◌≡◌, ℕ, List, [], ◌∷◌, Option, Some, None, refl, sym, ap, ◌∙◌, ◌++◌, subst, cell_at, Point, Holds, LitBox, Empty, Item, Known, Seen, Cursor, LeadsTo, Context, callee_at, scale_before, target, seen_at, IsLeast, absolute_points, absolute_corners, Call, Stand, AreAll, call_of, calls_among, IsSeenAt}
-use Rattle.std.proofs.Common.{arith}
-use Rattle.std.specs.Prelude.{IfNone}
-use Rattle.dvg_words.specs.declared.instruction.Format.{Format}
-use Rattle.dvg_words.specs.declared.instruction.Instr.{Instr}
+use Rattle.dvg_survey.proofs.Common.{Source, ◌≡◌, ℕ, List, [], ◌∷◌, Option, Some, sym, ap, ◌∙◌, ◌++◌, subst, cell_at, Point, Holds, LitBox, Empty, Item, Known, Seen, Cursor, LeadsTo, Context, callee_at, scale_before, target, seen_at, IsLeast, absolute_points, absolute_corners, AreAll, call_of, calls_among, IsSeenAt, arith, IfNone, Format, Instr, known_before, seen_with, first_cursor, step_past, IsSoundCursor, IsSoundStep, leads_on, ends_at, FrameSurvey, IsSurveyAmong, place_loss, place_lost_by, scale_loss, scale_lost_by}
 use Rattle.dvg_items.specs.declared.cursor.Step.{Step}
 use Rattle.dvg_items.specs.declared.cursor.Step.TheVariants.{Onward, Last}
-use Rattle.dvg_items.specs.Known.{known_before, place_before}
-use Rattle.dvg_items.specs.Seen.{seen_with}
-use Rattle.dvg_items.specs.Cursor.{first_cursor, step_past}
-use Rattle.dvg_items.specs.Bounds.{IsSoundCursor, IsSoundStep}
-use Rattle.dvg_items.proofs.Stepping.{leads_on, ends_at}
-use Rattle.dvg_survey.specs.Clipping.{ClippedPast}
-use Rattle.dvg_survey.specs.Faint.{faint_among, faint_past}
-use Rattle.dvg_survey.specs.Survey.{FrameSurvey, IsSurveyAmong}
 use Rattle.dvg_survey.specs.Private.Surveying.{IsSurveyPast}
-use Rattle.dvg_survey.specs.Losses.{place_loss, place_lost_by, scale_loss, scale_lost_by}
 use Rattle.dvg_survey.proofs.AllItems.{stand_before}
 
 -- these items lead to where the walk stands, and what is known there is known of them

@@ -1,8 +1,7 @@
 -- Each text may stand, or has a first byte that cannot come.
-use Rattle.dvg_text.proofs.Common.{◌≡◌, ◌≢◌, ℕ, ◌+◌, ◌-◌, ◌<◌, ◌≤◌, Bool, true, false, List, [], ◌∷◌, ◌++◌, length, Option, Some, None, refl, sym, ap, subst, ◌∙◌, append_assoc, arith, inl, inr, ◌⊎◌, ◌==◌, nat_lt, bytes_eq, append-nil, length-append, eqb-true, nat_tests, bytes_eq-Decides, none-some, MemoryMap, asteroids, MOST_ENTRIES, LONGEST_LINE, LINE_FEED, Line, EntryLine, DoneLine, CertWhy, Form, Order, Count, Unended, After, TooLong, Memory, Entry, Key, At, Any, KeyBefore, Before, StandsAfter, first_version_line, second_version_line, done_line, begun_with, ended, text_of, IsLine, Taken, Nothing, Versioned, Begun, Whole, text_taken, line_number, Holds, MayStand, IsUnended, IsWrong, Meets, StopsAt, IsRefusal}
+use Rattle.dvg_text.proofs.Common.{◌≡◌, ◌≢◌, ℕ, ◌+◌, ◌-◌, ◌<◌, ◌≤◌, Bool, true, false, List, [], ◌∷◌, ◌++◌, length, Option, Some, None, refl, sym, ap, subst, ◌∙◌, append_assoc, arith, inl, inr, ◌⊎◌, ◌==◌, nat_lt, bytes_eq, append-nil, length-append, eqb-true, nat_tests, bytes_eq-Decides, none-some, MemoryMap, asteroids, MOST_ENTRIES, LONGEST_LINE, LINE_FEED, Line, EntryLine, DoneLine, CertWhy, Form, Order, Count, After, TooLong, Memory, Entry, Before, StandsAfter, first_version_line, second_version_line, done_line, begun_with, ended, text_of, IsLine, Taken, Nothing, Versioned, Begun, Whole, text_taken, line_number, Holds, MayStand, IsUnended, IsWrong, Meets, StopsAt, IsRefusal, certificate_push, no_entry_yet, small_map}
 use Rattle.dvg_text.proofs.Graphics.{Without-append}
 use Rattle.dvg_text.proofs.WholeLines.{said, line_takes, line_again}
-use Rattle.dvg_cert.proofs.Rising.{certificate_push, no_entry_yet, small_map}
 use Rattle.dvg_text.proofs.FirstLines.{first_taken, rom_taken, elsewhere_or}
 use Rattle.dvg_text.proofs.Refusals.{rest_of, rest_is, entry_taken, meets_long}
 use Rattle.dvg_text.proofs.OneAnswerLemmas.{stuck_stands}

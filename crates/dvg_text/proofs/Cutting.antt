@@ -1,8 +1,5 @@
 -- Cutting bytes at a byte.
-use Rattle.dvg_text.proofs.Common.{◌≡◌, ℕ, suc, ◌+◌, ◌<◌, ◌≤◌, Bool, true, false, cond, List, [], ◌∷◌, ◌++◌, length, take, drop, Option, Some, None, refl, sym, ap, subst, ◌∙◌, arith, ◌==◌, position, nat_lt, not, position_or_len, zero, add-one, append_assoc, eqb-true, take-append-drop, length-take-le, nat_tests, Without}
-use Rattle.std.proofs.Common.{rules}
-use Rattle.std.proofs.lemmas.Grind.{common_steps}
-use Rattle.std.specs.Prelude.{slice_index}
+use Rattle.dvg_text.proofs.Common.{◌≡◌, ℕ, suc, ◌+◌, ◌<◌, ◌≤◌, Bool, true, false, cond, List, [], ◌∷◌, ◌++◌, length, take, drop, Option, Some, None, refl, sym, ap, arith, ◌==◌, position, nat_lt, not, position_or_len, zero, add-one, append_assoc, eqb-true, take-append-drop, length-take-le, nat_tests, Without, rules, common_steps, slice_index}
 use Rattle.memchr.specs.Find.{IsFirstByte, is_byte}
 
 placed : (a n : ℕ) (i : ℕ) → cond (nat_lt a n) (Some a) None ≡ Some i → (a ≡ i) × (a < n)

@@ -1,9 +1,6 @@
 -- The number that digits in the bytes of a word write.
-use Rattle.dvg_text.proofs.Common.{◌≡◌, ℕ, zero, suc, ◌+◌, ◌-◌, ◌*◌, ◌/◌, ◌%◌, ◌^◌, ◌<◌, ◌≤◌, List, [], ◌∷◌, ◌++◌, map, replicate, length, length-append, take, drop, get_or, subst, get_or-drop, drop-cons, length-drop, refl, sym, ap, ◌∙◌, arith, digit_value, AllDigits, digits_value, take-take, length-take-le, get_or-take, length-replicate, digits_value_more, digit_value_digit, digit_from_value, digits_value_short, NoDigitFirst}
-use Rattle.std.proofs.Common.{rules}
-use Rattle.std.proofs.lemmas.Grind.{common_steps}
+use Rattle.dvg_text.proofs.Common.{◌≡◌, ℕ, zero, suc, ◌+◌, ◌-◌, ◌*◌, ◌/◌, ◌%◌, ◌^◌, ◌<◌, ◌≤◌, List, [], ◌∷◌, ◌++◌, map, replicate, length, length-append, take, drop, get_or, subst, get_or-drop, drop-cons, length-drop, refl, sym, ap, ◌∙◌, arith, digit_value, AllDigits, digits_value, take-take, length-take-le, get_or-take, length-replicate, digits_value_more, digit_value_digit, digit_from_value, digits_value_short, NoDigitFirst, rules, common_steps, and_block, and_mask}
 use Rattle.std.specs.List.{slice_index}
-use Rattle.std.proofs.lemmas.Nat.{and_block, and_mask}
 use Rattle.std.specs.Int.Bits.{bit_and}
 use Rattle.dvg_text.proofs.Digits.{own}
 

@@ -1,6 +1,5 @@
 -- A field that is read is the field that is spelled, and what is spelled is read again.
-use Rattle.dvg_text.proofs.Common.{◌≡◌, ℕ, suc, ◌+◌, ◌*◌, ◌/◌, ◌%◌, ◌^◌, ◌<◌, ◌≤◌, true, false, ◌&&◌, List, [], ◌∷◌, length, Option, Some, None, none-some, IfSome, IfNone, refl, sym, ap, subst, ◌∙◌, arith, codes, decimal, nat_le, nat_lt, pos, neg_ℤ, option_map, signed_decimal, digit_glyph, bytes_eq, digits_value, bytes_eq-Decides, nat_tests, cond_some, zero, ints, and_parts, decimal_is_IsNumeral, AllDigits, MOST_MAGNITUDE, ADDRESS_END, Key, At, Any, IsNumber, IsKey, address_token, key_token, natural_in, hex_value, address_in}
-use Rattle.std.proofs.Common.{rules}
+use Rattle.dvg_text.proofs.Common.{◌≡◌, ℕ, ◌+◌, ◌*◌, ◌/◌, ◌%◌, ◌^◌, ◌<◌, ◌≤◌, true, false, ◌&&◌, List, [], ◌∷◌, length, Option, Some, None, none-some, IfSome, IfNone, refl, sym, ap, subst, ◌∙◌, arith, codes, decimal, nat_le, nat_lt, pos, neg_ℤ, option_map, signed_decimal, digit_glyph, bytes_eq, digits_value, bytes_eq-Decides, nat_tests, cond_some, and_parts, decimal_is_IsNumeral, AllDigits, MOST_MAGNITUDE, ADDRESS_END, Key, IsNumber, IsKey, address_token, key_token, natural_in, hex_value, address_in, rules}
 use Rattle.dvg_text.proofs.NaturalNumbers.{natural_some}
 
 pub same_bytes : (xs ys : List ℕ) → bytes_eq xs ys ≡ true → xs ≡ ys

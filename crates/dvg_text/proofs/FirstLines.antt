@@ -1,11 +1,9 @@
 -- The lines before the entries: which map they say, and that they say one.
-use Rattle.dvg_text.proofs.Common.{◌≡◌, ◌≢◌, ℕ, ◌-◌, ◌≤◌, ◌⊎◌, inl, inr, Bool, true, false, if◌then◌else◌, List, [], ◌∷◌, ◌++◌, length, get_or, Option, Some, None, IfNone, refl, sym, ap, subst, ◌∙◌, arith, lit<, flat_map, ◌==◌, nat_le, codes, append-nil, and_parts, nat_tests, some_pair_parts, none-some, MemoryMap, IsMap, asteroids, is_asteroids, LINE_FEED, ADDRESS_END, SPACE, address_token, first_version_line, second_version_line, rom_line, heading, ended, begun_with, Without, IsElsewhere, rom_at, nothing_left, append_assoc, Entry, entry_line}
-use Rattle.dvg_words.specs.declared.map.TheConstants.{RAM_WORDS, ROM_FIRST, ROM_LAST, MEMORY_LAST}
+use Rattle.dvg_text.proofs.Common.{◌≡◌, ◌≢◌, ℕ, ◌-◌, ◌≤◌, ◌⊎◌, inl, inr, Bool, true, false, if◌then◌else◌, List, [], ◌∷◌, ◌++◌, length, get_or, Option, Some, None, IfNone, refl, sym, ap, subst, ◌∙◌, arith, lit<, flat_map, nat_le, codes, append-nil, and_parts, nat_tests, some_pair_parts, none-some, MemoryMap, IsMap, asteroids, is_asteroids, LINE_FEED, ADDRESS_END, SPACE, address_token, first_version_line, second_version_line, rom_line, heading, ended, begun_with, Without, IsElsewhere, rom_at, nothing_left, append_assoc, Entry, entry_line, flat_map-append}
 use Rattle.dvg_text.proofs.Leading.{Text}
 use Rattle.dvg_text.proofs.Graphics.{line_free, graphic_hex}
 use Rattle.dvg_text.proofs.Steps.{past_takes, past_again, address_found, address_spelled}
 use Rattle.dvg_text.proofs.WholeLines.{bind_then, all_taken}
-use Rattle.std.proofs.lemmas.List.Concat.{flat_map-append}
 
 pub asteroids_is : (m : MemoryMap) → is_asteroids m ≡ true → m ≡ asteroids
 asteroids_is m h = grind (arith, and_parts, asteroids, nat_tests)

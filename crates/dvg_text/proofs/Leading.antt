@@ -1,5 +1,5 @@
 -- The digits that bytes begin with.
-use Rattle.dvg_text.proofs.Common.{◌≡◌, ℕ, suc, ◌+◌, ◌^◌, ◌<◌, ◌≤◌, List, [], ◌∷◌, ◌++◌, length, take, drop, Some, None, refl, sym, ap, subst, ◌∙◌, arith, decimal, zero, get_or, drop-cons, drop_of_length-le, AllDigits, digits_value, append-nil, nil_from_length, take-append-drop, length-take-le, digit_from_value, MOST_MAGNITUDE, natural_in, NoDigitFirst}
+use Rattle.dvg_text.proofs.Common.{◌≡◌, ℕ, ◌+◌, ◌^◌, ◌<◌, ◌≤◌, List, [], ◌∷◌, ◌++◌, length, take, drop, Some, None, refl, sym, ap, subst, ◌∙◌, arith, decimal, get_or, drop-cons, drop_of_length-le, AllDigits, digits_value, append-nil, nil_from_length, take-append-drop, length-take-le, digit_from_value, MOST_MAGNITUDE, natural_in, NoDigitFirst}
 use Rattle.dvg_text.proofs.NaturalNumbers.{natural_some, natural_none}
 use Rattle.dvg_text.proofs.FieldValues.{first_digit}
 use Rattle.dvg_text.proofs.Digits.{same_decimal, spells, below, no_zero, not_long}

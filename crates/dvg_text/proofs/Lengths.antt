@@ -1,5 +1,5 @@
 -- How long a line is.
-use Rattle.dvg_text.proofs.Common.{◌≡◌, ℕ, suc, ◌+◌, ◌≤◌, List, [], ◌∷◌, ◌++◌, length, arith, w64, MOST_ENTRIES, SPACE, codes, decimal, ℤ, pos, negsuc, signed_decimal, join_with_byte, length-append, length-decimal-le, ints, Key, At, Any, End, Rel, Abs, Lost, LitBox, Empty, Span, Entry, IsNumber, IsKey, IsEnd, IsBox, IsEntry, key_token, end_tokens, box_tokens, entry_tokens, entry_line, done_line}
+use Rattle.dvg_text.proofs.Common.{◌≡◌, ℕ, suc, ◌+◌, ◌≤◌, List, [], ◌∷◌, ◌++◌, length, arith, w64, MOST_ENTRIES, SPACE, codes, decimal, ℤ, pos, negsuc, signed_decimal, join_with_byte, length-append, length-decimal-le, ints, Key, End, LitBox, Entry, IsNumber, IsKey, IsEnd, IsBox, IsEntry, key_token, end_tokens, box_tokens, entry_tokens, entry_line, done_line}
 use mir.Val.{SFits}
 
 -- the bytes of tokens, each with one more

@@ -1,9 +1,7 @@
 -- A text is cut into lines in one way, and says one thing.
-use Rattle.dvg_text.proofs.Common.{◌≡◌, ℕ, ◌<◌, ◌≤◌, List, [], ◌∷◌, ◌++◌, length, Bool, true, false, map, refl, sym, subst, ◌∙◌, append_assoc, arith, inl, inr, ◌⊎◌, AllByRecursion, length-append, nat_tests, MemoryMap, IsMap, MOST_ENTRIES, LONGEST_LINE, LINE_FEED, ADDRESS_END, Entry, IsEntry, IsCertificate, StandsAfter, entry_line, first_version_line, second_version_line, rom_line, heading, done_line, IsWrong, IsLine, IsElsewhere, Nothing, Versioned, Begun, Whole, Taken, Without, IsTaken, Line, EntryLine, DoneLine, CertWhy, Form, Order, Count, Unended, After, TooLong, Memory}
-use Rattle.dvg_cert.proofs.Rising.{small_map}
+use Rattle.dvg_text.proofs.Common.{◌≡◌, ℕ, ◌<◌, ◌≤◌, List, [], ◌∷◌, ◌++◌, length, Bool, true, false, map, refl, sym, subst, ◌∙◌, append_assoc, arith, inl, inr, ◌⊎◌, AllByRecursion, length-append, nat_tests, MemoryMap, IsMap, MOST_ENTRIES, LONGEST_LINE, LINE_FEED, ADDRESS_END, Entry, IsEntry, IsCertificate, StandsAfter, entry_line, first_version_line, second_version_line, rom_line, heading, done_line, IsWrong, IsLine, IsElsewhere, Nothing, Versioned, Begun, Whole, Taken, Without, IsTaken, Line, EntryLine, DoneLine, CertWhy, Form, Order, Count, Unended, After, TooLong, Memory, small_map, each_mid, rising_mid}
 use Rattle.dvg_text.proofs.FirstLines.{cons_parts, heads_once, first_of, second_of}
 use Rattle.dvg_text.proofs.WholeLines.{line_again}
-use Rattle.dvg_cert.proofs.ListParts.{each_mid, rising_mid}
 
 Text : Type 0
 Text = List ℕ

@@ -1,5 +1,5 @@
 -- The numbers of tokens, in both directions.
-use Rattle.dvg_text.proofs.Common.{◌≡◌, ℕ, ◌^◌, ◌<◌, ◌≤◌, Bool, true, false, cond, List, ◌&&◌, Some, None, refl, sym, ap, ◌∙◌, arith, decimal, nat_le, bytes_eq, digits_value, bytes_eq-Decides, decimal_is_IsNumeral, nat_tests, natural_in}
+use Rattle.dvg_text.proofs.Common.{◌≡◌, ℕ, ◌^◌, ◌<◌, ◌≤◌, List, Some, None, arith, decimal, nat_le, bytes_eq, digits_value, bytes_eq-Decides, decimal_is_IsNumeral, nat_tests, natural_in}
 
 pub natural_some : (low high n : ℕ) (token : List ℕ) → n < 2 ^ 64 → low ≤ n → n ≤ high → token ≡ decimal n → natural_in low high token ≡ Some n
 unfolding natural_in

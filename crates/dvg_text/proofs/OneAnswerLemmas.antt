@@ -1,13 +1,11 @@
 -- A text has one answer.
-use Rattle.dvg_text.proofs.Common.{◌≡◌, ◌≢◌, ℕ, ◌-◌, ◌<◌, ◌≤◌, List, [], ◌∷◌, ◌++◌, length, Bool, true, false, refl, sym, ap, subst, ◌∙◌, append_assoc, arith, lit<, inl, inr, ◌⊎◌, decimal, codes, flat_map, AllByRecursion, append-nil, length-append, nat_tests, MemoryMap, is_asteroids, MOST_ENTRIES, LONGEST_LINE, LINE_FEED, Entry, IsEntry, Certificate, IsCertificate, StandsAfter, entry_line, entry_tokens, heading, begun_with, text_of, ended, done_line, Spells, IsRefusal, EndsOpen, StopsAt, IsWrong, Nothing, Versioned, Begun, Whole, Taken, Without, text_taken, line_number, IsTaken, IsUnended, IsRest, Holds, Meets, EntryLine, DoneLine, CertWhy, Form, Order, Count, Unended, After, TooLong, Memory}
+use Rattle.dvg_text.proofs.Common.{◌≡◌, ◌≢◌, ℕ, ◌-◌, ◌<◌, ◌≤◌, List, [], ◌∷◌, ◌++◌, length, Bool, true, false, refl, sym, ap, subst, ◌∙◌, append_assoc, arith, lit<, inl, inr, ◌⊎◌, decimal, codes, flat_map, AllByRecursion, append-nil, length-append, nat_tests, MemoryMap, is_asteroids, MOST_ENTRIES, LONGEST_LINE, LINE_FEED, Entry, IsEntry, Certificate, IsCertificate, StandsAfter, entry_line, entry_tokens, heading, begun_with, text_of, ended, done_line, Spells, IsRefusal, EndsOpen, StopsAt, IsWrong, Nothing, Versioned, Begun, Whole, Taken, Without, text_taken, line_number, IsTaken, IsUnended, IsRest, Holds, Meets, EntryLine, DoneLine, CertWhy, Form, Order, Count, Unended, After, TooLong, Memory, small_map, each_mid}
 use Rattle.std.proofs.lemmas.Grind.{flat_map-append}
 use Rattle.std.proofs.lemmas.List.Folds.{flat_map-map}
 use Rattle.dvg_text.proofs.Graphics.{line_free, graphics_entry, graphic_decimal}
 use Rattle.dvg_text.proofs.Lengths.{length_entry, length_done}
-use Rattle.dvg_cert.proofs.Rising.{small_map}
-use Rattle.dvg_text.proofs.FirstLines.{heads, version_free, rom_free}
+use Rattle.dvg_text.proofs.FirstLines.{version_free, rom_free}
 use Rattle.dvg_text.proofs.LinesOfTexts.{only_form, cut_once, no_cut, lines_text, Fits, lines_prefix, behind, entry_lines, lines_of, lines_once, goes_on, wrong_goes, same_entry, not_both}
-use Rattle.dvg_cert.proofs.ListParts.{each_mid}
 
 done_free : (n : ℕ) → n ≤ MOST_ENTRIES → Without LINE_FEED (done_line n)
 done_free n h = line_free (codes "done" ∷ decimal n ∷ []) ((lit< tt, (lit< tt, (lit< tt, (lit< tt, tt)))), (graphic_decimal n (omega arith), tt))

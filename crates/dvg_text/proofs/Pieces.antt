@@ -1,6 +1,5 @@
 -- A piece that is refused, as the stream sees it.
-use Rattle.dvg_text.proofs.Common.{◌≡◌, ◌≢◌, ℕ, List, [], ◌++◌, Option, Some, None, Result, Ok, Err, refl, sym, subst, Unended, CertFault, Certificate, Taken, text_taken, IsRefusal, ReadAnswer, stream_of}
-use Rattle.std.proofs.Common.{arith}
+use Rattle.dvg_text.proofs.Common.{◌≡◌, ◌≢◌, ℕ, List, [], ◌++◌, Option, None, Result, Err, Unended, CertFault, Certificate, Taken, text_taken, IsRefusal, ReadAnswer, stream_of, arith}
 use Rattle.std.specs.Result.{IsErrAnd}
 use Rattle.dvg_text.specs.Stream.{Stream, Open, Refused, FeedsTo}
 use Rattle.dvg_text.proofs.TextLaws.{only_memory}

@@ -1,11 +1,6 @@
 -- A line put together token by token, and a text line by line.
-use Rattle.dvg_text.proofs.Common.{◌≡◌, true, false, ℕ, ◌+◌, ◌<◌, List, [], ◌∷◌, ◌++◌, length, get_or, take, drop, Option, Result, Ok, Err, refl, sym, ap, subst, ◌∙◌, append_assoc, arith, add-one, codes, decimal, OnErr, join_with_byte, flat_map, append-nil, length-append, take-append-le, take-append-drop, Appends, MemoryMap, is_asteroids, LINE_FEED, SPACE, Entry, entry_line, end_tokens, box_tokens, address_token, key_token, ended, begun_with, text_of, done_line, first_version_line, second_version_line, rom_line, heading, AppendsPrefix, spaced, Buffered, take-length, take-append-add}
-use Rattle.std.proofs.Common.{rules}
-use Rattle.std.proofs.lemmas.Grind.{common_steps}
-use Rattle.std.proofs.lemmas.List.Concat.{flat_map-append}
+use Rattle.dvg_text.proofs.Common.{◌≡◌, true, false, ℕ, ◌+◌, ◌<◌, List, [], ◌∷◌, ◌++◌, length, get_or, take, drop, Option, Result, refl, sym, ap, subst, ◌∙◌, append_assoc, arith, add-one, codes, decimal, OnErr, join_with_byte, flat_map, append-nil, length-append, take-append-le, take-append-drop, Appends, MemoryMap, is_asteroids, LINE_FEED, SPACE, Entry, entry_line, end_tokens, box_tokens, address_token, key_token, ended, begun_with, text_of, done_line, first_version_line, second_version_line, rom_line, heading, AppendsPrefix, spaced, Buffered, take-length, take-append-add, rules, common_steps, flat_map-append, Appends-nil, Appends-trans, cut_at}
 use Rattle.dvg_text.proofs.FirstLines.{begun_push, asteroids_is, first_taken, rom_taken}
-use Rattle.std.proofs.KnownBytes.{Appends-nil, Appends-trans}
-use Rattle.dvg_cert.proofs.ListParts.{cut_at}
 
 join_spaced : (w : List ℕ) (ws : List (List ℕ)) → join_with_byte SPACE (w ∷ ws) ≡ w ++ spaced ws
 join_spaced w [] = sym (append-nil w)

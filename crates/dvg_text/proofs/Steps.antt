@@ -1,9 +1,10 @@
 -- A field that is read from the front of bytes is spelled there, and what is spelled there is read again.
-use Rattle.dvg_text.proofs.Common.{◌≡◌, ◌≢◌, ℕ, zero, suc, ◌+◌, ◌-◌, ◌/◌, ◌%◌, ◌^◌, ◌<◌, ◌≤◌, Bool, true, false, cond, ◌&&◌, [], ◌∷◌, ◌++◌, length, map, take, drop, get_or, Option, Some, None, refl, sym, ap, subst, ◌∙◌, arith, codes, decimal, nat_le, nat_lt, ◌==◌, digit_value, option_map, option_map_or, AllDigits, digits_value, cond_some, some_pair_parts, none-some, same_Some, and_parts, eqb-true, nat_tests, decimal_digit, decimal-digits_of, digits_of_step, take-append-drop, length-append, take-append_seam, digit_value_digit, MOST_MAGNITUDE, ADDRESS_END, Key, At, Any, IsKey, address_token, key_token, Reads, natural_in, address_in, NoDigitFirst, past, digits_off, natural_at, digit_at, address_at, key_at}
+use Rattle.dvg_text.proofs.Common.{◌≡◌, ◌≢◌, ℕ, ◌+◌, ◌-◌, ◌^◌, ◌<◌, ◌≤◌, Bool, true, false, cond, [], ◌∷◌, ◌++◌, length, map, take, drop, get_or, Option, Some, None, refl, sym, ap, subst, ◌∙◌, arith, codes, decimal, nat_le, nat_lt, ◌==◌, digit_value, option_map, option_map_or, AllDigits, digits_value, cond_some, some_pair_parts, none-some, same_Some, and_parts, eqb-true, nat_tests, decimal_digit, decimal-digits_of, digits_of_step, take-append-drop, length-append, take-append_seam, digit_value_digit, MOST_MAGNITUDE, ADDRESS_END, Key, IsKey, address_token, key_token, Reads, natural_in, address_in, NoDigitFirst, past, digits_off, natural_at, digit_at, address_at, key_at}
 use Rattle.std.specs.Int.Digits.{digits_of}
 use Rattle.dvg_text.proofs.NaturalNumbers.{natural_some}
 use Rattle.dvg_text.proofs.FieldValues.{first_digit, map_some, none_of, natural_takes, address_takes, address_again}
 use Rattle.dvg_text.proofs.Leading.{Text, same_number, digits_lead}
+use Rattle.dvg_cert.specs.declared.entry.Key.TheVariants.{At, Any}
 
 -- ---- texts
 

@@ -1,7 +1,5 @@
 -- The laws of texts.
-use Rattle.dvg_text.proofs.Common.{◌≡◌, ◌≢◌, ℕ, ◌+◌, ◌*◌, ◌≤◌, Bool, true, false, cond, List, [], ◌∷◌, ◌++◌, length, Result, Ok, Err, map, refl, ap, subst, ◌∙◌, append_assoc, arith, inl, inr, ◌==◌, count_by, AllByRecursion, length-map, append-nil, length-append, MOST_ENTRIES, LONGEST_LINE, LINE_FEED, CertWhy, Unended, Memory, CertFault, Entry, entry_line, heading, begun_with, text_of, Certificate, Taken, Begun, Whole, text_taken, line_number, Without, IsTaken, IsRest, Holds, MayStand, EndsOpen, MemoryMap, IsRefusal, ReadAnswer}
-use Rattle.std.proofs.Common.{rules}
-use Rattle.std.proofs.lemmas.Grind.{common_steps}
+use Rattle.dvg_text.proofs.Common.{◌≡◌, ◌≢◌, ℕ, ◌+◌, ◌*◌, ◌≤◌, Bool, cond, List, [], ◌∷◌, ◌++◌, length, Result, Ok, Err, map, refl, ap, subst, ◌∙◌, append_assoc, arith, inl, inr, ◌==◌, count_by, AllByRecursion, length-map, append-nil, length-append, LONGEST_LINE, LINE_FEED, CertWhy, Unended, Memory, CertFault, Entry, entry_line, heading, begun_with, text_of, Certificate, Taken, Whole, text_taken, line_number, Without, Holds, MayStand, EndsOpen, MemoryMap, IsRefusal, ReadAnswer, rules, common_steps}
 use Rattle.std.proofs.lemmas.List.Recursion.{is_count_by}
 use Rattle.dvg_text.specs.Laws.{NotMemory, OneAnswer, ShortText, PrefixRefusal, CutRefusal}
 use Rattle.dvg_text.proofs.FirstLines.{few_heads}

@@ -1,9 +1,11 @@
 -- A line that is read says what it is read as, and each line that says something is read as that.
-use Rattle.dvg_text.proofs.Common.{◌≡◌, ℕ, zero, suc, ◌<◌, ◌≤◌, true, ◌&&◌, List, [], ◌∷◌, ◌++◌, length, get_or, Option, Some, None, refl, sym, ap, subst, ◌∙◌, append_assoc, arith, rules, ◌⊎◌, inl, inr, codes, decimal, ℤ, pos, negsuc, neg_ℤ, ◌≤ℤ◌, int_le, signed_decimal, join_with_byte, option_map, option_map_or, option_or, bytes_eq, AllDigits, and_parts, decimal_digit, ints, append-nil, cond_some, some_pair_parts, option_and_then_some, digit_from_value, MOST_ENTRIES, MOST_DEPTH, MOST_WORDS, MOST_MAGNITUDE, LINE_FEED, ADDRESS_END, SPACE, End, Rel, Abs, Lost, LitBox, Empty, Span, Entry, IsNumber, IsEnd, IsBox, IsEntry, address_token, key_token, end_tokens, box_tokens, entry_line, done_line, ended, Line, EntryLine, DoneLine, IsLine, ◌>>=◌, NoDigitFirst, past, natural_at, digit_at, number_at, two_at, end_at, span_at, box_at, entry_at, done_at, nothing_left}
+use Rattle.dvg_text.proofs.Common.{◌≡◌, ℕ, zero, suc, ◌<◌, ◌≤◌, true, ◌&&◌, List, [], ◌∷◌, ◌++◌, length, get_or, Option, Some, None, refl, sym, ap, subst, ◌∙◌, append_assoc, arith, rules, ◌⊎◌, codes, decimal, ℤ, pos, negsuc, neg_ℤ, ◌≤ℤ◌, int_le, signed_decimal, join_with_byte, option_map, option_map_or, option_or, bytes_eq, AllDigits, and_parts, decimal_digit, ints, append-nil, cond_some, some_pair_parts, option_and_then_some, digit_from_value, MOST_ENTRIES, MOST_DEPTH, MOST_WORDS, MOST_MAGNITUDE, LINE_FEED, ADDRESS_END, SPACE, End, LitBox, Entry, IsNumber, IsEnd, IsBox, IsEntry, address_token, key_token, end_tokens, box_tokens, entry_line, done_line, ended, Line, EntryLine, DoneLine, IsLine, ◌>>=◌, NoDigitFirst, past, natural_at, digit_at, number_at, two_at, end_at, span_at, box_at, entry_at, done_at, nothing_left}
 use Rattle.dvg_text.proofs.FieldValues.{first_digit, map_some, negated, same_bytes}
 use Rattle.dvg_text.proofs.Digits.{no_zero, same_decimal}
 use Rattle.dvg_text.proofs.Leading.{Text}
 use Rattle.dvg_text.proofs.Steps.{past_takes, past_again, past_never, natural_found, natural_again, digit_found, digit_again, address_found, address_spelled, chosen, pair_is, key_found, key_spelled}
+use Rattle.dvg_cert.specs.declared.entry.End.TheVariants.{Rel, Abs, Lost}
+use Rattle.dvg_cert.specs.declared.entry.LitBox.TheVariants.{Empty, Span}
 
 -- ---- what stands around the fields
 

@@ -1,17 +1,10 @@
 -- There is one verdict on bytes.
+use Rattle.dvg_verdict.proofs.Common.{List, length, sym, ap, refl, ◌≡◌, ◌∙◌, ℕ, arith, Rom, IsRomLength, rom_on, Window, GoodFrame, Err, Ok, Result, Certificate, Spells, ReadAnswer}
 use Rattle.dvg_words.specs.declared.machine.Machine.{Machine}
-use Rattle.std.proofs.Common.{List, length, sym, ap, refl, ◌≡◌, ◌∙◌, ℕ, arith}
-use Rattle.dvg_words.specs.Memory.{Rom, IsRomLength, rom_on}
-use Rattle.dvg_words.specs.Values.{Window}
 use Rattle.dvg_cert.specs.declared.entry.Entry.{Entry}
-use Rattle.dvg_check.specs.Rules.{GoodFrame}
 use Rattle.dvg_check.specs.declared.fault.Mode.{Mode}
-use Rattle.std.specs.Prelude.{Err, Ok, Result}
 use Rattle.dvg_words.specs.declared.image.ImageFault.TheVariants.{RomLength, FrameLength}
 use Rattle.dvg_text.specs.Laws.{OneCertificate, OneAnswer, NotMemory as HasMemory}
-use Rattle.dvg_cert.specs.Order.{Certificate}
-use Rattle.dvg_text.specs.Grammar.{Spells}
-use Rattle.dvg_text.specs.Reading.{ReadAnswer}
 use Rattle.dvg_cert.specs.declared.fault.CertFault.{CertFault}
 use Rattle.dvg_cert.specs.declared.fault.CertWhy.TheVariants.{Memory}
 use Rattle.dvg_verdict.specs.Laws.{OneVerdict}

@@ -1,12 +1,9 @@
 -- Rounding half up by one multiplication: the size once more, in units of 1/2048, makes halves go away from 0.
-use Rattle.std.proofs.Common.{◌≡◌, ℕ, ℤ, pos, negsuc, neg_ℤ, zero, suc, ◌+◌, ◌*◌, ◌/◌, ◌%◌, ◌^◌, ◌≤◌, ◌<◌, nat_le, true, false, ◌+ℤ◌, ◌*ℤ◌, ◌≤ℤ◌, ◌∙◌, arith, refl}
+use Rattle.dvg_words.proofs.Common.{◌≡◌, ℕ, ℤ, pos, negsuc, neg_ℤ, suc, ◌+◌, ◌*◌, ◌/◌, ◌%◌, ◌^◌, ◌≤◌, ◌<◌, nat_le, ◌+ℤ◌, ◌*ℤ◌, ◌∙◌, arith, ints, nat_tests, Board, effective_scale, axis_move, rounded_move}
+use Rattle.std.proofs.Common.{◌≤ℤ◌}
 use Rattle.std.specs.Int.{int_div_euclid}
-use Rattle.std.proofs.lemmas.Int.{ints}
 use Rattle.std.proofs.Math.Pow.{pow_mono}
 use Rattle.std.proofs.Math.Nat.{pow-suc, mod-eq_of_lt, mul-add, mul_left_comm, mul-le-mul}
-use Rattle.std.proofs.lemmas.Bool.Decides.{nat_tests}
-use Rattle.dvg_words.specs.Values.{Board}
-use Rattle.dvg_words.specs.Beam.{effective_scale, axis_move, rounded_move}
 
 spread : (n f : ℕ) → n * (2048 * f + 1) ≡ 2048 * (n * f) + n
 spread n f = rw (mul-add n (2048 * f) 1, mul_left_comm n 2048 f) (omega arith)

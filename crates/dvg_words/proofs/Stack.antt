@@ -1,11 +1,6 @@
 -- The stored return places are at most `max_stack`, in each state of each run.
-use Rattle.std.proofs.Common.{arith, subst, zero, suc, ◌≤◌, ◌∷◌, ℕ, [], List, Bool, true, false, nat_lt, length}
-use Rattle.dvg_words.specs.Values.{Machine}
-use Rattle.dvg_words.specs.Decoding.{Format, Cell, Instr, Missing, Odd, Holds, cell_at}
-use Rattle.dvg_words.specs.Generator.{State, Status, Running, Halted, Fault, Step, Reached, after_call, after_return, after_instruction, after_cell, after_fetch, next_status}
+use Rattle.dvg_words.proofs.Common.{arith, subst, zero, suc, ◌≤◌, ℕ, length, Machine, Cell, cell_at, State, Status, Step, Reached, after_cell, after_fetch, next_status, Memory, word_at}
 use Rattle.dvg_words.specs.Laws.{state_of, StackWithinMax}
-use Rattle.dvg_words.specs.Memory.{Memory, word_at}
-use Rattle.dvg_words.specs.declared.instruction.Instr.TheVariants.{Draw as Draws, Labs, Halt, Jsrl, Rtsl, Jmpl}
 
 abbrev StackWithin : State → Type 0
 StackWithin s = length s.return_stack ≤ s.max_stack

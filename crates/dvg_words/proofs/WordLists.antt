@@ -1,7 +1,5 @@
 -- The words of a list of bytes, by their places.
-use Rattle.std.proofs.Common.{◌≡◌, ℕ, ◌+◌, ◌*◌, ◌/◌, ◌≤◌, zero, suc, List, [], ◌∷◌, length, get_or, slice_get, Some, refl, arith}
-use Rattle.dvg_words.specs.Values.{MemoryMap, IsMap, Machine}
-use Rattle.dvg_words.specs.Memory.{words_of, rom_on, IsRom, IsRomLength, IsFrame, IsFrameLength}
+use Rattle.dvg_words.proofs.Common.{◌≡◌, ℕ, ◌+◌, ◌*◌, ◌/◌, ◌≤◌, zero, suc, List, [], ◌∷◌, length, get_or, slice_get, Some, refl, arith, MemoryMap, IsMap, Machine, words_of, rom_on, IsRom, IsRomLength, IsFrame, IsFrameLength}
 
 -- two bytes to a word
 pub length-words_of : (bs : List ℕ) → length (words_of bs) ≡ length bs / 2

@@ -1,4 +1,4 @@
-use Rattle.std.proofs.Common.{refl}
+use Rattle.dvg_account.proofs.Common.{refl}
 use Rattle.dvg_account.proofs.making.below_line.Goals as goal
 
 pub returns : goal.returns

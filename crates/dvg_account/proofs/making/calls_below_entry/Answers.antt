@@ -1,6 +1,4 @@
-use Rattle.std.proofs.Common.{List, Contains, subst, sym, ◌∙◌}
-use Rattle.dvg_cert.specs.declared.entry.Entry.{Entry}
-use Rattle.dvg_items.proofs.Listed.{listed_at}
+use Rattle.dvg_account.proofs.Common.{List, Contains, subst, sym, ◌∙◌, Entry, listed_at}
 use Rattle.dvg_account.proofs.making.calls_below_entry.Goals as goal
 
 pub deepest_calls-requires-clause-entry : goal.deepest_calls-requires-clause-entry

@@ -1,10 +1,7 @@
-use Rattle.std.proofs.Common.{ap, subst, ◌∙◌, [], ◌∷◌}
-use Rattle.std.specs.Prelude.{option_to_list}
+use Rattle.dvg_account.proofs.Common.{ap, subst, ◌∙◌, [], ◌∷◌, option_to_list, machine_lines, Rule, Path, MakerCure}
 use Rattle.dvg_make.specs.Refusals.{fault_number}
 use Rattle.dvg_account.specs.Cures.{cure_of}
-use Rattle.dvg_account.specs.Machines.{machine_lines}
 use Rattle.dvg_account.specs.Making.{IsCallItem, IsMakerItem, frame_of_call, way_lines}
-use Rattle.dvg_account.specs.declared.line.Line.TheVariants.{Rule, Path, MakerCure}
 use Rattle.dvg_account.specs.declared.line.PathLine.TheVariants.{MakerChain}
 use Rattle.dvg_account.proofs.Building.{then, told_as, whole, if_ok}
 use Rattle.dvg_account.proofs.making.unmade_lines.Goals as goal

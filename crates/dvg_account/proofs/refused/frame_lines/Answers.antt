@@ -1,8 +1,4 @@
-use Rattle.std.proofs.Common.{ap, ◌∙◌, [], ◌∷◌}
-use Rattle.dvg_words.specs.Memory.{frame_word}
-use Rattle.dvg_items.specs.declared.item.Kind.TheVariants.{Frame}
-use Rattle.dvg_account.specs.Items.{IsItem}
-use Rattle.dvg_account.specs.declared.line.Line.TheVariants.{Rule, WhatToDo}
+use Rattle.dvg_account.proofs.Common.{ap, ◌∙◌, [], ◌∷◌, frame_word, Frame, IsItem, Rule, WhatToDo}
 use Rattle.dvg_account.proofs.Building.{then, told_as, whole, if_ok}
 use Rattle.dvg_account.proofs.refused.frame_lines.Goals as goal
 

@@ -1,13 +1,7 @@
-use Rattle.std.proofs.Common.{◌≡◌, ℕ, List, Contains, subst, sym, ◌∙◌}
-use Rattle.std.specs.Prelude.{Option, Some, None, IfSome, IfNone}
-use Rattle.dvg_words.specs.Memory.{rom_word}
-use Rattle.dvg_cert.specs.declared.entry.Entry.{Entry}
+use Rattle.dvg_account.proofs.Common.{◌≡◌, ℕ, List, Contains, subst, sym, ◌∙◌, IfSome, IfNone, rom_word, Entry, entry_at, Shape, listed_at, NoneLead, HasEntry}
+use Rattle.std.specs.Prelude.{Option, Some, None}
 use Rattle.dvg_cert.specs.declared.entry.Key.{Key}
-use Rattle.dvg_cert.specs.Lookup.{entry_at}
-use Rattle.dvg_items.specs.declared.item.Kind.TheVariants.{Shape}
-use Rattle.dvg_items.proofs.Listed.{listed_at}
-use Rattle.dvg_survey.specs.Losses.{AreLosses, NoneLead}
-use Rattle.dvg_make.specs.Made.{HasEntry}
+use Rattle.dvg_survey.specs.Losses.{AreLosses}
 use Rattle.dvg_account.proofs.refused.losses_in_shape.Goals as goal
 
 if_none : {A : Type 0} (o : Option A) (P Q : Type 0) → (P → Q) → IfNone o P → IfNone o Q

@@ -1,7 +1,4 @@
-use Rattle.std.proofs.Common.{ap, ◌∙◌, [], ◌∷◌}
-use Rattle.std.specs.Prelude.{option_to_list}
-use Rattle.dvg_account.specs.Machines.{machine_lines, other_machine_line}
-use Rattle.dvg_account.specs.declared.line.Line.TheVariants.{Rule, WhatToDo}
+use Rattle.dvg_account.proofs.Common.{ap, ◌∙◌, [], ◌∷◌, option_to_list, machine_lines, other_machine_line, Rule, WhatToDo}
 use Rattle.dvg_account.proofs.Building.{then, told_as, whole, if_ok}
 use Rattle.dvg_account.proofs.refused.shape_lines.Goals as goal
 

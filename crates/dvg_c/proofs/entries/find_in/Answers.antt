@@ -1,9 +1,5 @@
-use Rattle.std.proofs.Common.{rules, ◌∙◌, ap}
-use Rattle.std.specs.Bool.{then_some}
+use Rattle.dvg_c.proofs.Common.{rules, ◌∙◌, ap, then_some, is_at, stands_before, entry_of}
 use Rattle.std.proofs.lemmas.List.Sorted.{IsPartitionPoint-from_clause}
-use Rattle.dvg_cert.specs.Lookup.{is_at}
-use Rattle.dvg_cert.specs.Private.Searching.{stands_before}
-use Rattle.dvg_c.specs.Kept.{entry_of}
 use Rattle.dvg_c.proofs.Searching.{kept_parted, none_found, one_found}
 use Rattle.dvg_c.proofs.entries.find_in.Goals as goal
 

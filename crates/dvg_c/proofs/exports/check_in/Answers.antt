@@ -1,5 +1,4 @@
-use Rattle.dvg_c.specs.Judging.{IsAcceptedOn}
-use Rattle.std.proofs.Common.{arith}
+use Rattle.dvg_c.proofs.Common.{arith}
 use Rattle.dvg_c.proofs.exports.check_in.Goals as goal
 
 pub returns-clause-accepted : goal.returns-clause-accepted

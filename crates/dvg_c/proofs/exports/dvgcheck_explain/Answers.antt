@@ -1,6 +1,4 @@
-use Rattle.std.proofs.Common.{◌∙◌, Ok, Err, refl, ap, subst}
-use Rattle.dvg_c.specs.Told.{bad_number, numbered}
-use Rattle.dvg_c.specs.Texts.{IsPut}
+use Rattle.dvg_c.proofs.Common.{◌∙◌, Ok, Err, refl, ap, subst, bad_number, numbered, IsPut}
 use Rattle.dvg_c.specs.declared.answer.TheConstants.{NO_TEXT_MEMORY}
 use Rattle.dvg_c.proofs.exports.dvgcheck_explain.Goals as goal
 

@@ -1,5 +1,4 @@
-use Rattle.std.proofs.Common.{◌∙◌, Ok, Err, ap}
-use Rattle.dvg_c.specs.Told.{numbered}
+use Rattle.dvg_c.proofs.Common.{◌∙◌, Ok, Err, ap, numbered}
 use Rattle.dvg_c.proofs.exports.dvgcheck_frame_alone.Goals as goal
 
 pub returns-in-Ok-clause-verdict : goal.returns-in-Ok-clause-verdict

@@ -1,7 +1,4 @@
-use Rattle.std.proofs.Common.{◌∙◌, Ok, Err, subst}
-use Rattle.dvg_spelling.specs.Each.{of_each}
-use Rattle.dvg_c.specs.Making.{root_of}
-use Rattle.dvg_c.specs.Texts.{IsPut}
+use Rattle.dvg_c.proofs.Common.{◌∙◌, Ok, Err, subst, of_each, root_of, IsPut}
 use Rattle.dvg_c.specs.declared.make.Unmade.TheVariants as unmade
 use Rattle.dvg_c.proofs.Made.{verdict_of}
 use Rattle.dvg_c.proofs.exports.dvgcheck_make.Goals as goal

@@ -1,10 +1,4 @@
-use Rattle.std.proofs.Common.{rules, ◌≡◌, ◌∙◌, List, length, sym, ap, subst}
-use Rattle.dvg_words.specs.Values.{Window}
-use Rattle.dvg_words.specs.Memory.{Rom, IsRom, rom_on, IsRomLength}
-use Rattle.dvg_cert.specs.declared.entry.Entry.{Entry}
-use Rattle.dvg_check.specs.Rules.{Good}
-use Rattle.dvg_c.specs.Told.{window_of}
-use Rattle.dvg_c.specs.Kept.{IsKept, kept_list}
+use Rattle.dvg_c.proofs.Common.{rules, ◌≡◌, ◌∙◌, List, length, sym, ap, subst, Window, Rom, IsRom, rom_on, IsRomLength, Entry, Good, window_of, IsKept, kept_list}
 use Rattle.dvg_c.proofs.Keeping.{same_shapes}
 use Rattle.dvg_c.proofs.judge.judge_and_keep.Goals as goal
 

@@ -1,6 +1,4 @@
-use Rattle.std.proofs.Common.{◌≡◌, take}
-use Rattle.dvg_c.specs.Kept.{kept_list}
-use Rattle.dvg_c.specs.declared.stage.TheConstants.{NOT_JUDGED}
+use Rattle.dvg_c.proofs.Common.{◌≡◌, take, kept_list, NOT_JUDGED}
 use Rattle.dvg_c.proofs.judge.keep_entries.Given as goal
 
 -- the entries so far are kept

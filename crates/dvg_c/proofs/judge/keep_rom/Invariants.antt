@@ -1,5 +1,4 @@
-use Rattle.std.proofs.Common.{◌≡◌, take}
-use Rattle.dvg_c.specs.declared.stage.TheConstants.{NOT_JUDGED}
+use Rattle.dvg_c.proofs.Common.{◌≡◌, take, NOT_JUDGED}
 use Rattle.dvg_c.proofs.judge.keep_rom.Given as goal
 
 -- the bytes so far are kept

@@ -1,6 +1,4 @@
-use Rattle.std.proofs.Common.{rules, ◌≡◌, ◌+◌, ◌∷◌, [], ◌++◌, length, take, arith, ap, subst, sym, ◌∙◌}
-use Rattle.std.specs.List.{concat}
-use Rattle.dvg_spelling.specs.Each.{of_each}
+use Rattle.dvg_c.proofs.Common.{rules, ◌≡◌, ◌+◌, ◌∷◌, [], ◌++◌, length, take, arith, ap, subst, sym, ◌∙◌, concat, of_each}
 use Rattle.dvg_c.proofs.Cutting.{of_each_push, joined_next, lengths_next, total_next}
 use Rattle.dvg_c.proofs.make.frames_of.Goals as goal
 

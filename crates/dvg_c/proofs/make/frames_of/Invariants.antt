@@ -1,6 +1,4 @@
-use Rattle.std.proofs.Common.{◌≡◌, ◌+◌, ◌++◌, length, sum, take}
-use Rattle.std.specs.List.{concat}
-use Rattle.dvg_spelling.specs.Each.{of_each}
+use Rattle.dvg_c.proofs.Common.{◌≡◌, ◌+◌, ◌++◌, length, sum, take, concat, of_each}
 use Rattle.dvg_c.proofs.make.frames_of.Given as goal
 
 -- the frames so far and the rest are the bytes, and so are their lengths

@@ -1,5 +1,4 @@
-use Rattle.std.proofs.Common.{◌∙◌, Some, ap, sym}
-use Rattle.dvg_spelling.specs.Each.{of_each}
+use Rattle.dvg_c.proofs.Common.{◌∙◌, Some, ap, sym, of_each}
 use Rattle.dvg_c.proofs.Made.{of_each_twice, written_as, refused_as}
 use Rattle.dvg_c.proofs.make.made_text.Goals as goal
 

@@ -1,5 +1,4 @@
-use Rattle.std.proofs.Common.{◌∙◌, refl, ap}
-use Rattle.std.proofs.Common.{arith}
+use Rattle.dvg_c.proofs.Common.{arith}
 use Rattle.dvg_c.proofs.make.no_certificate.Goals as goal
 
 pub returns : goal.returns

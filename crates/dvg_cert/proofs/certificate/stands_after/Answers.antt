@@ -1,5 +1,4 @@
-use Rattle.dvg_cert.proofs.Common.{sym}
-use Rattle.std.proofs.Common.{arith}
+use Rattle.dvg_cert.proofs.Common.{arith}
 use Rattle.dvg_cert.proofs.Rising.{stands}
 use Rattle.dvg_cert.proofs.certificate.stands_after.Goals as goal
 

@@ -1,6 +1,5 @@
-use Rattle.dvg_cert.proofs.Common.{◌∙◌, sym, arith, rules}
+use Rattle.dvg_cert.proofs.Common.{◌∙◌, sym, arith, rules, stands_before}
 use Rattle.std.proofs.lemmas.List.Sorted.{IsPartitionPoint-from_clause}
-use Rattle.dvg_cert.specs.Private.Searching.{stands_before}
 use Rattle.dvg_cert.proofs.Searching.{parted, nothing_there, other_there, this_there}
 use Rattle.dvg_cert.proofs.lookup.find_in.Goals as goal
 

@@ -1,5 +1,4 @@
-use Rattle.dvg_check.proofs.Common.{refl, subst, sym, next_address, Shape, ShapeKeeps}
-use Rattle.std.proofs.Common.{arith}
+use Rattle.dvg_check.proofs.Common.{next_address, arith}
 use Rattle.dvg_check.proofs.Broken.{at_last, as_claimed}
 use Rattle.dvg_check.proofs.cause.shape_cause_of_item.Goals as goal
 

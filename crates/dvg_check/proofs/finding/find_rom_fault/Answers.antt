@@ -1,14 +1,7 @@
-use Rattle.dvg_check.proofs.Common.{ℕ, List, length, subst, ◌≡◌, ◌∙◌, ap, Window, Rom, Machine, Mode}
-use Rattle.std.proofs.Common.{arith}
-use Rattle.std.proofs.Common.{Result, Err}
-use Rattle.dvg_words.specs.Memory.{rom_on, IsRomLength}
-use Rattle.dvg_words.specs.declared.image.ImageFault.TheVariants.{RomLength}
-use Rattle.dvg_cert.specs.Order.{Certificate}
-use Rattle.dvg_check.specs.declared.verdict.Yes.{Yes}
-use Rattle.dvg_check.specs.declared.verdict.Refusal.{Refusal}
+use Rattle.dvg_check.proofs.Common.{ℕ, List, length, Window, Machine, Mode, arith, rom_on, IsRomLength, Certificate}
+use Rattle.std.proofs.Common.{Result}
+use Rattle.dvg_check.specs.Verdict.{Yes, Refusal, PartsVerdict, RomVerdict}
 use Rattle.dvg_check.specs.declared.verdict.Refusal.TheVariants as refusal
-use Rattle.dvg_check.specs.Causes.{verdict_of}
-use Rattle.dvg_check.specs.Verdict.{PartsVerdict, RomVerdict}
 use Rattle.dvg_check.proofs.finding.find_rom_fault.Goals as goal
 
 -- what a ROM of the right length comes to

@@ -1,6 +1,4 @@
-use Rattle.dvg_check.proofs.Common.{arith, ℤ, inl, inr, ints}
-use Rattle.std.specs.Prelude.{◌≤ℤ◌}
-use Rattle.dvg_check.specs.Laws.{IsBetween}
+use Rattle.dvg_check.proofs.Common.{arith, ℤ, ◌≤ℤ◌, IsBetween}
 use Rattle.dvg_check.proofs.laws.stroke_in_window.Goals as goal
 
 -- a number between two others lies between the bounds of both

@@ -1,4 +1,4 @@
-use Rattle.dvg_check.specs.Passing.{set_number}
+use Rattle.dvg_check.proofs.Common.{set_number}
 use Rattle.dvg_check.proofs.needed.keys_left.Given as goal
 
 abbrev pub decreases-keys : goal.decreases-keys

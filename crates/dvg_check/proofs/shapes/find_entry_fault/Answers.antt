@@ -1,5 +1,4 @@
-use Rattle.dvg_check.specs.FirstFault.{shape_number}
-use Rattle.dvg_check.proofs.Common.{ShapeKeeps, shape_context, rom_word}
+use Rattle.dvg_check.proofs.Common.{shape_number, ShapeKeeps, shape_context, rom_word}
 use Rattle.dvg_check.specs.declared.fault.ShapeWhy.TheVariants as shape
 use Rattle.dvg_check.proofs.Broken.{broken}
 use Rattle.dvg_check.proofs.Faults.{shape_rule_of, shape_rule_of-number}

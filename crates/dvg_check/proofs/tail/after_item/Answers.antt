@@ -1,5 +1,4 @@
-use Rattle.dvg_check.proofs.Common.{arith, subst, sym, ◌+◌}
-use Rattle.dvg_items.specs.Bounds.{IsNearPlace}
+use Rattle.dvg_check.proofs.Common.{arith, subst, sym, ◌+◌, IsNearPlace}
 use Rattle.dvg_check.proofs.TailSizes.{IsNearPlace-over, IsNearBox-joined, IsNearBox-more}
 use Rattle.dvg_check.proofs.tail.after_item.Goals as goal
 

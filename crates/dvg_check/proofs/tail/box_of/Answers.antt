@@ -1,7 +1,4 @@
-use Rattle.dvg_check.proofs.Common.{sym, subst, pos, Rel, LitExtent, InBox, LitInBox}
-use Rattle.std.proofs.Common.{arith}
-use Rattle.dvg_items.specs.Bounds.{IsNearExtent}
-use Rattle.dvg_items.proofs.Points.{origin_shift}
+use Rattle.dvg_check.proofs.Common.{subst, pos, arith, IsNearExtent, origin_shift}
 use Rattle.dvg_check.proofs.TailSizes.{IsNearBox-spanning}
 use Rattle.dvg_check.proofs.tail.box_of.Goals as goal
 

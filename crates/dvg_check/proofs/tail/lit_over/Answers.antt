@@ -1,9 +1,4 @@
-use Rattle.dvg_check.proofs.Common.{subst, sym, ◌+◌, ◌≡◌, Point}
-use Rattle.std.proofs.Common.{rules, w64}
-use Rattle.std.proofs.lemmas.Int.{to_z-of_z}
-use mir.Val.{SFits}
-use Rattle.dvg_items.specs.Bounds.{IsNear}
-use Rattle.dvg_check.specs.Passing.{IsNearBox, moved}
+use Rattle.dvg_check.proofs.Common.{subst, sym, ◌+◌, ◌≡◌, Point, rules, w64, to_z-of_z, SFits, IsNear, IsNearBox, moved}
 use Rattle.dvg_check.proofs.TailSizes.{IsNearBox-moved}
 use Rattle.dvg_check.proofs.tail.lit_over.Goals as goal
 

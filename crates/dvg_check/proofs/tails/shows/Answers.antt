@@ -1,4 +1,4 @@
-use Rattle.dvg_check.specs.Private.Tails.{entry_of}
+use Rattle.dvg_check.proofs.Common.{entry_of}
 use Rattle.dvg_check.proofs.TailLaws.{weaker_claim}
 use Rattle.dvg_check.proofs.tails.shows.Goals as goal
 

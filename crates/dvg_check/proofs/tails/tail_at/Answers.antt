@@ -1,5 +1,4 @@
-use Rattle.dvg_check.proofs.Common.{arith, sym, ◌∙◌, ◌+◌, ◌-◌, ADDRESS_END, Shape}
-use Rattle.dvg_items.proofs.Near.{next_near}
+use Rattle.dvg_check.proofs.Common.{arith, sym, ◌∙◌, ◌+◌, ◌-◌, ADDRESS_END, Shape, next_near}
 use Rattle.dvg_check.proofs.TailSizes.{IsSmall-more}
 use Rattle.dvg_check.proofs.TailSteps.{alone, before_some}
 use Rattle.dvg_check.proofs.tails.tail_at.Goals as goal

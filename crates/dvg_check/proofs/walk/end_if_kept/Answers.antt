@@ -1,4 +1,4 @@
-use Rattle.std.proofs.Common.{◌∙◌, sym}
+use Rattle.dvg_check.proofs.Common.{◌∙◌, sym}
 use Rattle.dvg_check.proofs.Loop.{onward, done}
 use Rattle.dvg_check.proofs.walk.end_if_kept.Goals as goal
 

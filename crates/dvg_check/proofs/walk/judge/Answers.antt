@@ -1,5 +1,5 @@
+use Rattle.dvg_check.proofs.Common.{named_claim}
 use Rattle.std.specs.Prelude.{Some}
-use Rattle.dvg_items.proofs.Listed.{named_claim}
 use Rattle.dvg_check.proofs.walk.judge.Goals as goal
 
 pub judge_calling-requires-clause-callee : goal.judge_calling-requires-clause-callee

@@ -1,4 +1,4 @@
-use Rattle.std.proofs.Common.{◌∙◌, sym}
+use Rattle.dvg_check.proofs.Common.{◌∙◌, sym}
 use Rattle.dvg_check.proofs.Loop.{onward, done, found_missing, found_odd, found_broken}
 use Rattle.dvg_check.proofs.walk.walk.Goals as goal
 

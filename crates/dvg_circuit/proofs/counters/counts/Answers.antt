@@ -1,8 +1,6 @@
-use Rattle.std.proofs.Common.{◌≡◌, ℕ, ◌+◌, ◌*◌, ◌%◌, ◌^◌, ◌≤◌, ◌∙◌, sym, suc, arith}
-use Rattle.std.proofs.Common.{rules}
+use Rattle.dvg_circuit.proofs.Common.{◌≡◌, ℕ, ◌+◌, ◌*◌, ◌%◌, ◌^◌, ◌≤◌, ◌∙◌, sym, suc, arith, rules, pow-suc, mod-eq_of_lt}
 use Rattle.std.proofs.lemmas.Grind.{common_steps}
 use Rattle.std.proofs.Math.Pow.{pow_mono}
-use Rattle.std.proofs.Math.Nat.{pow-suc, mod-eq_of_lt}
 use Rattle.dvg_circuit.proofs.Rounding.{counts_low}
 use Rattle.dvg_circuit.proofs.counters.counts.Goals as goal
 

@@ -1,8 +1,4 @@
-use Rattle.std.proofs.Common.{true, ◌≡◌, ◌-◌, nat_le, ◌∙◌, ap, sym, arith}
-use Rattle.std.specs.Prelude.{if◌then◌else◌}
-use Rattle.std.proofs.lemmas.Bool.Decides.{nat_tests}
-use Rattle.std.proofs.lemmas.Nat.Bits.{shr_and_one}
-use Rattle.dvg_circuit.specs.Counters.{bit, let_through}
+use Rattle.dvg_circuit.proofs.Common.{◌-◌, arith, nat_tests, shr_and_one}
 use Rattle.dvg_circuit.proofs.Multipliers.{none_through}
 use Rattle.dvg_circuit.proofs.Ones.{counted_ones}
 use Rattle.dvg_circuit.proofs.counters.pulse.Goals as goal

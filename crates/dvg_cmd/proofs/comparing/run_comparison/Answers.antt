@@ -1,6 +1,4 @@
-use Rattle.dvg_cmd.proofs.Common.{◌≢◌, ◌<◌, [], ◌∷◌, length, refl, ap, inl, inr, sym, subst, frames_run_number, of_each, FramesFaultMeans}
-use Rattle.std.proofs.Common.{◌↔◌, IsTrue}
-use Rattle.dvg_cmd.specs.Comparing.{ComparisonFaultMeans}
+use Rattle.dvg_cmd.proofs.Common.{◌≢◌, ◌<◌, [], ◌∷◌, length, refl, ap, inl, inr, sym, subst, frames_run_number, of_each, FramesFaultMeans, ◌↔◌, IsTrue, ComparisonFaultMeans}
 use Rattle.dvg_cmd.proofs.MakerRuns.{wrong_length}
 use Rattle.dvg_cmd.proofs.FramesRuns.{told_err, with_words, frames_refused}
 use Rattle.dvg_cmd.proofs.ComparisonRuns.{compared, rom_failed}

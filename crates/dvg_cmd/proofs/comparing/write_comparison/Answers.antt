@@ -1,13 +1,8 @@
-use Rattle.dvg_cmd.proofs.Common.{◌≡◌, ◌+◌, ◌++◌, ◌∙◌, ap, sym, subst, append-nil, string_bytes, of_each, AppendsPrefix, joined}
-use Rattle.std.proofs.Common.{arith}
-use Rattle.std.proofs.Common.{codes}
-use Rattle.dvg_spelling.specs.Touched.{touched_line}
-use Rattle.dvg_cmd.specs.Comparing.{reaching_lines, comparison_lines}
-use Rattle.dvg_cmd.specs.Private.Sent.{Sent}
-use Rattle.dvg_cmd.proofs.LineByLine.{on_err, SentTo, first_cut, one_sent, one_cut, all_sent}
+use Rattle.dvg_cmd.proofs.Common.{◌+◌, ◌++◌, ◌∙◌, ap, append-nil, string_bytes, of_each, joined, arith, codes, comparison_lines}
+use Rattle.dvg_cmd.proofs.LineByLine.{on_err, first_cut, one_sent, one_cut, all_sent}
 use Rattle.dvg_cmd.proofs.ReachingLines.{lines_from, pass_frame, next_frame, no_frame, some_text}
 use Rattle.dvg_cmd.proofs.comparing.write_comparison.Goals as goal
-use Rattle.dvg_cmd.proofs.comparing.write_comparison.Goals.{then-reaching-i+in_ok-write_lines, else-reaching-i}
+use Rattle.dvg_cmd.proofs.comparing.write_comparison.Goals.{else-reaching-i}
 
 pub returns-in_err-write_each-clause-prefix : goal.returns-in_err-write_each-clause-prefix
 returns-in_err-write_each-clause-prefix g c = grind (arith, on_err, first_cut, of_each, string_bytes, joined)

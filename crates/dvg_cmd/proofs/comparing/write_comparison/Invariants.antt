@@ -1,5 +1,4 @@
-use Rattle.dvg_cmd.proofs.Common.{◌≡◌, string_bytes, of_each}
-use Rattle.dvg_cmd.specs.Comparing.{comparison_lines}
+use Rattle.dvg_cmd.proofs.Common.{◌≡◌, string_bytes, of_each, comparison_lines}
 use Rattle.dvg_cmd.proofs.LineByLine.{SentTo}
 use Rattle.dvg_cmd.proofs.ReachingLines.{lines_from}
 use Rattle.dvg_cmd.proofs.comparing.write_comparison.Given as goal

@@ -1,5 +1,4 @@
-use Rattle.dvg_cmd.proofs.Common.{◌∙◌, ◌++◌, [], append-nil, of_each}
-use Rattle.std.proofs.Common.{arith}
+use Rattle.dvg_cmd.proofs.Common.{◌∙◌, ◌++◌, [], append-nil, of_each, arith}
 use Rattle.dvg_cmd.proofs.LineByLine.{on_err, one_sent, one_cut, next_line}
 use Rattle.dvg_cmd.proofs.entry_lines.write_each.Goals as goal
 

@@ -1,7 +1,6 @@
-use Rattle.std.proofs.Common.{refl, sym, subst}
-use Rattle.std.specs.Prelude.{OnErr, string_bytes}
+use Rattle.dvg_cmd.proofs.Common.{refl, sym, subst, OnErr, NoMemory}
+use Rattle.std.specs.Prelude.{string_bytes}
 use Rattle.dvg_cmd.specs.Explaining.{MakeExplained, MakeExplainedPrefix}
-use Rattle.dvg_cmd.specs.Runs.{NoMemory}
 use Rattle.dvg_cmd.proofs.LineByLine.{on_err}
 use Rattle.dvg_cmd.proofs.explaining_make.write_make_answer.Goals as goal
 

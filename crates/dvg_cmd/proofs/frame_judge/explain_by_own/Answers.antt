@@ -1,6 +1,4 @@
-use Rattle.dvg_cmd.proofs.Common.{sym, subst}
-use Rattle.std.proofs.Common.{arith}
-use Rattle.dvg_cmd.specs.Frames.{VerdictOnBytes}
+use Rattle.dvg_cmd.proofs.Common.{arith}
 use Rattle.dvg_cmd.proofs.Framing.{own_verdict}
 use Rattle.dvg_cmd.proofs.frame_judge.explain_by_own.Goals as goal
 

@@ -1,5 +1,5 @@
+use Rattle.dvg_cmd.proofs.Common.{arith}
 use Rattle.dvg_cmd.proofs.Framing.{own_verdict}
-use Rattle.std.proofs.Common.{arith}
 use Rattle.dvg_cmd.proofs.frame_judge.verdict_by_own.Goals as goal
 
 pub returns-in-Ok : goal.returns-in-Ok

@@ -1,5 +1,5 @@
+use Rattle.dvg_cmd.proofs.Common.{arith}
 use Rattle.dvg_cmd.proofs.Framing.{reads_frame}
-use Rattle.std.proofs.Common.{arith}
 use Rattle.dvg_cmd.proofs.frame_run.read_started.Goals as goal
 
 pub returns-clause-bytes : goal.returns-clause-bytes

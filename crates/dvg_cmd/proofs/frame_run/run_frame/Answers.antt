@@ -1,5 +1,5 @@
+use Rattle.dvg_cmd.proofs.Common.{arith}
 use Rattle.dvg_cmd.proofs.Answers.{frame_accepted}
-use Rattle.std.proofs.Common.{arith}
 use Rattle.dvg_cmd.proofs.frame_run.run_frame.Goals as goal
 
 pub returns-clause-safe : goal.returns-clause-safe

@@ -1,6 +1,4 @@
-use Rattle.dvg_cmd.proofs.Common.{◌+◌, ◌++◌, ◌∷◌, [], ap, ◌∙◌, arith, words_of}
-use Rattle.std.proofs.Common.{rules}
-use Rattle.std.proofs.lemmas.Grind.{common_steps}
+use Rattle.dvg_cmd.proofs.Common.{arith, words_of, rules, common_steps}
 use Rattle.dvg_cmd.proofs.SeveralFrames.{frames_next, words_next, wrong_here}
 use Rattle.dvg_cmd.proofs.inputs.frame_images.Goals as goal
 

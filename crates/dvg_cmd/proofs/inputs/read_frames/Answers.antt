@@ -1,5 +1,4 @@
-use Rattle.std.proofs.Common.{◌+◌, ◌++◌, ◌∷◌, [], set, refl, sym, subst, arith}
-use Rattle.dvg_cmd.specs.MakingFrames.{of_each}
+use Rattle.dvg_cmd.proofs.Common.{◌+◌, ◌++◌, ◌∷◌, [], set, refl, subst, arith, of_each}
 use Rattle.dvg_cmd.proofs.SeveralFrames.{ReadSoFar, none_read, more_read, one_failed, none_failed, no_frame_blamed, of_each_push}
 use Rattle.dvg_cmd.proofs.inputs.read_frames.Goals as goal
 

@@ -1,4 +1,4 @@
-use Rattle.dvg_cmd.specs.MakingFrames.{of_each}
+use Rattle.dvg_cmd.proofs.Common.{of_each}
 use Rattle.dvg_cmd.proofs.SeveralFrames.{ReadSoFar}
 use Rattle.dvg_cmd.proofs.inputs.read_frames.Given as goal
 

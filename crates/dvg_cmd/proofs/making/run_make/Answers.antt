@@ -1,6 +1,4 @@
-use Rattle.dvg_cmd.proofs.Common.{[], subst, FramesFaultMeans}
-use Rattle.std.proofs.Common.{arith}
-use Rattle.dvg_words.specs.declared.machine.Machine.TheVariants.{Profile}
+use Rattle.dvg_cmd.proofs.Common.{arith, Profile}
 use Rattle.dvg_cmd.proofs.RootsRuns.{roots_written, roots_cut, roots_fault}
 use Rattle.dvg_cmd.proofs.making.run_make.Goals as goal
 

@@ -1,5 +1,4 @@
-use Rattle.dvg_cmd.proofs.Common.{◌∙◌, of_each, MakesForFrames, FramesFaultMeans}
-use Rattle.std.proofs.Common.{arith}
+use Rattle.dvg_cmd.proofs.Common.{of_each, FramesFaultMeans, arith}
 use Rattle.dvg_cmd.proofs.FramesRuns.{told_err, with_words, own_map, frames_made, frames_refused, writes, writes_prefix}
 use Rattle.dvg_cmd.proofs.making_frames.run_make_frames.Goals as goal
 

@@ -1,5 +1,4 @@
-use Rattle.dvg_cmd.proofs.Common.{◌++◌, [], ◌∷◌, ◌∙◌, sym, arith, common_steps, take_all, take-append-le}
-use Rattle.dvg_cmd.specs.Names.{MOST_NAME_READ}
+use Rattle.dvg_cmd.proofs.Common.{◌++◌, [], ◌∷◌, ◌∙◌, sym, arith, common_steps, take_all, take-append-le, MOST_NAME_READ}
 use Rattle.dvg_cmd.proofs.names.keep.Goals as goal
 
 pub returns-then-not-is_full : goal.returns-then-not-is_full

@@ -1,5 +1,4 @@
-use Rattle.dvg_cmd.proofs.Common.{◌∙◌, get_or, sym, subst, arith, common_steps, Consumes}
-use Rattle.dvg_cmd.specs.Names.{end_byte}
+use Rattle.dvg_cmd.proofs.Common.{◌∙◌, get_or, subst, arith, common_steps, Consumes, end_byte}
 use Rattle.dvg_cmd.proofs.Naming.{first_byte, one_byte, ended}
 use Rattle.dvg_cmd.proofs.names.read_name.Goals as goal
 

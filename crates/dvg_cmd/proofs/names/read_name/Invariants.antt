@@ -1,5 +1,4 @@
-use Rattle.std.proofs.Common.{◌≡◌}
-use Rattle.dvg_cmd.specs.Names.{end_byte}
+use Rattle.dvg_cmd.proofs.Common.{◌≡◌, end_byte}
 use Rattle.dvg_cmd.proofs.Naming.{NameSoFar}
 use Rattle.dvg_cmd.proofs.names.read_name.Given as goal
 

@@ -1,6 +1,4 @@
-use Rattle.dvg_cmd.proofs.Common.{◌≢◌, subst, frames_run_number, of_each, joined, Appends, AppendsPrefix, TakeOneWriteEach, FramesFaultMeans}
-use Rattle.std.proofs.Common.{arith}
-use Rattle.dvg_spelling.specs.Places.{place_line}
+use Rattle.dvg_cmd.proofs.Common.{◌≢◌, frames_run_number, of_each, joined, FramesFaultMeans, arith}
 use Rattle.dvg_cmd.proofs.FramesRuns.{told_err, with_words, frames_refused, places_made}
 use Rattle.dvg_cmd.proofs.placing.run_places.Goals as goal
 

@@ -1,6 +1,4 @@
-use Rattle.dvg_cmd.proofs.Common.{◌≡◌, ◌+◌, ◌-◌, length, take, ◌++◌, arith, sym, subst, common_steps, Consumes, Consumes-trans}
-use Rattle.std.proofs.Common.{rules}
-use borrow.Rule.Slice.PartMut.{put_mid}
+use Rattle.dvg_cmd.proofs.Common.{◌-◌, arith, common_steps, rules}
 use Rattle.dvg_cmd.proofs.Pieces.{take_filled}
 use Rattle.dvg_cmd.proofs.reading.fill.Goals as goal
 

@@ -1,5 +1,4 @@
-use Rattle.dvg_cmd.proofs.Common.{◌≡◌, ◌++◌, ◌≤◌, length, arith, take, Consumes-trans, common_steps}
-use Rattle.std.proofs.Common.{rules}
+use Rattle.dvg_cmd.proofs.Common.{◌++◌, arith, take, Consumes-trans, common_steps, rules}
 use Rattle.dvg_cmd.proofs.Pieces.{fed_on, fed_more, fed_refused}
 use Rattle.dvg_cmd.proofs.reading.read_certificate.Goals as goal
 

@@ -1,7 +1,4 @@
-use Rattle.std.proofs.Common.{◌≡◌, ◌+◌, ◌-◌, ◌≤◌, ◌<◌, List, length, ℕ}
-use Rattle.std.specs.Io.KnownBytes.{Consumes, IsAtEnd}
-use Rattle.dvg_text.specs.Stream.{Open}
-use Rattle.dvg_cmd.specs.Private.Reading.{taken_length}
+use Rattle.dvg_cmd.proofs.Common.{◌≡◌, ◌+◌, ◌-◌, ◌≤◌, ◌<◌, List, length, ℕ, Consumes, IsAtEnd, Open, taken_length}
 use Rattle.dvg_cmd.proofs.reading.read_certificate.Given as goal
 
 abbrev pub invariant-feeding : goal.invariant-feeding

@@ -1,5 +1,4 @@
-use Rattle.dvg_cmd.proofs.Common.{arith, take, refl, common_steps}
-use Rattle.std.proofs.Common.{rules}
+use Rattle.dvg_cmd.proofs.Common.{arith, take, refl, common_steps, rules}
 use Rattle.dvg_cmd.proofs.Pieces.{none_skipped, piece_skipped, last_skipped, all_skipped}
 use Rattle.dvg_cmd.proofs.reading.skip.Goals as goal
 

@@ -1,4 +1,4 @@
-use Rattle.std.proofs.Common.{◌≡◌}
+use Rattle.dvg_cmd.proofs.Common.{◌≡◌}
 use Rattle.dvg_cmd.proofs.Pieces.{Skipped}
 use Rattle.dvg_cmd.proofs.reading.skip.Given as goal
 

@@ -1,6 +1,5 @@
-use Rattle.std.proofs.Common.{subst, Err}
-use Rattle.std.proofs.Common.{arith}
-use Rattle.dvg_labels.specs.Labels.{IsAddress}
+use Rattle.dvg_cmd.proofs.Common.{arith}
+use Rattle.std.proofs.Common.{Err}
 use Rattle.dvg_cmd.proofs.roots.root_by.Goals as goal
 
 pub returns-in-Err-clause-err : goal.returns-in-Err-clause-err

@@ -1,6 +1,4 @@
-use Rattle.dvg_cmd.proofs.Common.{Ok, Err, words_of, ReadsText}
-use Rattle.std.proofs.Common.{arith}
-use Rattle.dvg_cmd.specs.Private.Judging.{JudgesRom}
+use Rattle.dvg_cmd.proofs.Common.{Ok, Err, words_of, arith}
 use Rattle.dvg_cmd.proofs.Reporting.{judges_range, judges_refused, judges_cert}
 use Rattle.dvg_cmd.proofs.running.read_verdict.Goals as goal
 

@@ -1,5 +1,4 @@
-use Rattle.dvg_cmd.proofs.Common.{Judges}
-use Rattle.std.proofs.Common.{arith}
+use Rattle.dvg_cmd.proofs.Common.{Judges, arith}
 use Rattle.dvg_cmd.proofs.Reported.{writes_report, reports, reports_accepted}
 use Rattle.dvg_cmd.proofs.running.run_check_in.Given.{Over}
 use Rattle.dvg_cmd.proofs.running.run_check_in.Goals.{After-write_report}

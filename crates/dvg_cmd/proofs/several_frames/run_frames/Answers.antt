@@ -1,5 +1,4 @@
-use Rattle.dvg_cmd.proofs.Common.{◌≡◌, ◌++◌, ◌∷◌, [], subst, arith, common_steps, Result, Ok, Err, OnErr, opened}
-use Rattle.std.proofs.Common.{rules}
+use Rattle.dvg_cmd.proofs.Common.{◌≡◌, ◌++◌, ◌∷◌, [], subst, arith, Result, OnErr, opened, rules}
 use Rattle.std.specs.Iterator.{Drains, Yields}
 use Rattle.std.proofs.iter.Next.{Yields-more}
 use Rattle.dvg_cmd.proofs.SeveralLines.{more_lines, cut_lines, with_summary, cut_summary}

@@ -1,6 +1,5 @@
-use Rattle.dvg_cmd.proofs.Common.{◌≡◌, opened}
+use Rattle.dvg_cmd.proofs.Common.{◌≡◌, opened, WritesLinesOf}
 use Rattle.dvg_spelling.specs.Each.{of_each}
-use Rattle.dvg_cmd.specs.Private.Named.{WritesLinesOf}
 use Rattle.dvg_cmd.proofs.several_frames.run_frames.Given as goal
 
 abbrev pub invariant-loop-frame : goal.invariant-loop-frame

@@ -1,5 +1,5 @@
+use Rattle.dvg_diff.proofs.Common.{arith}
 use Rattle.dvg_diff.proofs.EachFrame.{memory_told, next_frame}
-use Rattle.std.proofs.Common.{arith}
 use Rattle.dvg_diff.proofs.comparing.compare.Goals as goal
 
 pub returns-in_default-clause-told : goal.returns-in_default-clause-told

@@ -1,5 +1,4 @@
-use Rattle.std.proofs.Common.{take}
-use Rattle.dvg_diff.specs.Comparing.{EachReaches}
+use Rattle.dvg_diff.proofs.Common.{take, EachReaches}
 use Rattle.dvg_diff.proofs.comparing.compare.Given as goal
 
 abbrev pub invariant-loop-frame : goal.invariant-loop-frame

@@ -1,5 +1,4 @@
-use Rattle.std.proofs.Common.{sym, ◌∙◌}
-use Rattle.std.proofs.Common.{arith}
+use Rattle.dvg_diff.proofs.Common.{sym, ◌∙◌, arith}
 use Rattle.dvg_diff.proofs.Walking.{goes_on, ends, found, none_left}
 use Rattle.dvg_diff.proofs.touched.first_differing.Goals as goal
 

@@ -1,4 +1,4 @@
-use Rattle.std.proofs.Common.{◌-◌, ◌+◌}
+use Rattle.dvg_diff.proofs.Common.{◌-◌, ◌+◌}
 use Rattle.dvg_words.specs.declared.map.TheConstants.{ADDRESS_END}
 use Rattle.dvg_diff.proofs.Walking.{Passed}
 use Rattle.dvg_diff.proofs.touched.first_differing.Given as goal

@@ -1,4 +1,4 @@
-use Rattle.std.proofs.Common.{◌∙◌}
+use Rattle.dvg_diff.proofs.Common.{◌∙◌}
 use Rattle.dvg_diff.proofs.Walking.{next_none, next_one}
 use Rattle.dvg_diff.proofs.touched.touched_entries.Goals as goal
 use Rattle.dvg_diff.proofs.touched.touched_entries.Goals.{in-Some+in_ok-push, in_default}

@@ -1,5 +1,4 @@
-use Rattle.std.proofs.Common.{take}
-use Rattle.dvg_diff.specs.Touched.{AreTouched}
+use Rattle.dvg_diff.proofs.Common.{take, AreTouched}
 use Rattle.dvg_diff.proofs.touched.touched_entries.Given as goal
 
 abbrev pub invariant-loop-entry : goal.invariant-loop-entry

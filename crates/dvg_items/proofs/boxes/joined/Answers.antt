@@ -1,6 +1,4 @@
-use Rattle.std.proofs.Common.{rules, w64}
-use Rattle.std.proofs.lemmas.Int.{to_z-of_z}
-use mir.Val.{SFits}
+use Rattle.dvg_items.proofs.Common.{rules, w64, to_z-of_z, SFits}
 use Rattle.dvg_items.proofs.LeastBoxes.{joined_is}
 use Rattle.dvg_items.proofs.boxes.joined.Goals as goal
 

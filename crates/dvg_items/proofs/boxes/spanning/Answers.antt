@@ -1,7 +1,4 @@
-use Rattle.std.proofs.Common.{rules, w64, to_z, of_z}
-use Rattle.std.proofs.lemmas.Int.{to_z-of_z}
-use mir.Val.{SFits}
-use Rattle.dvg_cert.specs.declared.entry.LitBox.TheVariants.{Span}
+use Rattle.dvg_items.proofs.Common.{rules, w64, to_z, of_z, to_z-of_z, SFits, Span}
 use Rattle.dvg_items.proofs.LeastBoxes.{spanning_is}
 use Rattle.dvg_items.proofs.boxes.spanning.Goals as goal
 

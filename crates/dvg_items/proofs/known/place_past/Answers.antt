@@ -1,7 +1,4 @@
-use Rattle.std.proofs.Common.{◌+◌, arith, rules, w64}
-use Rattle.std.proofs.lemmas.Int.{to_z-of_z}
-use mir.Val.{SFits}
-use Rattle.dvg_items.specs.Bounds.{IsNear}
+use Rattle.dvg_items.proofs.Common.{◌+◌, arith, rules, w64, to_z-of_z, SFits, IsNear}
 use Rattle.dvg_items.proofs.Near.{IsNear-more}
 use Rattle.dvg_items.proofs.known.place_past.Goals as goal
 

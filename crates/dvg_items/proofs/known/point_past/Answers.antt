@@ -1,5 +1,4 @@
-use Rattle.std.proofs.Common.{◌+◌, sym, subst}
-use Rattle.dvg_items.specs.Bounds.{IsNear}
+use Rattle.dvg_items.proofs.Common.{◌+◌, sym, subst, IsNear}
 use Rattle.dvg_items.proofs.Near.{IsNear-shift}
 use Rattle.dvg_items.proofs.known.point_past.Goals as goal
 

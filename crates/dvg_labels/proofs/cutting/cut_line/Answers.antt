@@ -1,6 +1,4 @@
-use Rattle.std.proofs.Common.{length, drop, ap, ◌∷◌, ◌∙◌, sym, arith, take}
-use Rattle.std.proofs.lemmas.List.{take_rest}
-use Rattle.dvg_labels.specs.Cutting.{lines, stops}
+use Rattle.dvg_labels.proofs.Common.{arith, take_rest, lines, stops}
 use Rattle.dvg_labels.specs.declared.cutting.Stop.TheVariants.{LineFeed}
 use Rattle.dvg_labels.proofs.Parts.{cut_at, uncut}
 use Rattle.dvg_labels.proofs.cutting.cut_line.Goals as goal

@@ -1,7 +1,5 @@
-use Rattle.std.proofs.Common.{length, arith}
+use Rattle.dvg_labels.proofs.Common.{length, arith, sym, stops}
 use Rattle.std.proofs.lemmas.List.Sums.{position_or_len_is}
-use Rattle.std.proofs.Common.{sym}
-use Rattle.dvg_labels.specs.Cutting.{stops}
 use Rattle.dvg_labels.proofs.cutting.len_before.Goals as goal
 
 pub returns-then-stops-clause-value : goal.returns-then-stops-clause-value

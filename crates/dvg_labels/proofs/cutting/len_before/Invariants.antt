@@ -1,5 +1,4 @@
-use Rattle.std.proofs.Common.{◌≡◌, ◌<◌, ℕ, false, get_or}
-use Rattle.dvg_labels.specs.Cutting.{stops}
+use Rattle.dvg_labels.proofs.Common.{◌≡◌, ◌<◌, ℕ, false, get_or, stops}
 use Rattle.dvg_labels.proofs.cutting.len_before.Given as goal
 
 abbrev pub invariant-loop-i : goal.invariant-loop-i

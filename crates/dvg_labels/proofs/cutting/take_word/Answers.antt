@@ -1,7 +1,4 @@
-use Rattle.std.proofs.Common.{take, drop, length, ◌-◌}
-use Rattle.std.proofs.Common.{arith}
-use Rattle.std.proofs.lemmas.List.{take_rest}
-use Rattle.dvg_labels.specs.Cutting.{words}
+use Rattle.dvg_labels.proofs.Common.{take, drop, length, ◌-◌, arith, take_rest}
 use Rattle.dvg_labels.proofs.Parts.{word_off}
 use Rattle.dvg_labels.proofs.cutting.take_word.Goals as goal
 

@@ -1,7 +1,5 @@
-use Rattle.std.proofs.Common.{map, take, subst, sym, ◌∙◌, ◌+◌, Err}
-use Rattle.std.proofs.Common.{arith}
+use Rattle.dvg_labels.proofs.Common.{map, take, ◌+◌, arith, named_of}
 use Rattle.std.proofs.lemmas.Result.{err_from_is_err_and}
-use Rattle.dvg_labels.specs.Labels.{named_of, IsAddress}
 use Rattle.dvg_labels.proofs.Naming.{one_more, two_of_all, found_in_all, address_of_found}
 use Rattle.dvg_labels.proofs.labels.address_in.Goals as goal
 

@@ -1,5 +1,4 @@
-use Rattle.std.proofs.Common.{map, take}
-use Rattle.dvg_labels.specs.Labels.{named_of, IsFound}
+use Rattle.dvg_labels.proofs.Common.{map, take, named_of, IsFound}
 use Rattle.dvg_labels.proofs.labels.address_in.Given as goal
 
 abbrev pub invariant-loop-label : goal.invariant-loop-label

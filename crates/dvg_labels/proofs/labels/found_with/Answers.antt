@@ -1,5 +1,4 @@
-use Rattle.std.proofs.Common.{refl, subst}
-use Rattle.dvg_labels.specs.Labels.{named_of, IsFound}
+use Rattle.dvg_labels.proofs.Common.{refl, subst, named_of, IsFound}
 use Rattle.dvg_labels.proofs.Naming.{keep_other, first_found, two_found, not_true}
 use Rattle.dvg_labels.proofs.labels.found_with.Goals as goal
 

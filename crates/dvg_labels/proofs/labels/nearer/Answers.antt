@@ -1,9 +1,5 @@
-use Rattle.std.proofs.Common.{subst, sym, ◌++◌, ◌∷◌, []}
-use Rattle.std.proofs.Common.{rules}
-use Rattle.std.proofs.lemmas.Grind.{common_steps}
-use Rattle.std.proofs.Common.{arith}
-use Rattle.dvg_labels.specs.Labels.{named_of, IsNearest, Names}
-use Rattle.dvg_labels.proofs.Naming.{keep_best, keep_nearer, take_first, take_nearer}
+use Rattle.dvg_labels.proofs.Common.{subst, sym, ◌++◌, ◌∷◌, [], rules, common_steps, arith, named_of, IsNearest}
+use Rattle.dvg_labels.proofs.Naming.{keep_best, keep_nearer, take_nearer}
 use Rattle.dvg_labels.proofs.labels.nearer.Goals as goal
 
 pub returns-in_default : goal.returns-in_default

@@ -1,5 +1,4 @@
-use Rattle.std.proofs.Common.{map, take, subst, sym, ◌++◌, ◌∷◌, [], ◌+◌, add-one}
-use Rattle.dvg_labels.specs.Labels.{named_of, IsNearest}
+use Rattle.dvg_labels.proofs.Common.{map, take, named_of}
 use Rattle.dvg_labels.proofs.Naming.{one_more}
 use Rattle.dvg_labels.proofs.labels.nearest_in.Goals as goal
 

@@ -1,5 +1,4 @@
-use Rattle.std.proofs.Common.{◌≡◌, drop}
-use Rattle.dvg_labels.specs.Grammar.{are_graphic}
+use Rattle.dvg_labels.proofs.Common.{◌≡◌, drop, are_graphic}
 use Rattle.dvg_labels.proofs.line.are_graphic.Given as goal
 
 abbrev pub invariant-loop-byte : goal.invariant-loop-byte

@@ -1,5 +1,4 @@
-use Rattle.std.proofs.Common.{◌≡◌, ◌≤◌, drop}
-use Rattle.dvg_labels.specs.Grammar.{number_behind, MOST_VALUE}
+use Rattle.dvg_labels.proofs.Common.{◌≡◌, ◌≤◌, drop, number_behind, MOST_VALUE}
 use Rattle.dvg_labels.proofs.line.number.Given as goal
 
 abbrev pub invariant-loop-digit : goal.invariant-loop-digit

@@ -1,7 +1,4 @@
-use Rattle.std.proofs.Common.{◌≡◌, ◌∷◌, ◌+◌, ◌≤◌, Some, ap, subst, sym, ◌∙◌, arith, length}
-use Rattle.dvg_labels.specs.Cutting.{lines_behind}
-use Rattle.dvg_labels.specs.Limits.{MOST_BYTES}
-use Rattle.dvg_labels.specs.Reading.{left}
+use Rattle.dvg_labels.proofs.Common.{arith}
 use Rattle.dvg_labels.proofs.Progress.{line_read, less_left}
 use Rattle.dvg_labels.proofs.reading.read_labels.Goals as goal
 

@@ -1,6 +1,5 @@
-use Rattle.std.proofs.Common.{◌+◌, ◌≤◌}
+use Rattle.dvg_labels.proofs.Common.{◌+◌, ◌≤◌, left}
 use Rattle.dvg_labels.specs.Limits.{MOST_BYTES}
-use Rattle.dvg_labels.specs.Reading.{left}
 use Rattle.dvg_labels.proofs.Progress.{Progress}
 use Rattle.dvg_labels.proofs.reading.read_labels.Given as goal
 

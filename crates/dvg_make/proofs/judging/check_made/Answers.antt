@@ -1,11 +1,6 @@
-use Rattle.dvg_make.proofs.Common.{◌≡◌, List, length, refl, ap, subst, Ok, Err, Board, Entry, GoodFrame, Exact}
-use Rattle.std.proofs.Common.{arith}
-use Rattle.dvg_check.specs.Circuit.{SafeOnCircuit, CountsOnCircuit}
-use Rattle.dvg_check.specs.Causes.{CauseOf}
+use Rattle.dvg_make.proofs.Common.{◌≡◌, List, length, refl, ap, subst, Ok, Err, Board, Entry, GoodFrame, Exact, arith, SafeOnCircuit, CountsOnCircuit, Shapes, Safe, CountsAtHalt}
 use Rattle.dvg_check.specs.declared.finding.RomFinding.TheVariants as finding
 use Rattle.dvg_check.specs.Finding.{FirstFrameFound}
-use Rattle.dvg_check.specs.Judged.{Shapes}
-use Rattle.dvg_check.specs.Safety.{Safe, CountsAtHalt}
 use Rattle.dvg_make.proofs.OwnCertificate.{judged_by}
 use Rattle.dvg_make.proofs.judging.check_made.Goals as goal
 

@@ -1,5 +1,4 @@
-use Rattle.dvg_make.proofs.Common.{ℕ, [], ◌∷◌, List, subst}
-use Rattle.dvg_make.specs.Private.Making.{IsRefused, TellsRight}
+use Rattle.dvg_make.proofs.Common.{ℕ, [], ◌∷◌, List, subst, IsRefused, TellsRight}
 use Rattle.dvg_make.proofs.OwnCertificate.{made_refused, made_verdict}
 use Rattle.dvg_make.proofs.Causes.{account_cause, call_cause}
 use Rattle.dvg_make.proofs.judging.explain_judging.Goals as goal

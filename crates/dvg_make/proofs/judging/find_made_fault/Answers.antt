@@ -1,6 +1,4 @@
-use Rattle.dvg_make.proofs.Common.{◌+◌, List, ap, arith, length, subst, sym, Contains, MadeEntry, At, Rel, Empty, Entry, Exact}
-use Rattle.std.proofs.Common.{pos, slice_index_or}
-use Rattle.std.proofs.lemmas.List.Elements.{Contains-get_or}
+use Rattle.dvg_make.proofs.Common.{◌+◌, List, arith, subst, sym, Contains, MadeEntry, At, Rel, Empty, Entry, Exact, pos, slice_index_or, Contains-get_or}
 use Rattle.dvg_check.proofs.Listed.{faulty_found, good_more}
 use Rattle.dvg_make.proofs.judging.find_made_fault.Goals as goal
 

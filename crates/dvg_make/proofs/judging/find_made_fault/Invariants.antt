@@ -1,5 +1,4 @@
-use Rattle.dvg_make.proofs.Common.{◌-◌, ◌≤◌, length, AllByRecursion, GoodShape, Exact}
-use Rattle.std.proofs.Common.{take}
+use Rattle.dvg_make.proofs.Common.{◌-◌, ◌≤◌, length, AllByRecursion, GoodShape, Exact, take}
 use Rattle.dvg_make.proofs.judging.find_made_fault.Given as goal
 
 abbrev pub invariant-entries : goal.invariant-entries

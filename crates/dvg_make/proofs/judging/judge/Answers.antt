@@ -1,8 +1,4 @@
-use Rattle.dvg_make.proofs.Common.{ℕ, [], List, Err, sym, subst, ap, ◌∙◌, FrameRefused, HasCallCause}
-use Rattle.std.proofs.Common.{rules}
-use Rattle.std.proofs.Common.{arith}
-use Rattle.dvg_make.specs.Judging.{FrameRefusal, VerdictByMade, refusal_by}
-use Rattle.dvg_make.specs.Private.Making.{IsRefused, blocked_fault}
+use Rattle.dvg_make.proofs.Common.{ℕ, [], List, Err, sym, subst, ap, ◌∙◌, FrameRefused, rules, arith, refusal_by, IsRefused, blocked_fault}
 use Rattle.dvg_make.proofs.OwnCertificate.{made_refused, made_verdict}
 use Rattle.dvg_make.proofs.Causes.{call_cause, stuck_cause}
 use Rattle.dvg_make.proofs.judging.judge.Goals as goal

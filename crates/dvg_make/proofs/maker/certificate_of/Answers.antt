@@ -1,6 +1,4 @@
-use Rattle.dvg_make.proofs.Common.{sym, subst, ◌∙◌, ap, IsCertificate, FramesMade}
-use Rattle.dvg_words.specs.Values.{MemoryMap, IsMap}
-use Rattle.dvg_cert.specs.Order.{Certificate}
+use Rattle.dvg_make.proofs.Common.{sym, subst, ◌∙◌, ap, IsCertificate, FramesMade, MemoryMap, IsMap, Certificate}
 use Rattle.dvg_make.proofs.Finishing.{is_made, is_certificate}
 use Rattle.dvg_make.proofs.maker.certificate_of.Goals as goal
 

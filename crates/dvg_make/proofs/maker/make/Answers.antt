@@ -1,7 +1,4 @@
-use Rattle.std.proofs.Common.{subst, sym}
-use Rattle.std.proofs.Common.{arith}
-use Rattle.dvg_make.specs.Accounts.{HasRootCause}
-use Rattle.dvg_make.specs.Refusals.{Refuses}
+use Rattle.dvg_make.proofs.Common.{arith}
 use Rattle.dvg_make.proofs.Finishing.{made_roots}
 use Rattle.dvg_make.proofs.Collecting.{as_make_fault}
 use Rattle.dvg_make.proofs.Causes.{root_cause}

@@ -1,5 +1,4 @@
-use Rattle.dvg_make.specs.Private.Making.{IsRefused}
-use Rattle.std.proofs.Common.{arith}
+use Rattle.dvg_make.proofs.Common.{arith}
 use Rattle.dvg_make.proofs.Turns.{if_err_same}
 use Rattle.dvg_make.proofs.maker.make_all.Goals as goal
 

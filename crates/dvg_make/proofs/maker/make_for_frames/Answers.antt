@@ -1,5 +1,4 @@
-use Rattle.dvg_make.proofs.Common.{sym, subst, HasCause}
-use Rattle.std.proofs.Common.{arith}
+use Rattle.dvg_make.proofs.Common.{arith}
 use Rattle.dvg_make.proofs.Causes.{stuck_cause}
 use Rattle.dvg_make.proofs.maker.make_for_frames.Goals as goal
 

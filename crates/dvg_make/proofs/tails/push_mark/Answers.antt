@@ -1,5 +1,4 @@
-use Rattle.dvg_make.proofs.Common.{ap, ◌∙◌, ◌++◌, ◌∷◌, [], PartialEntry}
-use Rattle.std.proofs.Common.{arith}
+use Rattle.dvg_make.proofs.Common.{arith}
 use Rattle.dvg_make.proofs.Marks.{mark_pushed}
 use Rattle.dvg_make.proofs.tails.push_mark.Goals as goal
 

@@ -1,4 +1,5 @@
-use Rattle.std.proofs.Common.{codes, decimal, ◌≡◌, ◌++◌}
+use Rattle.dvg_spelling.proofs.Common.{codes, ◌≡◌, ◌++◌}
+use Rattle.std.proofs.Common.{decimal}
 use Rattle.dvg_spelling.proofs.Lines.{three_counts}
 use Rattle.dvg_spelling.proofs.report.push_accepted.Goals as goal
 

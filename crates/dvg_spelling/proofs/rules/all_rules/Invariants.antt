@@ -1,6 +1,5 @@
-use Rattle.std.proofs.Common.{◌≡◌}
+use Rattle.dvg_spelling.proofs.Common.{◌≡◌, numbers_below}
 use Rattle.dvg_spelling.specs.Each.{of_each}
-use Rattle.dvg_spelling.specs.Rules.{numbers_below}
 use Rattle.dvg_spelling.proofs.rules.all_rules.Given as goal
 
 abbrev pub invariant-loop-number : goal.invariant-loop-number

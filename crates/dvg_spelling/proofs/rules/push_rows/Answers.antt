@@ -1,4 +1,4 @@
-use Rattle.std.proofs.Common.{string_bytes, arith}
+use Rattle.dvg_spelling.proofs.Common.{string_bytes, arith}
 use Rattle.dvg_spelling.proofs.Tables.{rows_next}
 use Rattle.dvg_spelling.proofs.rules.push_rows.Goals as goal
 

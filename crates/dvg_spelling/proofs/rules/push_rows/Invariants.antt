@@ -1,5 +1,4 @@
-use Rattle.std.proofs.Common.{◌≡◌, ◌++◌, string_bytes, take}
-use Rattle.dvg_spelling.specs.Rules.{rows_text}
+use Rattle.dvg_spelling.proofs.Common.{◌≡◌, ◌++◌, string_bytes, take, rows_text}
 use Rattle.dvg_spelling.proofs.rules.push_rows.Given as goal
 
 abbrev pub invariant-loop-rule : goal.invariant-loop-rule

@@ -1,4 +1,4 @@
-use Rattle.std.proofs.Common.{refl, rules, arith}
+use Rattle.dvg_spelling.proofs.Common.{arith}
 use Rattle.dvg_spelling.proofs.Tallies.{refused_next}
 use Rattle.dvg_spelling.proofs.tally.push_refusals.Goals as goal
 

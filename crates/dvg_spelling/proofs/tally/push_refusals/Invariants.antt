@@ -1,5 +1,4 @@
-use Rattle.std.proofs.Common.{◌≡◌, ◌≤◌, ◌+◌, ◌*◌, ◌++◌, length, take}
-use Rattle.dvg_spelling.specs.Tally.{refused_texts}
+use Rattle.dvg_spelling.proofs.Common.{◌≡◌, ◌≤◌, ◌+◌, ◌*◌, ◌++◌, length, take, refused_texts}
 use Rattle.dvg_spelling.proofs.tally.push_refusals.Given as goal
 
 abbrev pub invariant-loop-number : goal.invariant-loop-number

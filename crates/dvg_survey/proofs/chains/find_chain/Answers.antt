@@ -1,5 +1,4 @@
-use Rattle.dvg_survey.proofs.Common.{arith, length, ◌≡◌, ap, sym, subst, ◌∙◌, true, false, Entry, IsChain}
-use Rattle.std.proofs.lemmas.Option.{slice_get_within}
+use Rattle.dvg_survey.proofs.Common.{arith, length, ◌≡◌, ap, sym, ◌∙◌, true, false, slice_get_within}
 use Rattle.dvg_survey.proofs.SameEntry.{entry_decides}
 use Rattle.dvg_survey.proofs.Complete.{begun, gone_on, none_past, none_at_end, reached_claim, is_none}
 use Rattle.dvg_survey.proofs.chains.find_chain.Goals as goal

@@ -1,5 +1,4 @@
-use Rattle.dvg_survey.proofs.Common.{subst, sym, List, All, IsClaim, Call}
-use Rattle.std.proofs.Common.{arith}
+use Rattle.dvg_survey.proofs.Common.{arith}
 use Rattle.dvg_survey.proofs.Complete.{shape_claims}
 use Rattle.dvg_survey.proofs.chains.reach_from.Goals as goal
 

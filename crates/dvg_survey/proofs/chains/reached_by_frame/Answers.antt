@@ -1,5 +1,4 @@
-use Rattle.dvg_survey.proofs.Common.{subst, sym, ap, ◌∙◌, List, None, All, IsClaim, Call, reach_all}
-use Rattle.std.proofs.Common.{arith}
+use Rattle.dvg_survey.proofs.Common.{reach_all, arith}
 use Rattle.dvg_survey.proofs.Complete.{frame_claims, frame_reaches}
 use Rattle.dvg_survey.proofs.chains.reached_by_frame.Goals as goal
 

@@ -1,4 +1,4 @@
-use Rattle.std.proofs.Common.{arith, length, ap}
+use Rattle.dvg_survey.proofs.Common.{arith, length, ap}
 use Rattle.dvg_survey.proofs.Bearing.{none_yet, one_down, no_further, no_more}
 use Rattle.dvg_survey.proofs.Walking.{where_none}
 use Rattle.dvg_survey.proofs.deepest.deepest_calls.Goals as goal

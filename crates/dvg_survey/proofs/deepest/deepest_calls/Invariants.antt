@@ -1,4 +1,4 @@
-use Rattle.std.proofs.Common.{length}
+use Rattle.dvg_survey.proofs.Common.{length}
 use Rattle.dvg_survey.proofs.Bearing.{Down}
 use Rattle.dvg_survey.proofs.deepest.deepest_calls.Given as goal
 

@@ -1,6 +1,4 @@
-use Rattle.dvg_survey.proofs.Common.{[], ◌∷◌, arith}
-use Rattle.dvg_words.specs.Memory.{frame_word}
-use Rattle.dvg_items.specs.Known.{frame_context}
+use Rattle.dvg_survey.proofs.Common.{[], ◌∷◌, arith, frame_word, frame_context}
 use Rattle.dvg_survey.proofs.Walking.{begins, goes_on, at_last, at_nothing, where_none, survey_on}
 use Rattle.dvg_survey.proofs.frame_survey.survey_items.Goals as goal
 

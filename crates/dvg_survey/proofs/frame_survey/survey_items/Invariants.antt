@@ -1,7 +1,4 @@
-use Rattle.dvg_survey.proofs.Common.{◌-◌, ◌+◌, List, ADDRESS_END, Item}
-use Rattle.dvg_words.specs.Memory.{frame_word}
-use Rattle.dvg_items.specs.Known.{frame_context}
-use Rattle.dvg_survey.specs.Survey.{IsSurveyAmong}
+use Rattle.dvg_survey.proofs.Common.{◌-◌, ◌+◌, List, ADDRESS_END, Item, frame_word, frame_context, IsSurveyAmong}
 use Rattle.dvg_survey.proofs.Walking.{Walked}
 use Rattle.dvg_survey.proofs.frame_survey.survey_items.Given as goal
 

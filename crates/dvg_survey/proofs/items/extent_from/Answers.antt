@@ -1,5 +1,4 @@
-use Rattle.dvg_survey.proofs.Common.{[], ◌∷◌, context_of}
-use Rattle.std.proofs.Common.{rules}
+use Rattle.dvg_survey.proofs.Common.{◌∷◌, context_of, rules}
 use Rattle.dvg_survey.proofs.Walking.{begins, goes_on, at_last, at_nothing, where_none, lit_on, least_none}
 use Rattle.dvg_survey.proofs.items.extent_from.Goals as goal
 

@@ -1,5 +1,4 @@
-use Rattle.dvg_survey.proofs.Common.{Option, ℕ, sym, ap, ◌∙◌, callee_at}
-use Rattle.std.proofs.Common.{arith}
+use Rattle.dvg_survey.proofs.Common.{Option, ℕ, sym, ap, ◌∙◌, callee_at, arith}
 use Rattle.dvg_survey.proofs.Visiting.{starts, stops, finds_none, walks_on, ends_here}
 use Rattle.dvg_survey.proofs.items.new_calls.Goals as goal
 

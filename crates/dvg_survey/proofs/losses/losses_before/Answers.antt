@@ -1,5 +1,4 @@
-use Rattle.dvg_survey.proofs.Common.{◌∷◌, arith, context_of}
-use Rattle.dvg_items.proofs.Stepping.{ends_at}
+use Rattle.dvg_survey.proofs.Common.{◌∷◌, arith, context_of, ends_at}
 use Rattle.dvg_survey.proofs.Losing.{none_past, none_after}
 use Rattle.dvg_survey.proofs.Walking.{goes_on, at_nothing, here_leads, here_stands, where_none, place_lost_on, scale_lost_on}
 use Rattle.dvg_survey.proofs.losses.losses_before.Goals as goal

@@ -1,5 +1,4 @@
-use Rattle.dvg_survey.proofs.Common.{◌≡◌, ◌-◌, ◌+◌, List, ADDRESS_END, Item, context_of}
-use Rattle.dvg_survey.specs.Losses.{place_lost_by, scale_lost_by}
+use Rattle.dvg_survey.proofs.Common.{◌≡◌, ◌-◌, ◌+◌, List, ADDRESS_END, Item, context_of, place_lost_by, scale_lost_by}
 use Rattle.dvg_survey.proofs.Losing.{NoneAt}
 use Rattle.dvg_survey.proofs.Walking.{Walked}
 use Rattle.dvg_survey.proofs.losses.losses_before.Given as goal

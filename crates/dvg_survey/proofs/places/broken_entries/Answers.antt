@@ -1,5 +1,4 @@
-use Rattle.dvg_survey.proofs.Common.{rules, ◌≡◌, length, List, subst, sym, ◌∙◌, Contains, Entry}
-use Rattle.dvg_survey.specs.Private.Sweeping.{IsSwept, TellsBroken}
+use Rattle.dvg_survey.proofs.Common.{rules, ◌≡◌, length, List, subst, sym, ◌∙◌, Contains, Entry, IsSwept, TellsBroken}
 use Rattle.dvg_survey.proofs.Sweeping.{first_covered, covered_on, told}
 use Rattle.dvg_survey.proofs.places.broken_entries.Goals as goal
 

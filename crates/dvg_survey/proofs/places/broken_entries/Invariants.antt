@@ -1,4 +1,4 @@
-use Rattle.std.proofs.Common.{length}
+use Rattle.dvg_survey.proofs.Common.{length}
 use Rattle.dvg_survey.proofs.Sweeping.{Covered}
 use Rattle.dvg_survey.proofs.places.broken_entries.Given as goal
 

@@ -1,5 +1,4 @@
-use Rattle.std.proofs.Common.{refl}
-use Rattle.std.proofs.Common.{arith}
+use Rattle.dvg_survey.proofs.Common.{arith}
 use Rattle.dvg_survey.proofs.Sweeping.{places_next}
 use Rattle.dvg_survey.proofs.places.entry_places.Goals as goal
 

@@ -1,5 +1,4 @@
-use Rattle.std.proofs.Common.{take}
-use Rattle.dvg_survey.specs.Places.{AreAllPlaces}
+use Rattle.dvg_survey.proofs.Common.{take, AreAllPlaces}
 use Rattle.dvg_survey.proofs.places.entry_places.Given as goal
 
 abbrev pub invariant-loop-entry : goal.invariant-loop-entry

@@ -1,6 +1,4 @@
-use Rattle.dvg_survey.proofs.Common.{rules, ◌≡◌, pos, ◌-ℤ◌, w64, w16, int_div_euclid, to_z-of_z}
-use Rattle.std.proofs.Common.{◌+ℤ◌}
-use mir.Val.{SFits}
+use Rattle.dvg_survey.proofs.Common.{rules, ◌≡◌, pos, ◌-ℤ◌, w64, w16, int_div_euclid, to_z-of_z, ◌+ℤ◌, SFits}
 use Rattle.dvg_survey.proofs.Quotients.{quotient, greatest_down, greatest_up}
 use Rattle.dvg_survey.proofs.places.greatest_place.Goals as goal
 

@@ -1,5 +1,4 @@
-use Rattle.dvg_survey.proofs.Common.{rules, ◌≡◌, pos, ◌-ℤ◌, w64, w16, int_div_euclid, to_z-of_z}
-use mir.Val.{SFits}
+use Rattle.dvg_survey.proofs.Common.{rules, ◌≡◌, pos, ◌-ℤ◌, w64, w16, int_div_euclid, to_z-of_z, SFits}
 use Rattle.dvg_survey.proofs.Quotients.{quotient, least_down, least_up}
 use Rattle.dvg_survey.proofs.places.least_place.Goals as goal
 

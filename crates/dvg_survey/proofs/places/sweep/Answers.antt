@@ -1,6 +1,4 @@
-use Rattle.dvg_survey.proofs.Common.{◌∙◌, ap, listed_claim}
-use Rattle.std.proofs.Common.{arith}
-use Rattle.std.proofs.lemmas.List.Elements.{Contains-get_or}
+use Rattle.dvg_survey.proofs.Common.{◌∙◌, ap, listed_claim, arith, Contains-get_or}
 use Rattle.dvg_survey.proofs.Sweeping.{kept_on, marked_on, swept_all}
 use Rattle.dvg_survey.proofs.places.sweep.Goals.{then-is_clean+in_ok-push, else-is_clean}
 use Rattle.dvg_survey.proofs.places.sweep.Goals as goal

@@ -1,7 +1,4 @@
-use Rattle.dvg_survey.proofs.Common.{sym, subst, pos, Rel, LitExtent, relative_corners, IsLeast}
-use Rattle.std.proofs.Common.{arith}
-use Rattle.dvg_items.specs.Bounds.{IsNearExtent}
-use Rattle.dvg_check.proofs.TailSizes.{IsNearBox-spanning}
+use Rattle.dvg_survey.proofs.Common.{subst, pos, relative_corners, arith, IsNearExtent, IsNearBox-spanning}
 use Rattle.dvg_survey.proofs.TailPoints.{spanning_least}
 use Rattle.dvg_survey.proofs.tails.lit_alone.Goals as goal
 

@@ -1,5 +1,4 @@
-use Rattle.dvg_check.proofs.TailRows.{one_more_kept}
-use Rattle.dvg_survey.proofs.Common.{IsLitFrom}
+use Rattle.dvg_survey.proofs.Common.{one_more_kept, IsLitFrom}
 use Rattle.dvg_survey.proofs.tails.make_all.Goals as goal
 
 pub keys-preserved-in-Some-tail_at : goal.keys-preserved-in-Some-tail_at

@@ -1,5 +1,4 @@
-use Rattle.dvg_survey.proofs.Common.{◌≤◌, ADDRESS_END, AreTails}
-use Rattle.dvg_check.specs.Passing.{set_number}
+use Rattle.dvg_survey.proofs.Common.{◌≤◌, ADDRESS_END, AreTails, set_number}
 use Rattle.dvg_survey.proofs.tails.make_all.Given as goal
 
 abbrev pub invariant-places : goal.invariant-places

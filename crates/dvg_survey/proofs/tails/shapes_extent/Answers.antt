@@ -1,8 +1,6 @@
-use Rattle.dvg_survey.proofs.Common.{arith, ap, subst, sym, get_or, length, List, ℕ, ◌≡◌, ◌+◌, ◌-◌, ◌<◌, rom_word, Entry, IsSomeCertificate, shape_context, IsLitFrom}
+use Rattle.dvg_survey.proofs.Common.{arith, ap, subst, sym, get_or, length, List, ℕ, ◌≡◌, ◌+◌, ◌-◌, ◌<◌, rom_word, Entry, IsSomeCertificate, shape_context, IsLitFrom, claim_at, none_kept, IsExtent}
 use Rattle.dvg_check.specs.declared.slots.TheConstants.{SLOTS}
 use Rattle.dvg_check.proofs.Listed.{no_entry}
-use Rattle.dvg_check.proofs.TailRows.{claim_at, none_kept}
-use Rattle.dvg_survey.specs.Calls.{IsExtent}
 use Rattle.dvg_survey.proofs.AllShapes.{Boxed, none_boxed, one_more}
 use Rattle.dvg_survey.proofs.tails.shapes_extent.Goals as goal
 

@@ -1,9 +1,4 @@
-use Rattle.dvg_survey.proofs.Common.{arith, sym, ap, subst, pos, ℕ, ◌≡◌, ◌+◌, ◌-◌, ◌∙◌, List, ADDRESS_END, End, Rel, Entry, IsLeast, Cursor, LitExtent, Seen, relative_corners, Shape, Known, Lit, relative_part, absolute_part}
-use Rattle.dvg_items.specs.Bounds.{IsNearPlace}
-use Rattle.dvg_items.proofs.Near.{next_near}
-use Rattle.dvg_check.specs.Private.Tails.{first_seen}
-use Rattle.dvg_check.proofs.TailSizes.{IsNearBox-more}
-use Rattle.dvg_survey.specs.Private.Lighting.{AreJoined}
+use Rattle.dvg_survey.proofs.Common.{arith, sym, ap, subst, pos, ℕ, ◌≡◌, ◌+◌, ◌-◌, ◌∙◌, List, ADDRESS_END, End, Rel, Entry, IsLeast, Cursor, LitExtent, Seen, relative_corners, Shape, Known, Lit, relative_part, absolute_part, IsNearPlace, next_near, first_seen, IsNearBox-more, AreJoined}
 use Rattle.dvg_survey.proofs.TailLaws.{before, ending, part_near, seen_first}
 use Rattle.dvg_survey.proofs.tails.tail_at.Goals as goal
 

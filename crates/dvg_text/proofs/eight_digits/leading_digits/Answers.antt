@@ -1,5 +1,5 @@
+use Rattle.dvg_text.proofs.Common.{arith}
 use Rattle.dvg_text.proofs.DigitLanes.{bytes_of, run, counted, few}
-use Rattle.std.proofs.Common.{arith}
 use Rattle.dvg_text.proofs.eight_digits.leading_digits.Goals as goal
 
 pub returns-clause-few : goal.returns-clause-few

@@ -1,6 +1,4 @@
-use Rattle.dvg_text.proofs.Common.{◌≡◌, ◌+◌, ◌-◌, ℕ, take, drop, ap, subst, ◌∙◌, arith, AllDigits, digits_value, take-take, length-drop}
-use Rattle.std.proofs.Common.{rules}
-use Rattle.std.proofs.lemmas.Grind.{common_steps}
+use Rattle.dvg_text.proofs.Common.{◌≡◌, ◌+◌, ◌-◌, ℕ, take, drop, ap, subst, ◌∙◌, arith, AllDigits, digits_value, take-take, length-drop, rules, common_steps}
 use Rattle.dvg_text.proofs.DigitSums.{all_take, all_drop, eight_more, first_digits, small}
 use Rattle.dvg_text.proofs.eight_digits.number_of_many.Goals as goal
 

@@ -1,5 +1,4 @@
-use Rattle.dvg_text.proofs.Common.{rules}
-use Rattle.std.proofs.lemmas.Nat.{le_bytes_4}
+use Rattle.dvg_text.proofs.Common.{rules, le_bytes_4}
 use Rattle.dvg_text.proofs.fields.word_of.Goals as goal
 
 pub returns-clause-bytes : goal.returns-clause-bytes

@@ -1,5 +1,4 @@
-use Rattle.dvg_text.proofs.Common.{◌≡◌, true, false, sym, ap, subst, ◌∙◌, IsMap, is_asteroids, rom_line}
-use Rattle.std.proofs.Common.{arith}
+use Rattle.dvg_text.proofs.Common.{◌≡◌, sym, ap, subst, ◌∙◌, IsMap, is_asteroids, rom_line, arith}
 use Rattle.dvg_text.proofs.FirstLines.{map_of, rom_found, nowhere_said, other_said, if_none}
 use Rattle.dvg_text.proofs.line.elsewhere_of.Goals as goal
 

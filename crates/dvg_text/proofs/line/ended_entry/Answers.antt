@@ -1,5 +1,4 @@
-use Rattle.dvg_text.proofs.Common.{◌∙◌, ap, sym, LINE_FEED, [], ◌∷◌, Some, past}
-use Rattle.std.proofs.Common.{arith}
+use Rattle.dvg_text.proofs.Common.{◌∙◌, ap, sym, LINE_FEED, [], ◌∷◌, Some, past, arith}
 use Rattle.dvg_text.proofs.WholeLines.{entry_ended}
 use Rattle.dvg_text.proofs.line.ended_entry.Goals as goal
 

@@ -1,6 +1,4 @@
-use Rattle.dvg_text.proofs.Common.{◌≡◌, ◌++◌, [], List, ℕ, ap, sym, subst, append-nil, append_assoc, Buffered}
-use Rattle.std.proofs.Common.{arith}
-use Rattle.std.proofs.lemmas.Result.{on_err_weaker}
+use Rattle.dvg_text.proofs.Common.{◌≡◌, ◌++◌, [], List, ℕ, ap, sym, subst, append-nil, append_assoc, Buffered, arith, on_err_weaker}
 use Rattle.dvg_text.proofs.Spelled.{sent_err, put_in_part, put_on, held_sent_in_part}
 use Rattle.dvg_text.proofs.lines.write_lines.Goals as goal
 

@@ -1,4 +1,4 @@
-use Rattle.dvg_text.proofs.Common.{◌≡◌, ℕ, ◌+◌, ◌*◌, ◌%◌, ◌<◌, ◌≤◌, List, get_or, length, take, arith, refl, AllDigits, digits_value, length-take-le}
+use Rattle.dvg_text.proofs.Common.{◌≡◌, ℕ, ◌+◌, ◌*◌, ◌%◌, ◌<◌, ◌≤◌, List, get_or, length, take, arith, AllDigits, digits_value, length-take-le}
 use Rattle.dvg_text.proofs.Digits.{below, one_digit}
 use Rattle.dvg_text.proofs.Leading.{too_long}
 use Rattle.dvg_text.proofs.numerals.leading_number_by_digits.Goals as goal

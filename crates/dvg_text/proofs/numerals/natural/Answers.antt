@@ -1,6 +1,6 @@
-use Rattle.dvg_text.proofs.Common.{◌≡◌, ◌∙◌, length, false, arith, sym, ◌==◌, eqb-true, nat_tests}
+use Rattle.dvg_text.proofs.Common.{arith, sym, eqb-true, nat_tests}
 use Rattle.dvg_text.proofs.Leading.{no_value, value_outside, value_taken}
-use Rattle.dvg_text.proofs.numerals.natural.Goals.{else-low-number-via-then-low-number+then-number-high+else-is_empty, else-low-number-via-then-low-number+else-number-high, else-low-number-via-else-low-number}
+use Rattle.dvg_text.proofs.numerals.natural.Goals.{else-low-number-via-else-low-number}
 use Rattle.dvg_text.proofs.numerals.natural.Goals as goal
 
 pub returns-in_err-number-clause-value : goal.returns-in_err-number-clause-value

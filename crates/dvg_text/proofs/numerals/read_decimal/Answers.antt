@@ -1,4 +1,4 @@
-use Rattle.dvg_text.proofs.Common.{◌≡◌, ◌∙◌, sym, arith, None, Some, natural_in}
+use Rattle.dvg_text.proofs.Common.{arith, natural_in}
 use Rattle.dvg_text.proofs.FieldValues.{natural_takes}
 use Rattle.dvg_text.proofs.NaturalNumbers.{natural_some}
 use Rattle.dvg_text.proofs.numerals.read_decimal.Goals as goal

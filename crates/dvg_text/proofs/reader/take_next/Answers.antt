@@ -1,4 +1,4 @@
-use Rattle.dvg_text.proofs.Common.{◌+◌, ◌-◌, ℕ, Some, None, Ok, take, drop, ap, arith, rules, length-take-le, LONGEST_LINE, EndsLine}
+use Rattle.dvg_text.proofs.Common.{◌-◌, Some, None, Ok, take, arith, rules, length-take-le, LONGEST_LINE, EndsLine}
 use Rattle.dvg_text.proofs.Refusals.{not_whole, rest_is, line_refused, end_fault, begins, after_refused}
 use Rattle.dvg_text.proofs.reader.take_next.Goals as goal
 

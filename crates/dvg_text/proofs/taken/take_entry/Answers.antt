@@ -1,5 +1,4 @@
-use Rattle.dvg_text.proofs.Common.{List, subst, arith, rules, Entry, StandsAfter}
-use Rattle.dvg_cert.proofs.Rising.{certificate_push}
+use Rattle.dvg_text.proofs.Common.{arith, certificate_push}
 use Rattle.dvg_text.proofs.taken.take_entry.Goals as goal
 
 pub returns-in-Ok : goal.returns-in-Ok

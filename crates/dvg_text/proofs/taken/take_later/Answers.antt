@@ -1,5 +1,4 @@
-use Rattle.dvg_text.proofs.Common.{◌≡◌, ℕ, List, ◌++◌, length, ◌∙◌, ap, sym, rules, begun_with, done_line, ended}
-use Rattle.std.proofs.Common.{arith}
+use Rattle.dvg_text.proofs.Common.{sym, begun_with, done_line, ended, arith}
 use Rattle.dvg_text.proofs.Refusals.{entry_taken}
 use Rattle.dvg_text.proofs.WholeLines.{nothing_said}
 use Rattle.dvg_text.proofs.taken.take_later.Goals as goal

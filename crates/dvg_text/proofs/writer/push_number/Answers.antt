@@ -1,4 +1,4 @@
-use Rattle.dvg_text.proofs.Common.{◌≤◌, ◌∙◌, length, ap, arith, w64, to_z-of_z, signed_decimal}
+use Rattle.dvg_text.proofs.Common.{arith, w64, to_z-of_z, signed_decimal}
 use Rattle.dvg_text.proofs.Lengths.{number_le, number_fits}
 use Rattle.dvg_text.proofs.writer.push_number.Goals as goal
 

@@ -1,5 +1,4 @@
-use Rattle.dvg_text.proofs.Common.{◌≡◌, ◌-◌, length, take, drop, ◌++◌, arith, sym, subst, rules, common_steps, take-add, Appends}
-use Rattle.std.proofs.KnownBytes.{Appends-trans}
+use Rattle.dvg_text.proofs.Common.{◌≡◌, ◌-◌, length, take, drop, ◌++◌, arith, sym, subst, rules, common_steps, take-add, Appends, Appends-trans}
 use Rattle.dvg_text.proofs.writer.write_bytes.Goals as goal
 
 pub sending-preserved : goal.sending-preserved

@@ -1,5 +1,4 @@
-use Rattle.dvg_text.proofs.Common.{◌≡◌, ◌∙◌, [], length, ap, arith, refl, rules, MemoryMap, begun_with, text_of, Buffered}
-use Rattle.std.proofs.lemmas.Result.{on_ok_weaker, on_err_weaker}
+use Rattle.dvg_text.proofs.Common.{◌≡◌, ◌∙◌, length, arith, refl, rules, begun_with, text_of, Buffered, on_ok_weaker, on_err_weaker}
 use Rattle.dvg_text.proofs.Spelled.{sent_err, first_held, entry_held, done_held, begun_in_part, held_sent, held_sent_in_part}
 use Rattle.dvg_text.proofs.writer.write_cert.Goals as goal
 

@@ -1,5 +1,4 @@
-use Rattle.std.proofs.Common.{arith}
-use Rattle.std.proofs.lemmas.Grind.{common_steps}
+use Rattle.dvg_verdict.proofs.Common.{arith}
 use Rattle.dvg_verdict.proofs.OneVerdict.{out_of_range}
 use Rattle.dvg_verdict.proofs.verdict.check_on.Goals as goal
 

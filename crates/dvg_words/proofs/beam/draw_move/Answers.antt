@@ -1,5 +1,4 @@
-use Rattle.std.proofs.Common.{rules, arith}
-use Rattle.dvg_words.specs.Beam.{displacement}
+use Rattle.dvg_words.proofs.Common.{rules, arith, displacement}
 use Rattle.dvg_words.proofs.Rounding.{board_moves_by, board_stays}
 use Rattle.dvg_words.proofs.beam.draw_move.Goals as goal
 

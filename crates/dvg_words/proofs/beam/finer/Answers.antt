@@ -1,5 +1,4 @@
-use Rattle.std.proofs.Common.{rules, ◌+◌, ◌^◌}
-use Rattle.std.proofs.Common.{arith}
+use Rattle.dvg_words.proofs.Common.{◌+◌, ◌^◌, arith}
 use Rattle.dvg_words.proofs.Rounding.{finer_near, lossless}
 use Rattle.dvg_words.proofs.beam.finer.Goals as goal
 

@@ -1,4 +1,4 @@
-use Rattle.std.proofs.Common.{rules}
+use Rattle.dvg_words.proofs.Common.{rules}
 use Rattle.dvg_words.proofs.Rounding.{lossless_finer}
 use Rattle.dvg_words.proofs.beam.finer_factor.Goals as goal
 

@@ -1,4 +1,4 @@
-use Rattle.std.proofs.Common.{rules}
+use Rattle.dvg_words.proofs.Common.{rules}
 use Rattle.dvg_words.proofs.Rounding.{rounds_at}
 use Rattle.dvg_words.proofs.beam.rounded_move.Goals as goal
 

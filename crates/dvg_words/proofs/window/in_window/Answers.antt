@@ -1,10 +1,5 @@
-use Rattle.std.proofs.Common.{rules, subst, sym, ◌≡◌, ℤ, pos, IsTrue, ◌↔◌, Bool, w64, w16}
-use Rattle.std.proofs.Common.{arith}
-use Rattle.std.proofs.lemmas.Int.{to_z-of_z}
-use Rattle.std.specs.Prelude.{◌≤ℤ◌, ◌*ℤ◌}
-use mir.Val.{SFits}
-use Rattle.dvg_words.specs.Values.{Window}
-use Rattle.dvg_words.specs.Beam.{InWindow}
+use Rattle.dvg_words.proofs.Common.{◌≡◌, ℤ, pos, IsTrue, ◌↔◌, Bool, arith, to_z-of_z, ◌≤ℤ◌, Window, InWindow}
+use Rattle.std.specs.Prelude.{◌*ℤ◌}
 use Rattle.dvg_words.proofs.window.in_window.Goals as goal
 
 abbrev IsWithin : ℤ → ℤ → ℤ → Type 0

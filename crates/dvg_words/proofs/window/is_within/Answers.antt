@@ -1,8 +1,4 @@
-use Rattle.std.proofs.Common.{rules, ◌≡◌, subst, ℤ, IsTrue, ◌↔◌, Bool, w64, w16}
-use Rattle.std.proofs.Common.{arith}
-use Rattle.std.proofs.lemmas.Int.{to_z-of_z}
-use Rattle.std.specs.Prelude.{◌≤ℤ◌}
-use mir.Val.{SFits}
+use Rattle.dvg_words.proofs.Common.{◌≡◌, ℤ, IsTrue, ◌↔◌, Bool, arith, to_z-of_z, ◌≤ℤ◌}
 use Rattle.dvg_words.proofs.window.is_within.Goals as goal
 
 between : (t : Bool) (low p high first last : ℤ) → low ≡ first → high ≡ last

@@ -1,5 +1,4 @@
-use Rattle.std.proofs.Common.{ap}
-use Rattle.dvg_account.specs.Items.{item_line}
+use Rattle.dvg_account.proofs.Common.{ap, item_line}
 use Rattle.dvg_account.proofs.Building.{then, told_as}
 use Rattle.dvg_account.proofs.item.RefusedItem.push_lines.Goals as goal
 

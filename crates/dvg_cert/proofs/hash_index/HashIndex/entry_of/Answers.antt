@@ -1,7 +1,6 @@
-use Rattle.dvg_cert.proofs.Common.{◌∙◌, List, Some, get_or, sym, ap, option_copied, Entry}
-use Rattle.std.proofs.Common.{arith}
-use Rattle.dvg_cert.specs.Lookup.{entry_at}
+use Rattle.dvg_cert.proofs.Common.{◌∙◌, List, sym, ap, Entry, arith, entry_at}
 use Rattle.dvg_cert.proofs.Hashing.{none_there, at_index}
+use Rattle.std.specs.Option.{option_copied}
 use Rattle.dvg_cert.proofs.hash_index.HashIndex.entry_of.Goals as goal
 
 pub returns-in_err-index : goal.returns-in_err-index

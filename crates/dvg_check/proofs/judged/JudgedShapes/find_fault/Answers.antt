@@ -1,8 +1,4 @@
-use Rattle.dvg_check.proofs.Common.{subst, ◌≡◌, Safe, Exact, Board}
-use Rattle.std.specs.Prelude.{IfOk}
-use Rattle.dvg_check.specs.Judged.{Shapes}
-use Rattle.dvg_check.specs.Laws.{CountsAtHalt}
-use Rattle.dvg_check.specs.Circuit.{SafeOnCircuit, CountsOnCircuit}
+use Rattle.dvg_check.proofs.Common.{subst, ◌≡◌, Safe, Exact, Board, IfOk, Shapes, CountsAtHalt, SafeOnCircuit, CountsOnCircuit}
 use Rattle.dvg_check.proofs.Accepting.{safe_over, exact_over, circuit_over, circuit_counts_over}
 use Rattle.dvg_check.proofs.judged.JudgedShapes.find_fault.Goals as goal
 

@@ -1,8 +1,4 @@
-use Rattle.std.proofs.Common.{rules, ◌≡◌, ◌∙◌, ap, ℤ, pos, ◌*ℤ◌, w16, w64}
-use Rattle.std.proofs.Common.{arith}
-use Rattle.std.proofs.lemmas.Int.{to_z-of_z}
-use mir.Val.{SFits}
-use Rattle.dvg_words.specs.Values.{Window}
+use Rattle.dvg_check.proofs.Common.{◌≡◌, ℤ, pos, ◌*ℤ◌, w16, w64, arith, to_z-of_z, Window}
 use Rattle.dvg_check.specs.Leaving.{window_limits}
 use Rattle.dvg_check.proofs.leaving.Limits.of_window.Goals as goal
 

@@ -1,5 +1,4 @@
-use Rattle.std.proofs.Common.{◌≡◌}
-use Rattle.dvg_circuit.specs.Counters.{counters_after, passed}
+use Rattle.dvg_circuit.proofs.Common.{◌≡◌, counters_after, passed}
 use Rattle.dvg_circuit.proofs.lit.LitDraw.passed.Given as goal
 
 abbrev pub invariant-loop-count : goal.invariant-loop-count

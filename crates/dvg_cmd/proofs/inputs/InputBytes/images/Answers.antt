@@ -1,6 +1,4 @@
-use Rattle.dvg_cmd.proofs.Common.{◌∙◌, sym, subst, ap, words_of, of_each, AreFrames, FramesFaultMeans}
-use Rattle.std.proofs.Common.{arith}
-use Rattle.dvg_cmd.specs.Private.Reading.{RefusesLengths}
+use Rattle.dvg_cmd.proofs.Common.{sym, subst, words_of, of_each, FramesFaultMeans, arith, RefusesLengths}
 use Rattle.dvg_cmd.proofs.MakerRuns.{wrong_length}
 use Rattle.dvg_cmd.proofs.FramesRuns.{told_err, images_read, lengths_refused}
 use Rattle.dvg_cmd.proofs.inputs.InputBytes.images.Goals as goal

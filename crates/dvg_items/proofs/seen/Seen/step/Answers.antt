@@ -1,4 +1,4 @@
-use Rattle.std.proofs.Common.{sym}
+use Rattle.dvg_items.proofs.Common.{sym}
 use Rattle.dvg_items.proofs.Near.{step_sound}
 use Rattle.dvg_items.proofs.seen.Seen.step.Goals as goal
 

@@ -1,7 +1,4 @@
-use Rattle.dvg_make.proofs.Common.{◌∙◌, ◌++◌, ◌∷◌, [], List, ap, sym, subst, Entry, entry_at, IsKeyed, values_of, lookup_is, pair_test}
-use Rattle.std.proofs.Common.{arith}
-use Rattle.indexmap.proofs.CallerLemmas.{insert_entry-new}
-use Rattle.dvg_cert.proofs.Pairs.{values_of-append, keyed_push}
+use Rattle.dvg_make.proofs.Common.{entry_at, values_of, lookup_is, pair_test, arith, insert_entry-new, values_of-append, keyed_push}
 use Rattle.dvg_make.proofs.made_entries.MadeEntries.add.Goals as goal
 
 pub invariant_of-self-2 : goal.invariant_of-self-2

@@ -1,5 +1,4 @@
-use Rattle.dvg_make.proofs.Common.{◌∙◌, List, ap, Entry, entry_at, lookup_is, pair_test}
-use Rattle.std.proofs.Common.{arith}
+use Rattle.dvg_make.proofs.Common.{entry_at, lookup_is, pair_test, arith}
 use Rattle.dvg_make.proofs.made_entries.MadeEntries.find.Goals as goal
 
 pub returns : goal.returns

@@ -1,5 +1,4 @@
-use Rattle.dvg_make.proofs.Common.{◌∙◌, sym, ap, length, List, Entry}
-use Rattle.dvg_cert.proofs.Pairs.{length-values_of}
+use Rattle.dvg_make.proofs.Common.{◌∙◌, sym, ap, length, List, Entry, length-values_of}
 use Rattle.dvg_make.proofs.made_entries.MadeEntries.len.Goals as goal
 
 pub returns : goal.returns

@@ -1,12 +1,7 @@
-use Rattle.dvg_make.proofs.Common.{◌∙◌, List, length, sym, ap, refl, Entry, entry_at, IsKeyed, lookup_is, pair_test}
-use Rattle.std.proofs.Common.{arith}
-use Rattle.std.proofs.Common.{◌&&◌}
-use Rattle.std.specs.Prelude.{nat_eq}
+use Rattle.dvg_make.proofs.Common.{◌∙◌, List, length, sym, ap, refl, Entry, entry_at, IsKeyed, lookup_is, pair_test, arith, ◌&&◌, nat_eq, IsOwn, key_test, length-values_of}
 use Rattle.std.proofs.lemmas.List.Sorted.{All-permutation}
 use Rattle.std.proofs.lemmas.Map.Keys.{apart_from_distinct}
 use Rattle.dvg_cert.specs.contracts.entry.KeyOrd.TheImpl.{ghosts as orders}
-use Rattle.dvg_cert.specs.Private.Keyed.{IsOwn}
-use Rattle.dvg_cert.proofs.Pairs.{key_test, length-values_of}
 use Rattle.dvg_make.proofs.Sorting.{rising}
 use Rattle.dvg_make.proofs.Turns.{on_ok, on_ok_map}
 use Rattle.dvg_make.proofs.made_entries.MadeEntries.sort.Goals as goal

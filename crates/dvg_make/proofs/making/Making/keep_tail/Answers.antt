@@ -1,6 +1,4 @@
-use Rattle.dvg_make.proofs.Common.{subst}
-use Rattle.std.proofs.Common.{arith}
-use Rattle.dvg_make.specs.Private.Partial.{Advances}
+use Rattle.dvg_make.proofs.Common.{subst, arith, Advances}
 use Rattle.dvg_make.proofs.Marks.{tail_kept}
 use Rattle.dvg_make.proofs.making.Making.keep_tail.Goals as goal
 

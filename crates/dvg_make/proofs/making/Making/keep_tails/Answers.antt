@@ -1,5 +1,4 @@
-use Rattle.dvg_make.proofs.Common.{rules, ◌≡◌, ◌∙◌, ◌∷◌, [], ◌++◌, sym, subst, ArePartial}
-use Rattle.std.proofs.Common.{arith}
+use Rattle.dvg_make.proofs.Common.{arith}
 use Rattle.dvg_make.proofs.Chains.{walks_last, walks_pop}
 use Rattle.dvg_make.proofs.making.Making.keep_tails.Goals as goal
 

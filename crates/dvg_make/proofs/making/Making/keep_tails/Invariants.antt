@@ -1,5 +1,4 @@
-use Rattle.dvg_make.proofs.Common.{◌≡◌, length, ArePartial}
-use Rattle.dvg_make.specs.Private.Making.{IsRightFor}
+use Rattle.dvg_make.proofs.Common.{◌≡◌, length, ArePartial, IsRightFor}
 use Rattle.dvg_make.proofs.making.Making.keep_tails.Given as goal
 
 abbrev pub invariant-loop-mark : goal.invariant-loop-mark

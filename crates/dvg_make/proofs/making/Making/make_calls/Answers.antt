@@ -1,6 +1,4 @@
-use Rattle.dvg_make.proofs.Common.{◌+◌, arith, subst, IsFramed}
-use Rattle.dvg_make.specs.Private.Framing.{BlocksHere}
-use Rattle.dvg_make.specs.Private.Making.{IsRefused}
+use Rattle.dvg_make.proofs.Common.{arith}
 use Rattle.dvg_make.proofs.Turns.{if_err_same}
 use Rattle.dvg_make.proofs.Collecting.{frame_framed, frames_framed, call_refused}
 use Rattle.dvg_make.proofs.making.Making.make_calls.Goals as goal

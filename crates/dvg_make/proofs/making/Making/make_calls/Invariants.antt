@@ -1,6 +1,5 @@
-use Rattle.dvg_make.proofs.Common.{AllFramed}
+use Rattle.dvg_make.proofs.Common.{AllFramed, IsRightFor}
 use Rattle.std.specs.Prelude.{take}
-use Rattle.dvg_make.specs.Private.Making.{IsRightFor}
 use Rattle.dvg_make.proofs.making.Making.make_calls.Given as goal
 
 abbrev pub invariant-loop-index : goal.invariant-loop-index

@@ -1,6 +1,5 @@
-use Rattle.dvg_make.proofs.Common.{◌-◌}
+use Rattle.dvg_make.proofs.Common.{◌-◌, IsRightFor}
 use Rattle.dvg_make.proofs.Framing.{FrameWalk}
-use Rattle.dvg_make.specs.Private.Making.{IsRightFor}
 use Rattle.dvg_make.proofs.making.Making.make_frame.Given as goal
 
 abbrev pub invariant-loop-format : goal.invariant-loop-format

@@ -1,7 +1,6 @@
-use Rattle.dvg_make.proofs.Common.{◌+◌, ℕ, List, arith, rules}
+use Rattle.dvg_make.proofs.Common.{◌+◌, ℕ, List, arith, rules, IsRefused}
 use Rattle.dvg_make.proofs.Turns.{if_err_same}
 use Rattle.dvg_make.proofs.Collecting.{root_collected, root_refused, outside_refused}
-use Rattle.dvg_make.specs.Private.Making.{IsRefused}
 use Rattle.dvg_make.proofs.making.Making.make_roots.Goals as goal
 
 pub returns-then-not-can_be_root-clause-err : goal.returns-then-not-can_be_root-clause-err

@@ -1,6 +1,5 @@
-use Rattle.dvg_make.proofs.Common.{Collected}
+use Rattle.dvg_make.proofs.Common.{Collected, IsRightFor}
 use Rattle.std.specs.Prelude.{take}
-use Rattle.dvg_make.specs.Private.Making.{IsRightFor}
 use Rattle.dvg_make.proofs.making.Making.make_roots.Given as goal
 
 abbrev pub invariant-loop-addr : goal.invariant-loop-addr

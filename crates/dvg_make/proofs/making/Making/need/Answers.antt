@@ -1,5 +1,4 @@
-use Rattle.dvg_make.proofs.Common.{◌≡◌, refl, false, Option, None, Some, sym, subst, ap, ◌∙◌, rules, Entry, PartialEntry, Obstacle, Bars, obstacle_fault}
-use Rattle.std.proofs.Common.{arith}
+use Rattle.dvg_make.proofs.Common.{◌≡◌, refl, false, Option, None, sym, subst, ap, ◌∙◌, rules, Entry, PartialEntry, Obstacle, Bars, obstacle_fault, arith}
 use Rattle.std.specs.Prelude.{is_some}
 use Rattle.dvg_make.proofs.Turns.{first_fault, first_ok, first_present, called_none}
 use Rattle.dvg_make.proofs.Telling.{room_of_none, tells_first, begin_no_root}

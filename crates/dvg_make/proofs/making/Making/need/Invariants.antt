@@ -1,6 +1,4 @@
-use Rattle.dvg_make.proofs.Common.{◌-◌, ◌+◌, length, IsPresent, InProgress}
-use Rattle.std.proofs.Common.{◌*◌}
-use Rattle.dvg_make.specs.Private.Making.{IsRightFor}
+use Rattle.dvg_make.proofs.Common.{◌-◌, ◌+◌, length, IsPresent, InProgress, ◌*◌, IsRightFor}
 use Rattle.dvg_make.proofs.making.Making.need.Given as goal
 
 abbrev pub invariant-loop-partial : goal.invariant-loop-partial

@@ -1,5 +1,4 @@
-use Rattle.dvg_make.proofs.Common.{sym, subst, IsDone}
-use Rattle.std.proofs.Common.{arith}
+use Rattle.dvg_make.proofs.Common.{arith}
 use Rattle.dvg_make.proofs.Collecting.{none_collected}
 use Rattle.dvg_make.proofs.Joining.{no_tails}
 use Rattle.dvg_make.proofs.making.Making.new.Goals as goal

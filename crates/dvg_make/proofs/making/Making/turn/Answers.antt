@@ -1,7 +1,4 @@
-use Rattle.dvg_make.proofs.Common.{◌++◌, ◌∷◌, [], ◌∙◌, sym, subst, Obstacle, IsFinished, IsPresent, InProgress, NotBegun, obstacle_fault, Bars}
-use Rattle.std.proofs.Common.{arith}
-use Rattle.dvg_make.specs.Private.Partial.{Advances}
-use Rattle.dvg_make.specs.Private.Making.{TellsObstacle, BarsAll, TellsAll, IsNoRoot}
+use Rattle.dvg_make.proofs.Common.{◌++◌, ◌∷◌, [], ◌∙◌, sym, subst, Obstacle, IsPresent, InProgress, NotBegun, obstacle_fault, Bars, arith, Advances, TellsObstacle, BarsAll, TellsAll}
 use Rattle.dvg_make.proofs.Chains.{walks_last, none_here, finished_new, making_finished, present_finished}
 use Rattle.dvg_make.proofs.Turns.{begun_ok, begun_present, called_moved, refused, as_bar, not_err, if_err_same}
 use Rattle.dvg_make.proofs.Onward.{reached}

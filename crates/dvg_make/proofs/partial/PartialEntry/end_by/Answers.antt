@@ -1,5 +1,4 @@
-use Rattle.std.proofs.Common.{sym, ◌∙◌, refl}
-use Rattle.std.proofs.Common.{arith}
+use Rattle.dvg_make.proofs.Common.{arith}
 use Rattle.dvg_make.proofs.Joining.{ends_by}
 use Rattle.dvg_make.proofs.partial.PartialEntry.end_by.Goals as goal
 

@@ -1,5 +1,4 @@
-use Rattle.dvg_make.proofs.Common.{refl, sym, subst, ◌≡◌, seen_with, Seen, Obstacle}
-use Rattle.dvg_make.specs.Accounts.{SaysOf}
+use Rattle.dvg_make.proofs.Common.{refl, sym, subst, ◌≡◌, seen_with, Seen, Obstacle, SaysOf}
 use Rattle.dvg_make.proofs.partial.PartialEntry.pass.Goals as goal
 
 pub returns-in-Some-clause-err : goal.returns-in-Some-clause-err

@@ -1,6 +1,4 @@
-use Rattle.dvg_make.proofs.Common.{subst, slice_get, IfSome, IfNone, PartialEntry, IsMaking}
-use Rattle.std.proofs.Common.{arith}
-use Rattle.std.specs.Prelude.{List, Some, ◌≡◌}
+use Rattle.dvg_make.proofs.Common.{slice_get, arith}
 use Rattle.dvg_make.proofs.Stacks.{at_index, no_index}
 use Rattle.dvg_make.proofs.stack.Stack.position.Goals as goal
 

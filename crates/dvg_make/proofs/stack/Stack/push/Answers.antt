@@ -1,5 +1,4 @@
-use Rattle.dvg_make.proofs.Common.{◌∙◌, ◌++◌, ◌∷◌, [], List, ap, sym, subst, values_of, PartialEntry, IsMaking, All, IsOwnPartial}
-use Rattle.indexmap.proofs.CallerLemmas.{insert_entry-new}
+use Rattle.dvg_make.proofs.Common.{◌∙◌, ◌++◌, ◌∷◌, [], List, ap, sym, subst, values_of, PartialEntry, IsMaking, All, IsOwnPartial, insert_entry-new}
 use Rattle.dvg_make.proofs.Stacks.{none_found, values_push, own_push}
 use Rattle.dvg_make.proofs.stack.Stack.push.Goals as goal
 

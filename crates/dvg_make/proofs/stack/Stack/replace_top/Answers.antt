@@ -1,5 +1,4 @@
-use Rattle.dvg_make.proofs.Common.{◌-◌, length, ap, sym, subst, ◌∙◌, values_of, All, IsOwnPartial}
-use Rattle.std.specs.Prelude.{IsSome}
+use Rattle.dvg_make.proofs.Common.{◌-◌, length, ap, sym, subst, ◌∙◌, values_of, All, IsOwnPartial, IsSome}
 use Rattle.dvg_make.proofs.Stacks.{set_last, own_set_last, one_less, some_there}
 use Rattle.dvg_make.proofs.stack.Stack.replace_top.Goals as goal
 use Rattle.dvg_make.proofs.stack.Stack.replace_top.Goals.{in-Some, in_default}

@@ -1,5 +1,4 @@
-use Rattle.dvg_make.proofs.Common.{◌∙◌, sym, rules}
-use Rattle.std.proofs.Common.{arith}
+use Rattle.dvg_make.proofs.Common.{arith}
 use Rattle.dvg_make.proofs.Stacks.{top_is}
 use Rattle.dvg_make.proofs.stack.Stack.top.Goals as goal
 

@@ -1,6 +1,4 @@
-use Rattle.dvg_survey.proofs.Common.{rules, subst, w16, w64, to_z-of_z}
-use mir.Val.{SFits}
-use Rattle.dvg_cert.specs.Entry.{IsBox}
+use Rattle.dvg_survey.proofs.Common.{rules, subst, w16, w64, to_z-of_z, SFits, IsBox}
 use Rattle.dvg_survey.proofs.Quotients.{ranges_of, box_places, seen_places}
 use Rattle.dvg_survey.proofs.places.CallPlaces.of_box.Goals as goal
 

@@ -1,6 +1,4 @@
-use Rattle.dvg_survey.proofs.Common.{List, Bool, [], ◌∷◌, ◌++◌, is_some, if◌then◌else◌, ap, sym, subst, ◌∙◌, entry_at, Link, entries_of}
-use Rattle.std.proofs.Common.{arith}
-use Rattle.dvg_survey.specs.Private.Reaching.{AreNames, name_of}
+use Rattle.dvg_survey.proofs.Common.{List, [], ◌∷◌, ◌++◌, is_some, if◌then◌else◌, ap, sym, ◌∙◌, entry_at, Link, entries_of, arith, name_of}
 use Rattle.dvg_survey.proofs.Linking.{names_push}
 use Rattle.dvg_survey.proofs.reached.Reached.add.Goals as goal
 

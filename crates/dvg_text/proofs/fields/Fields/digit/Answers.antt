@@ -1,6 +1,6 @@
 use Rattle.dvg_text.proofs.Common.{◌∙◌, sym, arith}
 use Rattle.dvg_text.proofs.Steps.{digit_is, digit_other, digit_empty}
-use Rattle.dvg_text.proofs.fields.Fields.digit.Goals.{then-first-lt48-via-then-first-lt48, then-first-lt48-via-else-first-lt48+then-most-first}
+use Rattle.dvg_text.proofs.fields.Fields.digit.Goals.{then-first-lt48-via-then-first-lt48}
 use Rattle.dvg_text.proofs.fields.Fields.digit.Goals as goal
 
 pub returns-in_err-first-clause-value : goal.returns-in_err-first-clause-value

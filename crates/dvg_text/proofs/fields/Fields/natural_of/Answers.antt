@@ -1,6 +1,6 @@
 use Rattle.dvg_text.proofs.Common.{arith}
 use Rattle.dvg_text.proofs.Steps.{natural_is, natural_outside, natural_none_at}
-use Rattle.dvg_text.proofs.fields.Fields.natural_of.Goals.{then-number-low-via-then-number-low, then-number-low-via-else-number-low+then-high-number}
+use Rattle.dvg_text.proofs.fields.Fields.natural_of.Goals.{then-number-low-via-then-number-low}
 use Rattle.dvg_text.proofs.fields.Fields.natural_of.Goals as goal
 
 pub returns-in_err-number-clause-value : goal.returns-in_err-number-clause-value

@@ -1,5 +1,5 @@
+use Rattle.dvg_text.proofs.Common.{arith}
 use Rattle.dvg_text.proofs.Refusals.{first_at, rom_at_line}
-use Rattle.std.proofs.Common.{arith}
 use Rattle.dvg_text.proofs.taken.TakenLines.take_line.Goals as goal
 
 pub returns-in_ok-self-inside-in-First : goal.returns-in_ok-self-inside-in-First

@@ -1,4 +1,4 @@
-use Rattle.std.proofs.Common.{rules}
+use Rattle.dvg_words.proofs.Common.{rules}
 use Rattle.dvg_words.proofs.WordLists.{rom_of_is_rom}
 use Rattle.dvg_words.proofs.image.RomImage.from_bytes_on.Goals as goal
 

@@ -1,5 +1,4 @@
-use Rattle.std.proofs.Common.{subst}
-use Rattle.dvg_words.specs.Memory.{IsRom}
+use Rattle.dvg_words.proofs.Common.{subst, IsRom}
 use Rattle.dvg_words.proofs.WordLists.{rom_of_is_rom}
 use Rattle.dvg_words.proofs.image.RomImage.word.Goals as goal
 
