@@ -33,7 +33,7 @@ pub use Rattle.dvg_check.specs.FirstFault.{frame_number, AllBefore, FaultAt, sha
 pub use Rattle.dvg_words.specs.declared.instruction.Format.{Format}
 pub use Rattle.dvg_words.specs.declared.instruction.Instr.{Instr}
 pub use Rattle.dvg_words.specs.declared.instruction.Format.TheVariants.{Short, Long}
-pub use Rattle.dvg_check.specs.Passing.{AllKept, IsKept, Kept, IsNearBox, moved, set_number}
+pub use Rattle.dvg_check.specs.Passing.{AllKept, IsKept, Kept, moved, set_number}
 pub use Rattle.dvg_cert.specs.declared.entry.LitBox.TheVariants.{Empty, Span}
 pub use Rattle.dvg_check.specs.Finding.{IsFound, FaultFound, Found, ShapeFaultFound, ShapeFinding, FirstShapeFound}
 pub use Rattle.dvg_check.specs.Circuit.{SafeOnCircuit, CountsOnCircuit, IsPast, IsSafeRun, SafeRuns, CountsOfRun}
@@ -43,7 +43,8 @@ pub use Rattle.dvg_items.proofs.Lists.{all_append, all_map, all_right, at_place}
 pub use Rattle.dvg_words.specs.Beam.{labs_coordinate, labs_place, IsWithin}
 pub use Rattle.dvg_check.specs.Example.{memory_for, example_list, rom_for, example_entry, WorkedExample}
 pub use Rattle.dvg_words.specs.Laws.{state_of, StackWithinMax}
-pub use Rattle.dvg_items.proofs.Near.{word_count-some, IsNear-shift, IsNear-more, IsNearPlace-more, next_further, next_near}
+pub use Rattle.dvg_items.proofs.Near.{word_count-some, next_further, next_near}
+pub use Rattle.dvg_items.proofs.Reached.{place_more, box_more, reached_shift, wall, in_wall, inside_wall, reached_by_point, nothing_reached}
 pub use Rattle.dvg_words.specs.declared.map.TheConstants.{ADDRESS_END}
 pub use Rattle.dvg_cert.specs.declared.entry.LitBox.{LitBox}
 pub use Rattle.dvg_words.specs.Values.{Source, asteroids}
@@ -61,7 +62,7 @@ pub use Rattle.dvg_items.specs.declared.seen.Seen.{Seen as SeenItem, Seen}
 pub use Rattle.dvg_check.specs.Judged.{Shapes, IsJudged}
 pub use Rattle.dvg_circuit.specs.declared.circuit.Circuit.{Circuit}
 pub use Rattle.dvg_circuit.specs.declared.counters.Counters.{Counters}
-pub use Rattle.dvg_items.specs.Bounds.{IsSoundStep, IsNearExtent}
+pub use Rattle.dvg_items.specs.Bounds.{IsNearBox, ITEM_REACH, IsSoundStep, IsNearExtent}
 pub use Rattle.dvg_circuit.specs.Premises.{IsStart}
 pub use Rattle.dvg_items.specs.declared.lit.LitExtent.{LitExtent}
 pub use Rattle.dvg_cert.specs.Order.{Certificate}

@@ -5,7 +5,6 @@ use Rattle.dvg_cert.specs.declared.entry.Key.{Key}
 use Rattle.dvg_cert.specs.declared.entry.Key.TheVariants.{At, Any}
 use Rattle.dvg_cert.specs.declared.entry.LitBox.{LitBox}
 use Rattle.dvg_cert.specs.declared.entry.LitBox.TheVariants.{Empty, Span}
-use Rattle.dvg_items.specs.Bounds.{IsNear}
 pub use Rattle.dvg_check.specs.declared.keys.Keys.{Keys}
 pub use Rattle.dvg_check.specs.declared.slots.Kept.{Kept}
 
@@ -30,9 +29,3 @@ AllKept P slots = (kept : Kept _) → IsKept slots kept → P kept.addr kept.key
 abbrev pub moved : LitBox → Point → LitBox
 moved Empty d = Empty
 moved (Span x_min x_max y_min y_max) d = Span (x_min +ℤ d.x) (x_max +ℤ d.x) (y_min +ℤ d.y) (y_max +ℤ d.y)
-
--- the corners of the box are no further from 0 than n items can move them
-abbrev pub IsNearBox : ℕ → LitBox → Type 0
-IsNearBox n Empty = Unit {0}
-IsNearBox n (Span x_min x_max y_min y_max) =
-    IsNear n (record { x = x_min; y = y_min }) × IsNear n (record { x = x_max; y = y_max })

@@ -16,8 +16,8 @@ ghost use Rattle.dvg_items.specs.Lit.{IsInside, ScaleKnown, LitInBox};
 ghost use Rattle.dvg_items.specs.declared.item.Kind.TheVariants.{Shape};
 ghost use Rattle.dvg_items.specs.Known.{start};
 ghost use Rattle.dvg_items.specs.Seen.{seen_with};
-ghost use Rattle.dvg_items.specs.Bounds.{IsNear, IsNearPlace, IsNearExtent, IsClaim, IsSomeCertificate};
-ghost use Rattle.dvg_check.specs.Passing.{IsNearBox, moved};
+ghost use Rattle.dvg_items.specs.Bounds.{IsNear, IsNearPlace, IsNearBox, IsNearExtent, IsClaim, IsSomeCertificate};
+ghost use Rattle.dvg_check.specs.Passing.{moved};
 ghost use Rattle.dvg_check.specs.Private.Tails.{ClaimsLess, entry_of, end_of, place_over, known_over, first_seen, BoxInWindow, MayStandAt, MayStandFirst, IsSmall};
 
 use crate::fault::Mode;

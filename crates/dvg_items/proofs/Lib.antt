@@ -3,6 +3,7 @@ pub mod Points
 pub mod PlaceLaw
 pub mod TotalLaws
 pub mod LeastBoxes
+pub mod Reached
 pub mod Near
 pub mod Listed
 pub mod Leading

@@ -1,23 +1,10 @@
 -- Numbers stay small from one item to the next.
-use Rattle.dvg_items.proofs.Common.{arith, Some, ◌≡◌, ◌+◌, ◌<◌, ◌≤◌, ℕ, nat_tests, ints, shift, word_count, InstrFits, Point, End, Rel, Abs, Lost, Item, Kind, address_after, next_address, Seen, IsNear, IsNearPlace, IsSoundCursor, IsSoundSeen}
+use Rattle.dvg_items.proofs.Common.{arith, Some, ◌≡◌, ◌+◌, ◌<◌, ◌≤◌, ℕ, nat_tests, word_count, InstrFits, Item, Kind, address_after, next_address, Seen, IsSoundCursor, IsSoundSeen}
 use Rattle.dvg_words.specs.declared.map.TheConstants.{ADDRESS_END}
+use Rattle.dvg_items.specs.Bounds.{ITEM_REACH}
+use Rattle.dvg_items.proofs.Reached.{place_more}
 use Rattle.dvg_words.specs.declared.instruction.Format.{Format}
 use Rattle.dvg_words.specs.declared.instruction.Instr.{Instr}
-
--- ---- places
-
-pub IsNear-shift : (n : ℕ) (p d : Point) → IsNear n p → IsNear 1 d → IsNear (n + 1) (shift p d)
-IsNear-shift n p d h k =
-    record { left = omega (arith, ints, h.left, k.left); right = omega (arith, ints, h.right, k.right); down = omega (arith, ints, h.down, k.down); up = omega (arith, ints, h.up, k.up) }
-
-pub IsNear-more : (m n : ℕ) (p : Point) → m ≤ n → IsNear m p → IsNear n p
-IsNear-more m n p le h =
-    record { left = omega (arith, ints, h.left, le); right = omega (arith, ints, h.right, le); down = omega (arith, ints, h.down, le); up = omega (arith, ints, h.up, le) }
-
-pub IsNearPlace-more : (m n : ℕ) (place : End) → m ≤ n → IsNearPlace m place → IsNearPlace n place
-IsNearPlace-more m n (Rel x y) le h = IsNear-more m n (record { x = x; y = y }) le h
-IsNearPlace-more m n (Abs x y) le h = IsNear-more m n (record { x = x; y = y }) le h
-IsNearPlace-more m n Lost le h = tt
 
 -- ---- word addresses
 
@@ -39,7 +26,7 @@ step_sound kind v p h goes =
     let further = next_further kind v.item p goes in
     record {
       at = next_near kind v.item.at v.item.format v.item.instr p h.at h.fields goes;
-      place = IsNearPlace-more (v.item.at + 1) p v.after.place further h.place_after;
+      place = place_more ITEM_REACH (v.item.at + 1) p v.after.place further h.place_after;
       scale = h.scale_after;
       words = omega (arith, h.words_after, further);
       depth = h.depth_after;

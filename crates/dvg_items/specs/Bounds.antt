@@ -11,6 +11,8 @@ use Rattle.dvg_cert.specs.Order.{IsCertificate}
 use Rattle.dvg_words.specs.Values.{MemoryMap}
 use Rattle.dvg_cert.specs.declared.entry.End.{End}
 use Rattle.dvg_cert.specs.declared.entry.End.TheVariants.{Rel, Abs, Lost}
+use Rattle.dvg_cert.specs.declared.entry.LitBox.{LitBox}
+use Rattle.dvg_cert.specs.declared.entry.LitBox.TheVariants.{Empty, Span}
 use Rattle.dvg_cert.specs.declared.entry.Entry.{Entry}
 use Rattle.dvg_cert.specs.declared.limits.TheConstants.{MOST_DEPTH, MOST_WORDS}
 use Rattle.dvg_items.specs.Known.{Effect, Sets, Loses, Moves}
@@ -36,27 +38,56 @@ IsSomeCertificate list = (map : MemoryMap) × IsCertificate map list
 
 -- ---- places
 
--- the point is no further from 0 than n items can move it
+-- the point is no further from 0 than n steps of this length reach
+abbrev pub IsReached : ℕ → ℕ → Point → Type 0
+IsReached step n p = IsWithin (step * n) p
+
+-- a place is no further from 0 than n steps reach; a lost place has no numbers
+abbrev pub IsReachedPlace : ℕ → ℕ → End → Type 0
+IsReachedPlace step n (Rel x y) = IsReached step n (record { x = x; y = y })
+IsReachedPlace step n (Abs x y) = IsReached step n (record { x = x; y = y })
+IsReachedPlace step n Lost = Unit {0}
+
+-- the point that an effect sets or moves by is no further from 0 than n steps reach
+abbrev pub IsReachedEffect : ℕ → ℕ → Effect → Type 0
+IsReachedEffect step n (Sets p) = IsReached step n p
+IsReachedEffect step n Loses = Unit {0}
+IsReachedEffect step n (Moves d) = IsReached step n d
+
+-- the corners of what is lit are no further from 0 than n steps reach
+abbrev pub IsReachedExtent : ℕ → ℕ → LitExtent → Type 0
+IsReachedExtent step n Nothing = Unit {0}
+IsReachedExtent step n (Between a b) = IsReached step n a × IsReached step n b
+IsReachedExtent step n Anywhere = Unit {0}
+
+-- the corners of a box are no further from 0 than n steps reach
+abbrev pub IsReachedBox : ℕ → ℕ → LitBox → Type 0
+IsReachedBox step n Empty = Unit {0}
+IsReachedBox step n (Span x_min x_max y_min y_max) =
+    IsReached step n (record { x = x_min; y = y_min }) × IsReached step n (record { x = x_max; y = y_max })
+
+-- ---- what items reach
+
+-- no item moves the place further
+abbrev pub ITEM_REACH : ℕ
+ITEM_REACH = 2 ^ 41
+
+-- no further from 0 than n items can move it
 abbrev pub IsNear : ℕ → Point → Type 0
-IsNear n p = IsWithin (2 ^ 41 * n) p
+IsNear = IsReached ITEM_REACH
 
--- a place is no further from 0 than n items can move it; a lost place has no numbers
 abbrev pub IsNearPlace : ℕ → End → Type 0
-IsNearPlace n (Rel x y) = IsNear n (record { x = x; y = y })
-IsNearPlace n (Abs x y) = IsNear n (record { x = x; y = y })
-IsNearPlace n Lost = Unit {0}
+IsNearPlace = IsReachedPlace ITEM_REACH
 
--- the point that an effect sets or moves by is no further from 0 than one item can move the place
+abbrev pub IsNearBox : ℕ → LitBox → Type 0
+IsNearBox = IsReachedBox ITEM_REACH
+
+-- no further from 0 than one item can move the place
 abbrev pub IsNearEffect : Effect → Type 0
-IsNearEffect (Sets p) = IsNear 1 p
-IsNearEffect Loses = Unit {0}
-IsNearEffect (Moves d) = IsNear 1 d
+IsNearEffect = IsReachedEffect ITEM_REACH 1
 
--- the corners of what an item lights are no further from 0 than one item can move the place
 abbrev pub IsNearExtent : LitExtent → Type 0
-IsNearExtent Nothing = Unit {0}
-IsNearExtent (Between a b) = IsNear 1 a × IsNear 1 b
-IsNearExtent Anywhere = Unit {0}
+IsNearExtent = IsReachedExtent ITEM_REACH 1
 
 -- the words are no more than n items can add
 abbrev pub IsFewWords : ℕ → ℕ → Type 0

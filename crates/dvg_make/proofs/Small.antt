@@ -3,80 +3,31 @@ use Rattle.dvg_make.proofs.Common.{Source, rules, Machine, Board, ◌≡◌, ℕ
 use Rattle.std.proofs.Common.{Bool, true, false}
 use Rattle.std.proofs.Math.Pow.{pow_mono}
 use Rattle.std.proofs.lemmas.Nat.{mul-le}
+use Rattle.dvg_items.specs.Bounds.{IsReached, IsReachedPlace, IsReachedBox, IsReachedEffect, IsReachedExtent}
+use Rattle.dvg_items.proofs.Reached.{reached_more, effect_more, extent_more, place_after, corners_reached, wall, in_wall}
 use Rattle.dvg_make.proofs.Matching.{exact_named}
 use Rattle.dvg_make.proofs.Ends.{callee_less, made_ends}
 
 -- ---- points, places and boxes
 
--- so many words move the place no further than this
-abbrev IsSmall : ℕ → Point → Type 0
-IsSmall n p = IsWithin (1048576 * n) p
-
-abbrev IsSmallPlace : ℕ → End → Type 0
-IsSmallPlace n (Rel x y) = IsSmall n (record { x = x; y = y })
-IsSmallPlace n (Abs x y) = IsSmall n (record { x = x; y = y })
-IsSmallPlace n Lost = Unit {0}
-
-abbrev IsSmallBox : ℕ → LitBox → Type 0
-IsSmallBox n Empty = Unit {0}
-IsSmallBox n (Span x_min x_max y_min y_max) = IsSmall n (record { x = x_min; y = y_min }) × IsSmall n (record { x = x_max; y = y_max })
-
-abbrev IsSmallEffect : ℕ → Effect → Type 0
-IsSmallEffect n (Sets p) = IsSmall n p
-IsSmallEffect n Loses = Unit {0}
-IsSmallEffect n (Moves d) = IsSmall n d
-
-abbrev IsSmallExtent : ℕ → LitExtent → Type 0
-IsSmallExtent n Nothing = Unit {0}
-IsSmallExtent n (Between a b) = IsSmall n a × IsSmall n b
-IsSmallExtent n Anywhere = Unit {0}
+-- no word moves the place further
+abbrev WORD_REACH : ℕ
+WORD_REACH = 1048576
 
 -- the numbers of an entry are small for its words
 record IsSmallEntry (e : Entry) : Type 0 where
-  stop : IsSmallPlace e.words e.stop
-  lit : IsSmallBox e.words e.lit
+  stop : IsReachedPlace WORD_REACH e.words e.stop
+  lit : IsReachedBox WORD_REACH e.words e.lit
 
-small_origin : (n : ℕ) → IsSmall n origin
+small_origin : (n : ℕ) → IsReached WORD_REACH n origin
 small_origin n = record { left = omega (arith, ints); right = omega (arith, ints); down = omega (arith, ints); up = omega (arith, ints) }
-
-small_more : (m n : ℕ) (p : Point) → m ≤ n → IsSmall m p → IsSmall n p
-small_more m n p le h = grind (arith)
-
-small_shift : (m n : ℕ) (p d : Point) → IsSmall m p → IsSmall n d → IsSmall (n + m) (shift p d)
-small_shift m n p d h k =
-    record { left = omega (arith, ints, h.left, k.left); right = omega (arith, ints, h.right, k.right); down = omega (arith, ints, h.down, k.down); up = omega (arith, ints, h.up, k.up) }
-
-effect_more : (m n : ℕ) (e : Effect) → m ≤ n → IsSmallEffect m e → IsSmallEffect n e
-effect_more m n e le h = grind (arith, small_more)
-
-extent_more : (m n : ℕ) (lit : LitExtent) → m ≤ n → IsSmallExtent m lit → IsSmallExtent n lit
-extent_more m n Nothing le h = tt
-extent_more m n (Between a b) le h = (small_more m n a le h.0, small_more m n b le h.1)
-extent_more m n Anywhere le h = tt
-
-small_moved : (m n : ℕ) (place : End) (d : Point) → IsSmallPlace m place → IsSmall n d → IsSmallPlace (n + m) (place_moved_by place d)
-small_moved m n (Rel x y) d h k = small_shift m n (record { x = x; y = y }) d h k
-small_moved m n (Abs x y) d h k = small_shift m n (record { x = x; y = y }) d h k
-small_moved m n Lost d h k = tt
-
-small_past : (m n : ℕ) (place : End) (e : Effect) → IsSmallPlace m place → IsSmallEffect n e → IsSmallPlace (n + m) (place_past e place)
-small_past m n place (Sets p) h k = small_more n (n + m) p (omega arith) k
-small_past m n place Loses h k = tt
-small_past m n place (Moves d) h k = small_moved m n place d h k
-
-small_corners : (m n : ℕ) (lit : LitExtent) (place : End) → IsSmallPlace m place → IsSmallExtent n lit → AllByRecursion (IsSmall (n + m)) (relative_corners lit place)
-small_corners m n Nothing (Rel x y) h k = tt
-small_corners m n (Between a b) (Rel x y) h k = (small_shift m n (record { x = x; y = y }) a h k.0, (small_shift m n (record { x = x; y = y }) b h k.1, tt))
-small_corners m n Anywhere (Rel x y) h k = tt
-small_corners m n lit (Abs x y) h k = tt
-small_corners m n lit Lost h k = tt
 
 -- ---- what a draw does
 
 -- no further from 0 than so many words move the beam
 record IsSmallNumber (n : ℕ) (z : ℤ) : Type 0 where
-  low : neg_ℤ (pos (1048576 * n)) ≤ℤ z
-  high : z ≤ℤ pos (1048576 * n)
+  low : neg_ℤ (pos (WORD_REACH * n)) ≤ℤ z
+  high : z ≤ℤ pos (WORD_REACH * n)
 
 -- a size has ten bits and a sign
 record IsSmallSize (z : ℤ) : Type 0 where
@@ -99,14 +50,14 @@ small_move : (machine : Machine) (size : ℤ) (local global : ℕ) → IsSmallSi
 small_move Profile size local global h = small_product size (factor local global) h (small_factor local global)
 small_move Board size local global h = grind (arith, (nat_le (effective_scale local global) 9), (pos (factor local global)), (pos 0), pos, rounded_few, negsuc, (small_product size (factor local global) h (small_factor local global)), (small_factor local global))
 
-small_displacement : (machine : Machine) (d : DrawFields) (g : ℕ) → IsSmallDraw d → IsSmall 1 (displacement machine d g)
+small_displacement : (machine : Machine) (d : DrawFields) (g : ℕ) → IsSmallDraw d → IsReached WORD_REACH 1 (displacement machine d g)
 unfolding displacement
 small_displacement machine d g h = grind (arith, (small_move machine d.dx d.lscale g h.0), (small_move machine d.dy d.lscale g h.1))
 
-small_draw : (machine : Machine) (d : DrawFields) (scale : Key) → IsSmallDraw d → IsSmallEffect 1 (draw_effect machine d scale)
+small_draw : (machine : Machine) (d : DrawFields) (scale : Key) → IsSmallDraw d → IsReachedEffect WORD_REACH 1 (draw_effect machine d scale)
 small_draw machine d scale h = grind (arith, small_displacement)
 
-small_drawn : (machine : Machine) (bright : ℕ) (d : DrawFields) (scale : Key) → IsSmallDraw d → IsSmallExtent 1 (draw_extent machine bright d scale)
+small_drawn : (machine : Machine) (bright : ℕ) (d : DrawFields) (scale : Key) → IsSmallDraw d → IsReachedExtent WORD_REACH 1 (draw_extent machine bright d scale)
 small_drawn machine bright d scale h = grind (arith, small_origin, small_displacement)
 
 -- ---- what an instruction says
@@ -114,13 +65,13 @@ small_drawn machine bright d scale h = grind (arith, small_origin, small_displac
 -- an instruction of this format: a LABS sets the beam no further than its words may move it
 abbrev IsSmallInstr : Machine → Format → Instr → Type 0
 IsSmallInstr machine format (Draws d) = IsSmallDraw d
-IsSmallInstr machine format (Labs x y g) = IsSmall (word_count format) (labs_place machine x y)
+IsSmallInstr machine format (Labs x y g) = IsReached WORD_REACH (word_count format) (labs_place machine x y)
 IsSmallInstr machine format i = Unit {0}
 
 small_size : (sign magnitude : ℕ) → magnitude ≤ 1023 → IsSmallSize (magnitude_and_sign sign magnitude)
 small_size sign magnitude le = grind (arith, neg_ℤ, pos)
 
-small_labs : (machine : Machine) (first second : ℕ) → IsSmall 2 (labs_place machine (labs_field machine second) (labs_field machine first))
+small_labs : (machine : Machine) (first second : ℕ) → IsReached WORD_REACH 2 (labs_place machine (labs_field machine second) (labs_field machine first))
 small_labs machine first second = grind (arith, nat_le, pos, negsuc, nat_tests)
 
 by_opcode : (machine : Machine) (format : Format) (a b c d e f z : Bool) (v s : DrawFields) (x y g t : ℕ) → IsSmallDraw v → IsSmallDraw s → (b ≡ true → IsSmallInstr machine format (Labs x y g)) → IfSome (if a then Some (Draws v) else if b then (if z then Some (Labs x y g) else None) else if c then Some Halt else if d then Some (Jsrl t) else if e then Some Rtsl else if f then Some (Jmpl t) else Some (Draws s)) (IsSmallInstr machine format)
@@ -128,7 +79,7 @@ by_opcode machine format a b c d e f z v s x y g t h k l = grind (arith)
 
 small_instr : (machine : Machine) (format : Format) (first second : ℕ) → ((opcode first == 10) ≡ true → 2 ≤ word_count format) → IfSome (instruction_of machine first second) (IsSmallInstr machine format)
 unfolding instruction_of
-small_instr machine format first second long = search (rules, by_opcode, (nat_le (opcode first) 9), (small_size (second / 1024 % 2) (second % 1024) (omega arith)), (small_size (first / 1024 % 2) (first % 1024) (omega arith)), (small_size (first / 4 % 2) (256 * (first % 4)) (omega arith)), (small_size (first / 1024 % 2) (256 * (first / 256 % 4)) (omega arith)), small_more, (small_labs machine first second))
+small_instr machine format first second long = search (rules, by_opcode, (nat_le (opcode first) 9), (small_size (second / 1024 % 2) (second % 1024) (omega arith)), (small_size (first / 1024 % 2) (first % 1024) (omega arith)), (small_size (first / 4 % 2) (256 * (first % 4)) (omega arith)), (small_size (first / 1024 % 2) (256 * (first / 256 % 4)) (omega arith)), (reached_more WORD_REACH), (small_labs machine first second))
 
 abbrev IsSmallCell : Machine → Cell → Type 0
 IsSmallCell machine (Holds format i) = IsSmallInstr machine format i
@@ -159,24 +110,24 @@ small_held word i is = subst (IsSmallCell word.machine) is (small_cell word i.at
 
 -- ---- what a called shape does
 
-small_called : (o : Option Entry) → IfSome o IsSmallEntry → IsSmallEffect (callee_words o) (callee_effect o)
+small_called : (o : Option Entry) → IfSome o IsSmallEntry → IsReachedEffect WORD_REACH (callee_words o) (callee_effect o)
 small_called o h = grind (arith, small_origin)
 
-small_shown : (o : Option Entry) → IfSome o IsSmallEntry → IsSmallExtent (callee_words o) (callee_extent o)
+small_shown : (o : Option Entry) → IfSome o IsSmallEntry → IsReachedExtent WORD_REACH (callee_words o) (callee_extent o)
 small_shown o h = grind (arith)
 
 -- ---- what an item does
 
-small_effect : (machine : Machine) (format : Format) (i : Instr) (scale : Key) (o : Option Entry) → IsSmallInstr machine format i → IfSome o IsSmallEntry → IsSmallEffect (word_count format + callee_words o) (effect_of machine i scale o)
-small_effect machine format (Draws d) scale o h k = effect_more 1 (word_count format + callee_words o) (draw_effect machine d scale) (omega (arith, word_count-some format)) (small_draw machine d scale h)
-small_effect machine format (Labs x y g) scale o h k = small_more (word_count format) (word_count format + callee_words o) (labs_place machine x y) (omega arith) h
+small_effect : (machine : Machine) (format : Format) (i : Instr) (scale : Key) (o : Option Entry) → IsSmallInstr machine format i → IfSome o IsSmallEntry → IsReachedEffect WORD_REACH (word_count format + callee_words o) (effect_of machine i scale o)
+small_effect machine format (Draws d) scale o h k = effect_more WORD_REACH 1 (word_count format + callee_words o) (draw_effect machine d scale) (omega (arith, word_count-some format)) (small_draw machine d scale h)
+small_effect machine format (Labs x y g) scale o h k = reached_more WORD_REACH (word_count format) (word_count format + callee_words o) (labs_place machine x y) (omega arith) h
 small_effect machine format Halt scale o h k = small_origin (word_count format + callee_words o)
 small_effect machine format Rtsl scale o h k = small_origin (word_count format + callee_words o)
-small_effect machine format (Jsrl to) scale o h k = effect_more (callee_words o) (word_count format + callee_words o) (callee_effect o) (omega arith) (small_called o k)
-small_effect machine format (Jmpl to) scale o h k = effect_more (callee_words o) (word_count format + callee_words o) (callee_effect o) (omega arith) (small_called o k)
+small_effect machine format (Jsrl to) scale o h k = effect_more WORD_REACH (callee_words o) (word_count format + callee_words o) (callee_effect o) (omega arith) (small_called o k)
+small_effect machine format (Jmpl to) scale o h k = effect_more WORD_REACH (callee_words o) (word_count format + callee_words o) (callee_effect o) (omega arith) (small_called o k)
 
-small_extent : (machine : Machine) (format : Format) (i : Instr) (scale : Key) (o : Option Entry) → IsSmallInstr machine format i → IfSome o IsSmallEntry → IsSmallExtent (word_count format + callee_words o) (extent_of machine i scale o)
-small_extent machine format i scale o h k = search (rules, extent_more, callee_words, word_count-some, small_drawn, small_shown)
+small_extent : (machine : Machine) (format : Format) (i : Instr) (scale : Key) (o : Option Entry) → IsSmallInstr machine format i → IfSome o IsSmallEntry → IsReachedExtent WORD_REACH (word_count format + callee_words o) (extent_of machine i scale o)
+small_extent machine format i scale o h k = search (rules, (extent_more WORD_REACH), callee_words, word_count-some, small_drawn, small_shown)
 
 -- ---- along the items
 
@@ -193,27 +144,23 @@ module _ (machine : Machine) (list : List Entry) (key : Key) where
   abbrev c : Context
   c = keyed_context machine list key
 
-  place_small : (items : List Item) → AllSmall c items → IsSmallPlace (words_before c items) (place_before c items)
+  place_small : (items : List Item) → AllSmall c items → IsReachedPlace WORD_REACH (words_before c items) (place_before c items)
   place_small [] h = small_origin 0
   place_small (i ∷ earlier) h =
-      small_past (words_before c earlier) (word_count i.format + callee_words (callee c earlier i.instr)) (place_before c earlier) (effect_of machine i.instr (scale_before c earlier) (callee c earlier i.instr))
+      place_after WORD_REACH (words_before c earlier) (word_count i.format + callee_words (callee c earlier i.instr)) (words_before c (i ∷ earlier)) (place_before c earlier) (effect_of machine i.instr (scale_before c earlier) (callee c earlier i.instr)) (omega arith)
       (place_small earlier h.0)
       (small_effect machine i.format i.instr (scale_before c earlier) (callee c earlier i.instr) h.1.fields h.1.callee)
 
-  points_small : (items : List Item) → AllSmall c items → AllByRecursion (IsSmall (words_before c items)) (lit_points c items)
+  points_small : (items : List Item) → AllSmall c items → AllByRecursion (IsReached WORD_REACH (words_before c items)) (lit_points c items)
   points_small [] h = tt
   points_small (i ∷ earlier) h =
-      all_append (IsSmall (words_before c (i ∷ earlier))) (relative_corners (extent c earlier i.instr) (place_before c earlier)) (lit_points c earlier)
-      (small_corners (words_before c earlier) (word_count i.format + callee_words (callee c earlier i.instr)) (extent c earlier i.instr) (place_before c earlier)
+      all_append (IsReached WORD_REACH (words_before c (i ∷ earlier))) (relative_corners (extent c earlier i.instr) (place_before c earlier)) (lit_points c earlier)
+      (corners_reached WORD_REACH (words_before c earlier) (word_count i.format + callee_words (callee c earlier i.instr)) (words_before c (i ∷ earlier)) (extent c earlier i.instr) (place_before c earlier) (omega arith)
       (place_small earlier h.0)
       (small_extent machine i.format i.instr (scale_before c earlier) (callee c earlier i.instr) h.1.fields h.1.callee))
-      (all_map (IsSmall (words_before c earlier)) (IsSmall (words_before c (i ∷ earlier))) (lit_points c earlier) (λ p. small_more (words_before c earlier) (words_before c (i ∷ earlier)) p (omega arith)) (points_small earlier h.0))
+      (all_map (IsReached WORD_REACH (words_before c earlier)) (IsReached WORD_REACH (words_before c (i ∷ earlier))) (lit_points c earlier) (λ p. reached_more WORD_REACH (words_before c earlier) (words_before c (i ∷ earlier)) p (omega arith)) (points_small earlier h.0))
 
 -- ---- the least box
-
--- the greatest box within a bound
-abbrev wall : ℕ → LitBox
-wall n = Span (neg_ℤ (pos (1048576 * n))) (pos (1048576 * n)) (neg_ℤ (pos (1048576 * n))) (pos (1048576 * n))
 
 -- its ends are in order
 abbrev IsOrdered : LitBox → Type 0
@@ -221,21 +168,18 @@ IsOrdered Empty = Unit {0}
 IsOrdered (Span x_min x_max y_min y_max) = (x_min ≤ℤ x_max) × (y_min ≤ℤ y_max)
 
 record IsGoodBox (n : ℕ) (box : LitBox) : Type 0 where
-  small : IsSmallBox n box
+  small : IsReachedBox WORD_REACH n box
   ordered : IsOrdered box
 
-by_point : (n : ℕ) (p : Point) (box : LitBox) → IsSmall n p → InBox box p → IsInside box (wall n) → IsGoodBox n box
+by_point : (n : ℕ) (p : Point) (box : LitBox) → IsReached WORD_REACH n p → InBox box p → IsInside box (wall WORD_REACH n) → IsGoodBox n box
 by_point n p box h i w = search (rules)
 
 nothing_inside : (n : ℕ) (box : LitBox) → IsInside box Empty → IsGoodBox n box
 nothing_inside n box h = grind (arith)
 
-in_wall : (n : ℕ) (p : Point) → IsSmall n p → InBox (wall n) p
-in_wall n p h = record { left = h.left; right = h.right; bottom = h.down; top = h.up }
-
-least_good : (n : ℕ) (ps : List Point) (box : LitBox) → AllByRecursion (IsSmall n) ps → IsLeast ps box → IsGoodBox n box
+least_good : (n : ℕ) (ps : List Point) (box : LitBox) → AllByRecursion (IsReached WORD_REACH n) ps → IsLeast ps box → IsGoodBox n box
 least_good n [] box h k = nothing_inside n box (k.least Empty tt)
-least_good n (p ∷ ps) box h k = by_point n p box h.0 k.holds.0 (k.least (wall n) (all_map (IsSmall n) (InBox (wall n)) (p ∷ ps) (in_wall n) h))
+least_good n (p ∷ ps) box h k = by_point n p box h.0 k.holds.0 (k.least (wall WORD_REACH n) (all_map (IsReached WORD_REACH n) (InBox (wall WORD_REACH n)) (p ∷ ps) (in_wall WORD_REACH n) h))
 
 -- ---- made entries
 
@@ -265,9 +209,9 @@ small_up_to rom list all (suc n) e made lt =
     let h = made_ends rom list e made in
     let calls : SmallCalls rom list e.addr e.key = λ earlier j l k to g t f. small_up_to rom list all n g (all g (listed_at list to _ g f).listed) (let less : g.words < e.words = callee_less rom list e made earlier j l k to g t f in omega (arith, lt, less)) in
     let small = all_small rom list e.addr e.key calls h.stops.items h.stops.i h.stops.leads h.stops.is h.fine in
-    let place : IsSmallPlace e.words e.stop = subst (λ (k : Known). IsSmallPlace k.words k.place) h.sums.known (place_small rom.machine list e.key (h.stops.i ∷ h.stops.items) small) in
+    let place : IsReachedPlace WORD_REACH e.words e.stop = subst (λ (k : Known). IsReachedPlace WORD_REACH k.words k.place) h.sums.known (place_small rom.machine list e.key (h.stops.i ∷ h.stops.items) small) in
     let many : words_before (shape_context rom.machine list e) (h.stops.i ∷ h.stops.items) ≡ e.words = ap (λ (k : Known). k.words) h.sums.known in
-    let points = subst (λ n. AllByRecursion (IsSmall n) (lit_points (shape_context rom.machine list e) (h.stops.i ∷ h.stops.items))) many (points_small rom.machine list e.key (h.stops.i ∷ h.stops.items) small) in
+    let points = subst (λ n. AllByRecursion (IsReached WORD_REACH n) (lit_points (shape_context rom.machine list e) (h.stops.i ∷ h.stops.items))) many (points_small rom.machine list e.key (h.stops.i ∷ h.stops.items) small) in
     record { stop = place; lit = (least_good e.words (lit_points (shape_context rom.machine list e) (h.stops.i ∷ h.stops.items)) e.lit points h.sums.box).small }
 
 made_small : (rom : Rom) (list : List Entry) → ((e : Entry) → Contains list e → MadeEntry rom list e) → (e : Entry) → Contains list e → IsSmallEntry e
@@ -275,7 +219,7 @@ made_small rom list all e c = small_up_to rom list all (e.words + 1) e (all e c)
 
 -- ---- within the limits
 
-place_within : (n : ℕ) (place : End) → n ≤ MOST_WORDS → IsSmallPlace n place → IsEnd place
+place_within : (n : ℕ) (place : End) → n ≤ MOST_WORDS → IsReachedPlace WORD_REACH n place → IsEnd place
 place_within n place le h = grind (arith)
 
 box_within : (n : ℕ) (box : LitBox) → n ≤ MOST_WORDS → IsGoodBox n box → IsBox box

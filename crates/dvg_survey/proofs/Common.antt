@@ -8,7 +8,7 @@ pub use Rattle.std.specs.Prelude.{IsPermutation, map}
 pub use Rattle.std.specs.Option.{option_or, unwrap_or}
 pub use Rattle.std.proofs.lemmas.Option.{slice_get_within}
 pub use Rattle.std.specs.List.{All}
-pub use Rattle.dvg_check.proofs.Common.{Source, ◌≡◌, ℕ, ◌<◌, List, [], ◌∷◌, length, sym, subst, arith, ⊎_elim, cases_lt, LeadsTo, item_same, same_lead, ◌+◌, ◌≤◌, get_or, ◌∙◌, Contains, Rom, rom_word, shape_context, InBox, all_map, get_or_default, IsInside, suc, ◌-◌, ◌++◌, Some, refl, ap, AllByRecursion, IsClaim, IsSomeCertificate, Context, callee, scale_before, target, listed_claim, all_append, append_assoc, depth_under, named_listed, Option, IfSome, entry_at, listed_at, rules, common_steps, all_right, zero, Bool, true, false, None, frame_word, frame_context, take, ◌⊎◌, inl, inr, nat_tests, next_address, shorter, everywhere, ◌≢◌, replicate, get_or-set_same, pos, ℤ, ◌+ℤ◌, ◌*ℤ◌, ints, Window, LitInWindow, box_extent, seen_at, place_before, extent, ShapeKeeps, CellKeeps, ShapePlaceKeeps, IsNearPlace, known_before, next_further, seen_by, IsNearBox, first_seen, known_over, origin, shift, origin_shift, shift_shift, moved, place_over, reverse, scale_set, IsSoundCursor, IsSoundStep, w16, w64, to_z-of_z, SFits, IsNearExtent, set_number, next_near}
+pub use Rattle.dvg_check.proofs.Common.{Source, ◌≡◌, ℕ, ◌<◌, List, [], ◌∷◌, length, sym, subst, arith, ⊎_elim, cases_lt, LeadsTo, item_same, same_lead, ◌+◌, ◌≤◌, get_or, ◌∙◌, Contains, Rom, rom_word, shape_context, InBox, all_map, get_or_default, IsInside, suc, ◌-◌, ◌++◌, Some, refl, ap, AllByRecursion, IsClaim, IsSomeCertificate, Context, callee, scale_before, target, listed_claim, all_append, append_assoc, depth_under, named_listed, Option, IfSome, entry_at, listed_at, rules, common_steps, all_right, zero, Bool, true, false, None, frame_word, frame_context, take, ◌⊎◌, inl, inr, nat_tests, next_address, shorter, everywhere, ◌≢◌, replicate, get_or-set_same, pos, ℤ, ◌+ℤ◌, ◌*ℤ◌, ints, Window, LitInWindow, box_extent, seen_at, place_before, extent, ShapeKeeps, CellKeeps, ShapePlaceKeeps, IsNearPlace, known_before, next_further, seen_by, IsNearBox, first_seen, known_over, origin, shift, origin_shift, shift_shift, moved, place_over, reverse, scale_set, IsSoundCursor, IsSoundStep, w16, w64, to_z-of_z, SFits, IsNearExtent, set_number, next_near, box_more, ITEM_REACH}
 pub use Rattle.dvg_cert.proofs.Common.{is_some, if◌then◌else◌, slice_get, All-nil, ◌||◌, is_at, IfNone, IsOnlyAt, HasNoneAt, IsRising, Contains-get_or}
 pub use Rattle.dvg_items.proofs.Common.{callee_at, same_key, AtEachOf}
 unfoldable pub use Rattle.dvg_check.proofs.Common.{cell_at}
@@ -40,7 +40,7 @@ pub use Rattle.dvg_items.specs.declared.cursor.Cursor.{Cursor}
 pub use Rattle.dvg_survey.specs.Survey.{FrameSurvey, IsSurvey, IsSurveyAmong}
 pub use Rattle.dvg_items.proofs.LeastBoxes.{IsJoined, in_wider}
 pub use Rattle.dvg_cert.specs.Entry.{IsKey, IsBox}
-pub use Rattle.dvg_check.proofs.TailSizes.{IsNearBox-joined, IsNearBox-more, IsNearBox-moved, IsNearBox-spanning}
+pub use Rattle.dvg_check.proofs.TailSizes.{IsNearBox-joined, IsNearBox-moved, IsNearBox-spanning}
 pub use Rattle.dvg_cert.specs.declared.entry.End.{End}
 pub use Rattle.dvg_items.specs.declared.known.Known.{Known}
 pub use Rattle.dvg_words.specs.declared.beam.Point.{Point}

@@ -1,5 +1,5 @@
 -- An item and what stands behind it light together what the shape from the item on lights.
-use Rattle.dvg_survey.proofs.Common.{Machine, ◌≡◌, ℕ, pos, ◌+◌, ◌-◌, ◌<◌, ◌≤◌, List, [], ◌∷◌, ◌++◌, Option, Some, None, refl, sym, ap, ◌∙◌, subst, arith, cell_at, Rom, rom_word, Point, Holds, ADDRESS_END, End, Rel, Abs, Lost, Entry, Key, LitBox, Empty, LeadsTo, next_address, callee_at, target, HoldsAll, IsLeast, absolute_points, InBox, absolute_corners, relative_corners, seen_at, Cursor, Item, Shape, Known, Seen, IsJoined, all_append, Stand, AreAll, Lit, IsLitFrom, keyed, relative_part, absolute_part, Context, IsNearPlace, first_cursor, known_before, lit_points, seen_with, all_left, all_right, next_further, append_assoc, seen_by, IsNearBox, first_seen, known_over, IsNearBox-joined, IsNearBox-more, IsNearBox-moved}
+use Rattle.dvg_survey.proofs.Common.{Machine, ◌≡◌, ℕ, pos, ◌+◌, ◌-◌, ◌<◌, ◌≤◌, List, [], ◌∷◌, ◌++◌, Option, Some, None, refl, sym, ap, ◌∙◌, subst, arith, cell_at, Rom, rom_word, Point, Holds, ADDRESS_END, End, Rel, Abs, Lost, Entry, Key, LitBox, Empty, LeadsTo, next_address, callee_at, target, HoldsAll, IsLeast, absolute_points, InBox, absolute_corners, relative_corners, seen_at, Cursor, Item, Shape, Known, Seen, IsJoined, all_append, Stand, AreAll, Lit, IsLitFrom, keyed, relative_part, absolute_part, Context, IsNearPlace, first_cursor, known_before, lit_points, seen_with, all_left, all_right, next_further, append_assoc, seen_by, IsNearBox, first_seen, known_over, IsNearBox-joined, box_more, ITEM_REACH, IsNearBox-moved}
 use Rattle.dvg_check.proofs.TailLaws.{seen_over, seen_by_over, over_none}
 use Rattle.dvg_survey.proofs.TailPoints.{relative_from, absolute_from, relative_from_both, absolute_from_both, relative_over, absolute_over, relative_least, absolute_least, both_least, and_none, relative_none, no_absolute}
 use Rattle.dvg_survey.proofs.Walking.{least_none}
@@ -119,9 +119,9 @@ module _ (rom : Rom) (list : List Entry) (key behind_key : Key) (i : Item) (next
         absolute = both_least (absolute_points in_tail t.items) (absolute_from past.place (lit_points in_tail t.items)) (absolute_points in_whole (t.items ++ i ∷ []))
             tail.absolute (absolute_part past.place tail.relative) whole.absolute absolute t.absolute (absolute_least past.place (lit_points in_tail t.items) tail.relative t.relative)
             (λ box. absolute_into box t.items) (λ box h. (absolute_back box t.items h).0) (λ box h. (absolute_back box t.items h).1);
-        near = IsNearBox-more (ADDRESS_END + 2 - next + 1) (ADDRESS_END + 2 - i.at) whole.relative (omega (arith, next_further Shape i next goes, near))
+        near = box_more ITEM_REACH (ADDRESS_END + 2 - next + 1) (ADDRESS_END + 2 - i.at) whole.relative (omega (arith, next_further Shape i next goes, near))
             (IsNearBox-joined (ADDRESS_END + 2 - next + 1) first (relative_part past.place tail.relative) whole.relative
-            (IsNearBox-more 1 (ADDRESS_END + 2 - next + 1) first (omega arith) small) (moves (ADDRESS_END + 2 - next) t.near)
+            (box_more ITEM_REACH 1 (ADDRESS_END + 2 - next + 1) first (omega arith) small) (moves (ADDRESS_END + 2 - next) t.near)
             relative.first relative.second relative.least);
       }
     where
@@ -135,4 +135,4 @@ module _ (rom : Rom) (list : List Entry) (key : Key) (i : Item) (is : cell_at (r
 
   pub ending : (lit : LitBox) → i.at < ADDRESS_END → IsLeast (relative_corners (first_seen rom.machine list key i).extent (Rel (pos 0) (pos 0))) lit → IsNearBox 1 lit
       → IsLitFrom rom list i.at key (record { relative = lit; absolute = Empty })
-  ending lit near lone small = search (i ∷ [], all_alone, subst (λ (l : List Point). IsLeast l lit) (and_none (relative_corners (first_seen rom.machine list key i).extent (Rel (pos 0) (pos 0)))) lone, least_none, IsNearBox-more 1 (ADDRESS_END + 2 - i.at) lit (omega (arith, near)) small)
+  ending lit near lone small = search (i ∷ [], all_alone, subst (λ (l : List Point). IsLeast l lit) (and_none (relative_corners (first_seen rom.machine list key i).extent (Rel (pos 0) (pos 0)))) lone, least_none, box_more ITEM_REACH 1 (ADDRESS_END + 2 - i.at) lit (omega (arith, near)) small)

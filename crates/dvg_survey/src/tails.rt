@@ -11,11 +11,10 @@ ghost use Rattle.dvg_words.specs.declared.instruction.Cell.TheVariants.{Holds};
 ghost use Rattle.dvg_words.specs.declared.map.TheConstants.{ADDRESS_END};
 ghost use Rattle.dvg_cert.specs.Entry.{IsKey};
 ghost use Rattle.dvg_cert.specs.declared.entry.End.TheVariants.{Rel};
-ghost use Rattle.dvg_items.specs.Bounds.{IsNearExtent, IsNearPlace, IsSomeCertificate};
+ghost use Rattle.dvg_items.specs.Bounds.{IsNearBox, IsNearExtent, IsNearPlace, IsSomeCertificate};
 ghost use Rattle.dvg_items.specs.Known.{shape_context};
 ghost use Rattle.dvg_items.specs.Least.{IsLeast};
 ghost use Rattle.dvg_items.specs.Lit.{relative_corners};
-ghost use Rattle.dvg_check.specs.Passing.{IsNearBox};
 ghost use Rattle.dvg_survey.specs.Calls.{IsExtent, IsShapesExtent};
 ghost use Rattle.dvg_survey.specs.Private.Lighting.{IsLitFrom, AreTails, AreJoined, relative_part, absolute_part};
 

@@ -22,10 +22,10 @@ use Rattle.dvg_items.specs.Items.{next_address}
 use Rattle.dvg_items.specs.Known.{place_past, stop_effect, start, target}
 use Rattle.dvg_items.specs.Lit.{ScaleKnown, LitInBox, IsInside}
 use Rattle.dvg_items.specs.Seen.{HasCallee}
-use Rattle.dvg_items.specs.Bounds.{IsFewWords, IsNearPlace}
+use Rattle.dvg_items.specs.Bounds.{IsFewWords, IsNearBox, IsNearPlace}
 use Rattle.dvg_check.specs.Rules.{Mode, Seen, GoodShape}
 use Rattle.dvg_check.specs.Behaving.{Counts}
-use Rattle.dvg_check.specs.Passing.{AllKept, IsNearBox, Kept, moved}
+use Rattle.dvg_check.specs.Passing.{AllKept, Kept, moved}
 use Rattle.dvg_check.specs.Private.Judging.{seen_by}
 pub use Rattle.dvg_check.specs.declared.tail.Tail.{Tail}
 

@@ -14,7 +14,8 @@ use Rattle.dvg_items.specs.declared.item.Kind.TheVariants.{Shape}
 use Rattle.dvg_items.specs.Known.{Context}
 use Rattle.dvg_items.specs.Least.{IsLeast, lit_points, absolute_points}
 use Rattle.dvg_items.specs.Lit.{IsInside}
-use Rattle.dvg_check.specs.Passing.{AllKept, IsNearBox, moved}
+use Rattle.dvg_items.specs.Bounds.{IsNearBox}
+use Rattle.dvg_check.specs.Passing.{AllKept, moved}
 use Rattle.dvg_check.specs.declared.slots.Kept.{Kept}
 use Rattle.dvg_survey.specs.Calls.{AreAll}
 pub use Rattle.dvg_survey.specs.declared.tails.Lit.{Lit}

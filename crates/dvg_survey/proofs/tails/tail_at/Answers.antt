@@ -1,10 +1,10 @@
-use Rattle.dvg_survey.proofs.Common.{arith, sym, ap, subst, pos, ℕ, ◌≡◌, ◌+◌, ◌-◌, ◌∙◌, List, ADDRESS_END, End, Rel, Entry, IsLeast, Cursor, LitExtent, Seen, relative_corners, Shape, Known, Lit, relative_part, absolute_part, IsNearPlace, next_near, first_seen, IsNearBox-more, AreJoined}
+use Rattle.dvg_survey.proofs.Common.{arith, sym, ap, subst, pos, ℕ, ◌≡◌, ◌+◌, ◌-◌, ◌∙◌, List, ADDRESS_END, End, Rel, Entry, IsLeast, Cursor, LitExtent, Seen, relative_corners, Shape, Known, Lit, relative_part, absolute_part, IsNearPlace, next_near, first_seen, box_more, ITEM_REACH, AreJoined}
 use Rattle.dvg_survey.proofs.TailLaws.{before, ending, part_near, seen_first}
 use Rattle.dvg_survey.proofs.tails.tail_at.Goals as goal
 
 pub lit_over-requires-clause-lit : goal.lit_over-requires-clause-lit
 lit_over-requires-clause-lit g c =
-    IsNearBox-more (ADDRESS_END + 2 - c.in-Some.next) (ADDRESS_END + 2) c.in_ok-tail-in-Some.tail.now.relative (omega arith) (c.requires.tails _ c.in_ok-tail-in-Some.ensures).near
+    box_more ITEM_REACH (ADDRESS_END + 2 - c.in-Some.next) (ADDRESS_END + 2) c.in_ok-tail-in-Some.tail.now.relative (omega arith) (c.requires.tails _ c.in_ok-tail-in-Some.ensures).near
 
 pub returns-in_ok-tail-in-Some : goal.returns-in_ok-tail-in-Some
 returns-in_ok-tail-in-Some g c =
