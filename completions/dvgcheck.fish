@@ -21,7 +21,7 @@ complete -c dvgcheck -n '__dvgcheck_in only' -a frames -d 'Judges frames over a 
 complete -c dvgcheck -n '__dvgcheck_in only' -a check -d 'Judges a frame by a certificate'
 complete -c dvgcheck -n '__dvgcheck_in only' -a make -d 'Makes a certificate of shapes'
 complete -c dvgcheck -n '__dvgcheck_in only' -a places -d 'Prints where calls stay within the window'
-complete -c dvgcheck -n '__dvgcheck_in only' -a diff -d 'Prints what the words touch in which another ROM differs'
+complete -c dvgcheck -n '__dvgcheck_in only' -a diff -d 'Prints which shapes and frames a changed ROM touches'
 complete -c dvgcheck -n '__dvgcheck_in only' -a explain -d 'Explains the answer of a command'
 complete -c dvgcheck -n '__dvgcheck_in only' -a rules -d 'Prints what each number means'
 complete -c dvgcheck -n '__dvgcheck_in only' -a help -d 'Prints help'

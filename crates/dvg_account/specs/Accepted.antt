@@ -57,11 +57,12 @@ TellsBoard Profile inputs told = TellsBoardAt inputs.map inputs told
 TellsBoard Board inputs told = told ≡ None
 
 -- these are the images of bytes of a ROM at this map and of a frame, as far as they are of the right length
-pub record AreImagesOf (machine : Machine) (map : MemoryMap) (rom_bytes frame_bytes : List ℕ) (rom : Option Rom) (frame : Option (List ℕ)) : Type 0 where
+pub record AreImagesOf (machine : Machine) (map : MemoryMap) (rom_bytes frame_bytes : List ℕ) (rom : Option Rom)
+    (frame : Option (List ℕ)) : Type 0 where
   pub rom_is : IsRomLength map (length rom_bytes) → rom ≡ Some (rom_on machine map rom_bytes)
   pub frame_is : IsFrameLength (length frame_bytes) → frame ≡ Some (words_of frame_bytes)
 
--- the lines of what is accepted of inputs with these images: its counts, the calls of the frame, where the frame and the shapes light, what the board clips, what
+-- the lines of what is accepted of inputs with these images: counts, calls, where the frame and the shapes light, what the board clips, what
 -- is worth a second look (only tested), and the board's answer
 pub record AcceptedLines (inputs : Inputs) (rom : Option Rom) (frame : Option (List ℕ)) (yes : Yes) (lines : List Line) : Type 0 where
   pub survey : Survey
@@ -77,6 +78,7 @@ pub record AcceptedLines (inputs : Inputs) (rom : Option Rom) (frame : Option (L
   pub on_board : Option Line
   pub board : TellsBoard inputs.machine inputs on_board
   pub told : lines ≡ machine_lines inputs.machine ++ option_to_list zone ++ Accepted (line.Shapes yes.shapes)
-      ∷ Accepted (line.Words yes.words inputs.budget) ∷ Accepted (line.ReturnPlaces yes.depth) ∷ Accepted (line.Calls survey.frame.calls) ∷ Accepted (line.FrameLights survey.frame.lit)
+      ∷ Accepted (line.Words yes.words inputs.budget) ∷ Accepted (line.ReturnPlaces yes.depth)
+      ∷ Accepted (line.Calls survey.frame.calls) ∷ Accepted (line.FrameLights survey.frame.lit)
       ∷ option_to_list frame_margins ++ option_to_list clipped ++ Accepted (line.ShapesLight survey.shapes) ∷ option_to_list shapes_margins
       ++ Accepted (line.Remarks survey.remarks) ∷ option_to_list on_board

@@ -18,6 +18,7 @@ use Rattle.dvg_account.specs.declared.cure.MakerCure.TheVariants as cure
 abbrev pub outside_cure : ℕ → MakerCure
 outside_cure at = if nat_lt at RAM_WORDS then cure.CallsRam else cure.CallsOutside
 
+-- a call outside the ROM that a shape leads to, by its address
 abbrev pub outside_below_cure : ℕ → MakerCure
 outside_below_cure at = if nat_lt at RAM_WORDS then cure.LeadsToRam else cure.LeadsOutside
 
@@ -52,7 +53,7 @@ abbrev pub scale_cure : Option FrameCall → MakerCure
 scale_cure (Some call) = cure.CallScale
 scale_cure None = cure.RootScale
 
--- what breaks a rule of shapes is cured as that rule says
+-- what to do, by the cause; what breaks a rule of shapes is cured as that rule says
 abbrev pub cure_by : MemoryMap → EntryCause → MakeAccount → MakerCure
 cure_by map cause.RootOutside a = cure.RootOutside
 cure_by map cause.Missing a = missing_cure map (slice_get a.chain.items (length a.chain.items - 1)) (length a.chain.items) a.at
@@ -66,5 +67,6 @@ cure_by map (cause.TooManyWords words) a = cure.Words
 cure_by map cause.TooManyEntries a = entries_cure a.fault.call
 cure_by map cause.Memory a = cure.OfRule (fault_number make.Memory)
 
+-- what to do about what can't be made
 abbrev pub cure_of : MemoryMap → MakeAccount → MakerCure
 cure_of map a = cure_by map a.cause a

@@ -30,6 +30,7 @@ abbrev pub words_with : ℕ → Option ℕ → Words
 words_with first None = words.One first
 words_with first (Some second) = words.Two first second
 
+-- the words of an instruction, of which the first may be missing, too
 abbrev pub words_from : Option ℕ → Option ℕ → Words
 words_from None next = words.Nothing
 words_from (Some first) next = if is_long_opcode (opcode first) then words_with first next else words.One first
@@ -43,6 +44,7 @@ abbrev pub instruction_of : Cell → Option Instruction
 instruction_of (cell.Holds format instr) = Some (record { format = format; instr = instr })
 instruction_of c = None
 
+-- the instruction at a word address of a source
 abbrev pub instruction_at : Source → ℕ → Option Instruction
 instruction_at source at = instruction_of (cell_at source at)
 
@@ -52,7 +54,8 @@ callee_of (Seen v) = v.callee
 callee_of found = None
 
 -- the item at a word address, before which this is known, if that is told, and which names this entry
-pub record IsItemWith (kind : Kind) (source : Source) (at : ℕ) (before : Option Known) (callee : Option Entry) (i : RefusedItem) : Type 0 where
+pub record IsItemWith (kind : Kind) (source : Source) (at : ℕ) (before : Option Known) (callee : Option Entry)
+    (i : RefusedItem) : Type 0 where
   pub of_kind : i.kind ≡ kind
   pub stands : i.at ≡ at
   pub holds : i.words ≡ words_at source at
@@ -60,6 +63,7 @@ pub record IsItemWith (kind : Kind) (source : Source) (at : ℕ) (before : Optio
   pub named : i.callee ≡ callee
   pub known : i.before ≡ before
 
+-- the refused item, of which all that stands before it is known
 abbrev pub IsItem : Kind → Source → ℕ → Known → Option Entry → RefusedItem → Type 0
 IsItem kind source at before callee i = IsItemWith kind source at (Some before) callee i
 
@@ -74,6 +78,7 @@ abbrev pub unless_zeros : Option Zeros → Option Before → Option ItemLine
 unless_zeros None before = option_map line.ComesFrom before
 unless_zeros (Some zeros) before = None
 
+-- the item that goes on to this one, where it is told
 abbrev pub comes_from : Kind → Words → Way → Option ItemLine
 comes_from Frame held way = unless_zeros way.zeros way.last
 comes_from Shape words.Nothing way = unless_zeros way.zeros way.last
@@ -84,6 +89,7 @@ abbrev pub place_lost_by : Option Losses → Option ItemLine
 place_lost_by None = None
 place_lost_by (Some l) = option_map line.PlaceLostBy l.place
 
+-- the item by which the scale was lost
 abbrev pub scale_lost_by : Option Losses → Option ItemLine
 scale_lost_by None = None
 scale_lost_by (Some l) = option_map line.ScaleLostBy l.scale
@@ -91,7 +97,8 @@ scale_lost_by (Some l) = option_map line.ScaleLostBy l.scale
 -- what is known before the item, if that is told
 abbrev pub known_lines : Role → Option Known → List Line
 known_lines r None = []
-known_lines r (Some known) = Item r (line.PlaceBefore known.place) ∷ Item r (line.ScaleBefore known.scale) ∷ Item r (line.WordsBefore known.words) ∷ []
+known_lines r (Some known) =
+    Item r (line.PlaceBefore known.place) ∷ Item r (line.ScaleBefore known.scale) ∷ Item r (line.WordsBefore known.words) ∷ []
 
 -- where the item stands, what it is, what is known before it, by which items the rest was lost, and the zeros that lead to it
 abbrev pub lines_as : Role → RefusedItem → List Line

@@ -33,13 +33,15 @@ use Rattle.dvg_account.specs.declared.line.MakerChain.{MakerChain}
 abbrev pub most_words : List Entry → ℕ
 most_words list = fold (λ most e. max most e.words) 0 list
 
+-- the most return places that an entry stores at once
 abbrev pub most_depth : List Entry → ℕ
 most_depth list = fold (λ most e. max most e.depth) 0 list
 
 -- the lines of a certificate with these entries, for a machine
 abbrev pub made_lines : Machine → List Entry → List Line
 made_lines machine list =
-    machine_lines machine ++ Made (made.Entries (length list)) ∷ Made (made.Words (most_words list)) ∷ Made (made.ReturnPlaces (most_depth list)) ∷ []
+    machine_lines machine
+        ++ Made (made.Entries (length list)) ∷ Made (made.Words (most_words list)) ∷ Made (made.ReturnPlaces (most_depth list)) ∷ []
 
 -- which shapes need one another
 abbrev pub ring_of : EntryCause → Option ℕ
@@ -71,6 +73,7 @@ abbrev pub frame_of_call : List (List ℕ) → Option FrameCall → Option (List
 frame_of_call frames None = None
 frame_of_call frames (Some call) = slice_get frames call.frame
 
+-- the lines of an item, if there is one
 abbrev pub maker_item_lines : Role → Option RefusedItem → List Line
 maker_item_lines r None = []
 maker_item_lines r (Some i) = lines_as r i
@@ -121,5 +124,6 @@ pub record UnmadeLines (rom : Rom) (frames : List (List ℕ)) (a : MakeAccount) 
   pub is_item : IsMakerItem rom (frame_of_call frames a.fault.call) a item
   pub below : Option Line
   pub deep : TellsBelow a.cause below
-  pub told : lines ≡ machine_lines rom.machine ++ Rule (fault_number (make_fault_of a.fault.why)) ∷ option_to_list (why_line a.fault.call a.at why)
+  pub told : lines ≡ machine_lines rom.machine
+      ++ Rule (fault_number (make_fault_of a.fault.why)) ∷ option_to_list (why_line a.fault.call a.at why)
       ++ way_lines call item (Path (path.MakerChain (chain_of a))) ++ option_to_list below ++ MakerCure (cure_of rom.map a) ∷ []

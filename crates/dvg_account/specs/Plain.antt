@@ -26,5 +26,6 @@ told_plainly (plain.FrameLength bytes) = Why (Input (input.FrameLength bytes)) �
 told_plainly (plain.Budget budget) = Why (Input (input.Budget budget)) ∷ []
 told_plainly (plain.Line line why) = told_of_line line why
 
+-- the lines of an account without an item: the machine, the rule, why, and what to do
 abbrev pub plain_lines : Machine → ℕ → PlainWhy → List Line
 plain_lines machine number why = machine_lines machine ++ Rule number ∷ told_plainly why ++ WhatToDo number ∷ []

@@ -22,7 +22,8 @@ use Rattle.dvg_account.specs.declared.line.Line.TheVariants.{Rule, Why, Path, Wh
 use Rattle.dvg_account.specs.declared.line.PathLine.TheVariants as path
 
 -- the lines of the first fault of a frame: its rule, its cause, its item, and what to do. No losses are told where no items lead there
-pub record FrameLines (machine : Machine) (window : Window) (frame : List ℕ) (list : List Entry) (f : FrameFinding) (lines : List Line) : Type 0 where
+pub record FrameLines (machine : Machine) (window : Window) (frame : List ℕ) (list : List Entry) (f : FrameFinding)
+    (lines : List Line) : Type 0 where
   pub why : Sentence
   pub tells : TellsFrame machine frame f f.cause why
   pub item : RefusedItem
@@ -44,7 +45,8 @@ TellsChain rom (Some words) list goal line = ⊥
 
 -- the lines of the first fault of the shapes: its rule, its cause, its item, its entry, how the frame reaches it,
 -- whether the certificate may have been made for the other machine, and what to do
-pub record ShapeLines (window : Window) (rom : Rom) (frame : Option (List ℕ)) (list : List Entry) (f : ShapeFinding) (lines : List Line) : Type 0 where
+pub record ShapeLines (window : Window) (rom : Rom) (frame : Option (List ℕ)) (list : List Entry) (f : ShapeFinding)
+    (lines : List Line) : Type 0 where
   pub why : Sentence
   pub tells : TellsShape rom f f.cause why
   pub item : RefusedItem

@@ -22,6 +22,7 @@ abbrev pub rom_in : Swapped → List ℕ → List ℕ
 rom_in of.Frame rom = rom
 rom_in other rom = swapped rom
 
+-- the bytes of the frame with those swapped that are told
 abbrev pub frame_in : Swapped → List ℕ → List ℕ
 frame_in of.Rom frame = frame
 frame_in other frame = swapped frame

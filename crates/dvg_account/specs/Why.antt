@@ -35,6 +35,7 @@ words_with found = 0
 abbrev pub addresses_of_frame : List ℕ → Addresses
 addresses_of_frame frame = record { owner = owner.Frame; first = 0; last = length frame - 1 }
 
+-- the addresses of a ROM's words
 abbrev pub addresses_of_map : MemoryMap → Addresses
 addresses_of_map map = record { owner = owner.Rom; first = map.rom_first; last = map.rom_last }
 
@@ -43,6 +44,7 @@ abbrev pub missing_at : Option ℕ → ℕ → ℕ
 missing_at None at = at
 missing_at (Some first) at = at + 1
 
+-- the missing word of an item at this address, of a list with these addresses
 abbrev pub missing_word : Source → Addresses → ℕ → Why
 missing_word source list at = why.MissingWord (missing_at (source.word at) at) list
 
@@ -61,6 +63,7 @@ abbrev pub box_or_draw : Option Entry → Why
 box_or_draw (Some e) = why.BoxAtLostPlace
 box_or_draw None = why.DrawsAtLostPlace
 
+-- what lights at a lost place, by what was found there
 abbrev pub lost_place : Found → Why
 lost_place (Seen v) = box_or_draw v.callee
 lost_place found = why.DrawsAtLostPlace

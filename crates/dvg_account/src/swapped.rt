@@ -39,8 +39,8 @@ fn swap_words(alloc: Global, bytes: &[u8]) -> Result<Vec<u8>, AllocError>
 }
 
 /// Of which input the bytes have to be swapped for these inputs, which are refused, to be accepted: by their certificate, or without
-/// one by the frame's own; `None` if no swap gets them accepted (only tested). A frame that is HALT alone if swapped is not told: each
-/// word with B in the place of its low byte's first digit is a HALT so. They are judged anew for each swap.
+/// one by the frame's own; `None` if no swap gets them accepted (only tested). A swap that leaves a frame of HALT alone is not told: every
+/// word whose low byte begins with the digit B is a HALT once swapped. They are judged anew for each swap.
 pub fn find_swapped(alloc: Global, inputs: &Inputs) -> Result<Option<Swapped>, AllocError>
     ensures { IfOk result (λ found. IfSome found (IsAcceptedSwapped inputs.now)) }
 {

@@ -36,6 +36,7 @@ JudgesAlone machine rom map budget w own =
     (frame : List ℕ) (v : Result Yes FrameRefusal) → VerdictOnBytes own.machine own.rom.now own.map frame own.budget own.window v
     → AloneVerdict machine rom map frame budget w (Ok v)
 
+-- the answer in plain numbers
 abbrev pub told_alone : Result (Result Yes FrameRefusal) OutOfRange → Answer
 told_alone (Ok v) = told_own v
 told_alone (Err b) = numbered (bad_number b)

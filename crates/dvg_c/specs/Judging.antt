@@ -50,6 +50,7 @@ Keeps machine mode w rom s (Ok c) =
     (s.judged ≢ NOT_JUDGED) × (shapes_of s ≡ record { rom = rom_on machine c.map rom; list = c.entries; window = w; mode = mode })
 Keeps machine mode w rom s (Err r) = s.judged ≡ NOT_JUDGED
 
+-- the answer in plain numbers: how many shapes are good, or the refusal
 abbrev pub told_shapes : Result Certificate Refusal → Answer
 told_shapes (Ok c) = record (numbered 0) { shapes = length c.entries }
 told_shapes (Err r) = told_refusal r

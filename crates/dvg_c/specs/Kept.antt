@@ -68,6 +68,7 @@ kept_rom machine first last bytes =
 abbrev pub kept_list : ℕ → List KeptEntry → List Entry
 kept_list count entries = map entry_of (take count entries)
 
+-- the judged shapes that the fields of the struct stand for
 abbrev pub kept_shapes : ℕ → ℕ → WindowEnds → ℕ → ℕ → List ℕ → ℕ → List KeptEntry → Shapes
 kept_shapes machine judged w first last bytes count entries =
     record { rom = kept_rom machine first last bytes; list = kept_list count entries; window = window_of w; mode = mode_of judged }

@@ -78,6 +78,7 @@ frame_of (run.Call call why) = call.frame
 frame_of (run.FrameLength n) = n
 frame_of f = 0
 
+-- why nothing is made, in plain numbers
 abbrev pub told_unmade : Unmade → Answer
 told_unmade unmade.Machine = numbered BAD_MACHINE
 told_unmade unmade.Map = numbered BAD_MAP
@@ -85,6 +86,7 @@ told_unmade unmade.Lengths = numbered BAD_LENGTHS
 told_unmade unmade.Memory = numbered 63
 told_unmade (unmade.Run f) = told_run f
 
+-- the frame that it is about, counted from 0; 0 where it is about none
 abbrev pub unmade_frame : Unmade → ℕ
 unmade_frame (unmade.Run f) = frame_of f
 unmade_frame other = 0

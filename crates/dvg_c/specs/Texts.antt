@@ -36,8 +36,8 @@ Explains (Err b) (Ok text) = ⊥
 Explains (Err b) (Err number) = number ≡ bad_number b
 
 -- what the frame comes to is told, and so is the account of it
-pub record IsExplained (machine : ℕ) (rom : List ℕ) (map : MemoryMap) (frame : List ℕ) (budget : ℕ) (w : Window) (old new : List ℕ) (t : TextAnswer)
-    : Type 0 where
+pub record IsExplained (machine : ℕ) (rom : List ℕ) (map : MemoryMap) (frame : List ℕ) (budget : ℕ) (w : Window) (old new : List ℕ)
+    (t : TextAnswer) : Type 0 where
   pub verdict : Result (Result Yes FrameRefusal) OutOfRange
   pub holds : AloneVerdict machine rom map frame budget w verdict
   pub answer_is : t.answer ≡ told_alone verdict

@@ -64,6 +64,7 @@ told_refusal (refusal.Shape f) =
     record (numbered (refusal_number (refusal.Shape f))) { shape = f.addr; scale = told_key f.key; word = f.word }
 told_refusal (refusal.Frame f) = record (numbered (refusal_number (refusal.Frame f))) { word = f.word }
 
+-- a verdict in plain numbers
 abbrev pub told : Result Yes Refusal → Answer
 told (Ok y) = told_yes y
 told (Err r) = told_refusal r

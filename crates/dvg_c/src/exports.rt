@@ -65,7 +65,7 @@ fn check_in(
     answer_of(&check_on(machine, alloc, rom, cert, frame, budget, window, mode))
 }
 
-/// Judges a frame over a vector ROM and its certificate, all as bytes: `check` of `dvg_check`, for C.
+/// Judges a frame over a vector ROM and its certificate, all as bytes: `check` of `dvg_verdict`, for C.
 ///
 /// `budget` is how many words the frame may take at most, 1 to 1,000,000, and `window` the part of the screen that may be lit.
 /// The answer is 80 where the window's ends are not in order or not on the screen, else that of `check`: the first that applies
@@ -88,7 +88,7 @@ pub extern "C" fn dvgcheck_check(
     check_in(alloc, PROFILE, rom, cert, frame, budget, window, Bound)
 }
 
-/// The same with counts as exact: `check_exact` of `dvg_check`, for C.
+/// The same with counts as exact: `check_exact` of `dvg_verdict`, for C.
 ///
 /// Among the rules of shapes are 32 and 33. With 0 every run fetches just the answered count of words, and just the answered
 /// count of return places is stored at once.

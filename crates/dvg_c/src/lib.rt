@@ -1,4 +1,5 @@
-//! The checker for programs in C: a static library whose exports call those of `dvg_check`, and state their clauses again.
+//! The checker for programs in C: a static library whose exports call those of `dvg_verdict`, `dvg_check` and `dvg_cmd`, and state
+//! their clauses again.
 //!
 //! C meets no `requires`, so no export has one: what a call asks is tested, and answered by a number.
 #![tactic(auto)]

@@ -18,6 +18,7 @@ abbrev pub IsKey : Key → Type 0
 IsKey (At n) = n ≤ 15
 IsKey Any = Unit {0}
 
+-- an end's coordinates are numbers of a certificate
 abbrev pub IsEnd : End → Type 0
 IsEnd (Rel x y) = IsNumber x × IsNumber y
 IsEnd (Abs x y) = IsNumber x × IsNumber y
@@ -27,6 +28,7 @@ IsEnd Lost = Unit {0}
 abbrev pub IsRange : ℤ → ℤ → Type 0
 IsRange low high = IsNumber low × IsNumber high × (low ≤ℤ high)
 
+-- a box has ranges on both axes
 abbrev pub IsBox : LitBox → Type 0
 IsBox Empty = Unit {0}
 IsBox (Span x_min x_max y_min y_max) = IsRange x_min x_max × IsRange y_min y_max

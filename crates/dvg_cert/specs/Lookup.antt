@@ -3,6 +3,7 @@ use Rattle.std.specs.Prelude.{◌≡◌, ℕ, ◌==◌, ◌&&◌, Bool, true, fa
 use Rattle.std.specs.Option.{option_or}
 use Rattle.dvg_cert.specs.Entry.{Entry, Key, At, Any}
 
+-- the keys are the same
 abbrev pub same_key : Key → Key → Bool
 same_key (At m) (At n) = m == n
 same_key (At m) Any = false

@@ -51,7 +51,8 @@ FrameCauseOf w budget why known found (cause.BackJump to) = (why ≡ frame.BackJ
 FrameCauseOf w budget why known found cause.BeamUnknown = why ≡ frame.BeamUnknown
 FrameCauseOf w budget why known found cause.ScaleUnknown = why ≡ frame.ScaleUnknown
 FrameCauseOf w budget why known found (cause.OffScreen leaving) = (why ≡ frame.OffScreen) × OfSeen found (LeavesWindow w leaving)
-FrameCauseOf w budget why known found (cause.NoEntry to scale) = (why ≡ frame.NoEntry) × OfSeen found (NamesNoEntry Frame to) × (scale ≡ known)
+FrameCauseOf w budget why known found (cause.NoEntry to scale) =
+    (why ≡ frame.NoEntry) × OfSeen found (NamesNoEntry Frame to) × (scale ≡ known)
 -- the words past the item are this many more than the budget
 FrameCauseOf w budget why known found (cause.Budget by) =
     (why ≡ frame.Budget) × OfSeen found (λ v. (budget < v.after.words) × (by ≡ v.after.words - budget))
@@ -68,7 +69,8 @@ ClaimCauseOf w e why known found shape_cause.HaltInShape = why ≡ shape.HaltInS
 ClaimCauseOf w e why known found shape_cause.BeamUnknown = why ≡ shape.BeamUnknown
 ClaimCauseOf w e why known found shape_cause.ScaleUnknown = why ≡ shape.ScaleUnknown
 ClaimCauseOf w e why known found (shape_cause.OffScreen leaving) = (why ≡ shape.OffScreen) × OfSeen found (LeavesWindow w leaving)
-ClaimCauseOf w e why known found (shape_cause.NoEntry to scale) = (why ≡ shape.NoEntry) × OfSeen found (NamesNoEntry Shape to) × (scale ≡ known)
+ClaimCauseOf w e why known found (shape_cause.NoEntry to scale) =
+    (why ≡ shape.NoEntry) × OfSeen found (NamesNoEntry Shape to) × (scale ≡ known)
 -- this many return places are stored at once under the item, more than the entry claims
 ClaimCauseOf w e why known found (shape_cause.TooDeep depth) =
     (why ≡ shape.TooDeep) × OfSeen found (λ v. depth ≡ depth_under v.item.instr v.callee) × (e.depth < depth)

@@ -33,6 +33,7 @@ example_list = example_entry ∷ []
 abbrev pub rom_for : Machine → Rom
 rom_for machine = record example_rom { machine = machine }
 
+-- the memory of the example on a machine
 abbrev pub memory_for : Machine → Memory
 memory_for machine = record { frame = example_frame; rom = rom_for machine }
 

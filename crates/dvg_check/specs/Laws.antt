@@ -151,7 +151,8 @@ pub record SameCounts (count depth count' depth' : ℕ) : Type 0 where
 abbrev pub OneCount : Type 0
 OneCount =
     (w : Window) (machine : Machine) (words : List ℕ) (list : List Entry) (budget count depth count' depth' : ℕ)
-    → GoodFrame w machine words list budget count depth → GoodFrame w machine words list budget count' depth' → SameCounts count depth count' depth'
+    → GoodFrame w machine words list budget count depth → GoodFrame w machine words list budget count' depth'
+    → SameCounts count depth count' depth'
 
 -- ---- strokes
 

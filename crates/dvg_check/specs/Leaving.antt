@@ -33,6 +33,7 @@ distance l Right p = unsigned_abs (p.x -ℤ l.x_max)
 distance l Bottom p = unsigned_abs (l.y_min -ℤ p.y)
 distance l Top p = unsigned_abs (p.y -ℤ l.y_max)
 
+-- the point lies within the limits, ends included
 abbrev pub InLimits : Limits → Point → Type 0
 InLimits l p = InSpan l.x_min l.x_max l.y_min l.y_max p
 

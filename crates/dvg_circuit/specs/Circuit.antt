@@ -56,7 +56,8 @@ decoded first second = unwrap_or (instruction_of Board first second) Halt
 abbrev pub draw_counts : DrawFields → Circuit → ℕ
 draw_counts d c = counts (effective_scale d.lscale c.scale)
 
--- a call steps the pointer up and stores the next address there; a return goes to the place there and steps it down (MAME's DVG)
+-- what an instruction does: a draw steps the counters, a LABS loads them and the scale, a call steps the pointer up and stores the next
+-- address there, a return goes to the place there and steps it down, HALT stops (MAME's DVG)
 abbrev pub after : Instr → Format → Circuit → Circuit
 after (Draws d) format c = record c { pc = past format c.pc; counters = counters_after d c.counters (draw_counts d c) }
 after (Labs x y gscale) format c = record c { pc = past format c.pc; counters = record { x = x; y = y }; scale = gscale }

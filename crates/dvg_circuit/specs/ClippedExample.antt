@@ -19,6 +19,7 @@ in_row = map (λ x. record { x = x; y = 100 })
 abbrev pub AreShown : List Counters → Type 0
 AreShown = AllByRecursion IsShown
 
+-- all of these are blanked
 abbrev pub AreBlanked : List Counters → Type 0
 AreBlanked = AllByRecursion (λ c. IsShown c → ⊥)
 
@@ -26,6 +27,7 @@ AreBlanked = AllByRecursion (λ c. IsShown c → ⊥)
 abbrev pub left_of_screen : List Counters
 left_of_screen = in_row (4091 ∷ 4092 ∷ 4092 ∷ 4093 ∷ 4094 ∷ 4095 ∷ 4095 ∷ [])
 
+-- the counts of it that are shown
 abbrev pub at_left_edge : List Counters
 at_left_edge = in_row (0 ∷ 0 ∷ 1 ∷ 1 ∷ 2 ∷ 3 ∷ 4 ∷ 4 ∷ 5 ∷ 5 ∷ [])
 
@@ -33,6 +35,7 @@ at_left_edge = in_row (0 ∷ 0 ∷ 1 ∷ 1 ∷ 2 ∷ 3 ∷ 4 ∷ 4 ∷ 5 ∷ 5 �
 abbrev pub at_right_edge : List Counters
 at_right_edge = in_row (1020 ∷ 1021 ∷ 1021 ∷ 1022 ∷ 1023 ∷ [])
 
+-- the counts of it that are blanked
 abbrev pub right_of_screen : List Counters
 right_of_screen = in_row (1024 ∷ 1024 ∷ 1025 ∷ 1025 ∷ 1026 ∷ 1026 ∷ 1027 ∷ 1028 ∷ 1029 ∷ 1029 ∷ 1030 ∷ 1030 ∷ [])
 
@@ -40,6 +43,7 @@ right_of_screen = in_row (1024 ∷ 1024 ∷ 1025 ∷ 1025 ∷ 1026 ∷ 1026 ∷ 
 abbrev pub place_at : ℤ → Point
 place_at x = record { x = pos 1024 *ℤ x; y = pos 1024 *ℤ pos 100 }
 
+-- a draw that comes in at the left edge, and one that leaves at the right, count by count
 pub record WorkedClips : Type 0 where
   pub from_left : passed ten_right (record { x = twelve_bits (negsuc 4); y = 100 }) 16 ≡ left_of_screen ++ at_left_edge
   pub left_blanked : AreBlanked left_of_screen

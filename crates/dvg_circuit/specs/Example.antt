@@ -28,6 +28,7 @@ abbrev pub example_start : Counters → ℕ → List ℕ → Circuit
 example_start counters scale returns =
     record { pc = 0; counters = counters; scale = scale; pointer = 15; returns = returns; halted = false }
 
+-- counters that hold these
 abbrev pub at : ℕ → ℕ → Counters
 at x y = record { x = x; y = y }
 

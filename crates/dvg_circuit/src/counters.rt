@@ -58,7 +58,7 @@ impl Counters {
     }
 }
 
-/// For how many counts the vector timer runs at an effective scale.
+/// For how many counts the vector timer runs at an effective scale: 2 to 1024 at 0 to 9, and none above.
 pub fn counts(scale: u8) -> u16
     ensures value { result ≡ counts scale }
     ensures few { result ≤ 1024 }

@@ -30,7 +30,8 @@ pub record ComparesFor
 abbrev pub ComparisonFaultMeans :
     Machine → Option (List ℕ) → Option (List ℕ) → MemoryMap → List (ℕ × Key) → List (Option (List ℕ)) → FramesRunFault → Type 0
 ComparisonFaultMeans machine rom other map roots frames f =
-    FramesFaultMeans machine rom map roots frames f ⊎ ((f ≡ fault.Plain maker.RomLength) × FramesFaultMeans machine other map roots frames f)
+    FramesFaultMeans machine rom map roots frames f
+    ⊎ ((f ≡ fault.Plain maker.RomLength) × FramesFaultMeans machine other map roots frames f)
 
 -- the lines of the frames that reach a touched shape, in their order, by their names
 abbrev pub reaching_lines : List (List ℕ) → List Bool → List (List ℕ)

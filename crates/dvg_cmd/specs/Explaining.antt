@@ -14,7 +14,8 @@ use Rattle.dvg_cmd.specs.Runs.{Outcome, Accepted, Refused, NoMemory}
 
 -- the list that is made for all bytes that readers held, of a ROM at this map and of frames, has so many entries
 pub record MakesEntries
-    (machine : Machine) (rom : Option (List ℕ)) (map : MemoryMap) (roots : List (ℕ × Key)) (frames : List (Option (List ℕ))) (count : ℕ) : Type 0 where
+    (machine : Machine) (rom : Option (List ℕ)) (map : MemoryMap) (roots : List (ℕ × Key)) (frames : List (Option (List ℕ)))
+    (count : ℕ) : Type 0 where
   pub list : List Entry
   pub made : MakesForFrames machine rom map roots frames list
   pub count_is : count ≡ length list
@@ -23,6 +24,7 @@ pub record MakesEntries
 abbrev pub make_line : List ℕ → Result ℕ FramesRunFault → List ℕ
 make_line name made = name ++ make_line_text made
 
+-- what the line reports
 abbrev pub make_outcome_of : Result ℕ FramesRunFault → Outcome
 make_outcome_of (Ok entries) = Accepted
 make_outcome_of (Err fault) = Refused
@@ -37,6 +39,7 @@ abbrev pub account_text : {A E : Type 0} → (A → List ℕ) → Result A E →
 account_text bytes (Ok text) = bytes text
 account_text bytes (Err e) = no_account
 
+-- what is reported where there may be no memory for the account
 abbrev pub told_outcome : {A E : Type 0} → Result A E → Outcome → Outcome
 told_outcome (Ok text) outcome = outcome
 told_outcome (Err e) outcome = NoMemory

@@ -31,6 +31,7 @@ abbrev pub IsLabelFault : Option (Bor Labelling) → List ℕ → Unnamed → Ty
 IsLabelFault None text why = ⊥
 IsLabelFault (Some labels) text why = (name : List ℕ) × (key : Key) × NamesRoot text name key × IsAddress labels.now.named name (Err why)
 
+-- why the text is no root: it has not the form of one, or what it says of a label
 abbrev pub IsRootFault : Option (Bor Labelling) → List ℕ → RootFault → Type 0
 IsRootFault labels text fault.Form = (a : ℕ) (k : Key) → IsRoot text a k → ⊥
 IsRootFault labels text (fault.Label why) = ((a : ℕ) (k : Key) → IsRoot text a k → ⊥) × IsLabelFault labels text why

@@ -31,6 +31,7 @@ abbrev pub blames : {A : Type 0} → RunFault → Result A RunFault → Bool
 blames blamed (Ok answer) = false
 blames blamed (Err f) = run_number f == run_number blamed
 
+-- the answer is that the writer failed
 abbrev pub blames_writer : {A : Type 0} → Result A RunFault → Bool
 blames_writer answer = blames fault.Write answer
 
@@ -46,14 +47,15 @@ pub record CountsFaults
 
 -- ---- how far inputs are read
 
--- how many bytes are read at most: one past the length of the longest ROM, one past the limit of a frame, and one past that of a
--- certificate
+-- how many bytes are read at most, one past what is allowed: of a ROM
 abbrev pub MOST_ROM_READ : ℕ
 MOST_ROM_READ = 4097
 
+-- of a frame
 abbrev pub MOST_FRAME_READ : ℕ
 MOST_FRAME_READ = 2049
 
+-- of a certificate
 abbrev pub MOST_TEXT_READ : ℕ
 MOST_TEXT_READ = 1048577
 

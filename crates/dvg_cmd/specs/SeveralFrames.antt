@@ -32,6 +32,7 @@ pub record OpenedFrame : Type 0 where
   pub name : List ℕ
   pub held : Option (Option (List ℕ))
 
+-- the frame whose turn it is, by what its reader holds
 abbrev pub opened : {R : Type 0} → (R → Option (List ℕ)) → NamedFrame R → OpenedFrame
 opened remaining frame = record { name = string_bytes frame.name; held = option_map remaining frame.reader }
 

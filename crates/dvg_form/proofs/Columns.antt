@@ -1,11 +1,9 @@
 -- How the columns follow from what a line has in common with one that the form allows.
-use Rattle.std.proofs.Common.{◌≡◌, ◌+◌, ◌-◌, ◌≤◌, ◌<◌, ℕ, List, [], ◌∷◌, ◌++◌, false, take, drop, length, refl, arith, append_assoc}
-use Rattle.std.specs.List.{flat_map}
+use Rattle.dvg_form.proofs.Common.{◌≡◌, ◌+◌, ◌-◌, ◌≤◌, ◌<◌, ℕ, List, [], ◌∷◌, ◌++◌, false, take, drop, length, refl, arith, append_assoc, flat_map, second_version_line, rom_line, heading, entry_line, done_line, ended, begun_with, text_of}
 use Rattle.std.proofs.lemmas.List.{take-append-drop, length-append, append-nil}
 use Rattle.std.proofs.lemmas.Fmt.{decimal_digit}
 use Rattle.dvg_words.specs.Values.{MemoryMap, is_asteroids}
 use Rattle.dvg_cert.specs.declared.entry.Entry.{Entry}
-use Rattle.dvg_text.specs.Grammar.{second_version_line, rom_line, heading, entry_line, done_line, ended, begun_with, text_of}
 use Rattle.dvg_form.specs.Columns.{IsAllowedBefore}
 
 -- what a line has in common with an allowed line and its end

@@ -76,9 +76,11 @@ ITEM_REACH = 2 ^ 41
 abbrev pub IsNear : ℕ → Point → Type 0
 IsNear = IsReached ITEM_REACH
 
+-- the same of a known place
 abbrev pub IsNearPlace : ℕ → End → Type 0
 IsNearPlace = IsReachedPlace ITEM_REACH
 
+-- the same of a box
 abbrev pub IsNearBox : ℕ → LitBox → Type 0
 IsNearBox = IsReachedBox ITEM_REACH
 
@@ -86,6 +88,7 @@ IsNearBox = IsReachedBox ITEM_REACH
 abbrev pub IsNearEffect : Effect → Type 0
 IsNearEffect = IsReachedEffect ITEM_REACH 1
 
+-- the same of the corners of what is lit
 abbrev pub IsNearExtent : LitExtent → Type 0
 IsNearExtent = IsReachedExtent ITEM_REACH 1
 

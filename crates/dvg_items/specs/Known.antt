@@ -19,7 +19,7 @@ pub use Rattle.dvg_items.specs.declared.known.Effect.{Effect}
 pub use Rattle.dvg_items.specs.declared.known.Effect.TheVariants.{Sets, Loses, Moves}
 pub use Rattle.dvg_items.specs.declared.known.Known.{Known}
 
--- the context of items: whether they are a shape's or a frame's, the machine that runs them, the certificate's entries, and the scale at the start
+-- the context of items: a shape's or a frame's, the machine that runs them, the certificate's entries, and the scale at the start
 pub record Context : Type 0 where
   pub kind : Kind
   pub machine : Machine

@@ -20,10 +20,12 @@ stops stop.Visible b = not (is_blank b)
 abbrev pub lines : List ℕ → List (List ℕ)
 lines text = slice_split (stops stop.LineFeed) text
 
+-- the lines of what follows, if anything does
 abbrev pub lines_behind : Option (Bor (List ℕ)) → List (List ℕ)
 lines_behind None = []
 lines_behind (Some text) = lines text.now
 
+-- there is a byte
 abbrev pub has_bytes : List ℕ → Bool
 has_bytes [] = false
 has_bytes (b ∷ bs) = true

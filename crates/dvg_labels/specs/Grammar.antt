@@ -15,6 +15,7 @@ pub data Meaning : Type 0 where
   Label : List ℕ → Option ℕ → Meaning
   Wrong : Meaning
 
+-- what is told of a line, as its meaning
 abbrev pub meaning_of : Told → Meaning
 meaning_of told.Nothing = Nothing
 meaning_of (told.Label name value) = Label name.now value
@@ -68,6 +69,7 @@ abbrev pub with_value : List ℕ → Option ℕ → Meaning
 with_value name None = Wrong
 with_value name (Some n) = if is_name name then Label name (Some n) else Wrong
 
+-- a label with the number that these digits spell
 abbrev pub valued : List ℕ → List ℕ → Meaning
 valued name digits = with_value name (number digits)
 

@@ -17,13 +17,15 @@ pub record Labelling : Type 0 where
   pub named : List Named
   pub passed : ℕ
 
+-- a label, as its name and its word address
 abbrev pub named_of : Label → Named
 named_of label = record { name = label.name.items; addr = label.addr }
 
--- the word of a processor's byte address: two bytes a word, from 4000 on, to BFF; an odd address, or one elsewhere, is no word's (Asteroids schematics)
+-- the word of a processor's byte address: two bytes a word, from 4000 on, to BFF; none at an odd address (Asteroids schematics)
 abbrev pub word_of : Option ℕ → Option ℕ
 word_of None = None
-word_of (Some byte) = if nat_le 16384 byte && (nat_le ((byte - 16384) / 2) MEMORY_LAST && ((byte % 2) == 0)) then Some ((byte - 16384) / 2) else None
+word_of (Some byte) =
+    if nat_le 16384 byte && (nat_le ((byte - 16384) / 2) MEMORY_LAST && ((byte % 2) == 0)) then Some ((byte - 16384) / 2) else None
 
 -- a label may name an address from its own on, in vector RAM or past it, as its own is (profile)
 abbrev pub may_name : ℕ → ℕ → Bool
@@ -47,7 +49,8 @@ IsNearest labels at (Some n) = Names labels at n.name.now n.distance
 
 -- all labels with a name stand at one address
 abbrev pub StandsAt : List Named → List ℕ → ℕ → Type 0
-StandsAt labels name addr = Contains labels (record { name = name; addr = addr }) × All (λ (l : Named). l.name ≡ name → l.addr ≡ addr) labels
+StandsAt labels name addr =
+    Contains labels (record { name = name; addr = addr }) × All (λ (l : Named). l.name ≡ name → l.addr ≡ addr) labels
 
 -- labels with a name stand at two addresses
 pub record StandsAtTwo (labels : List Named) (name : List ℕ) : Type 0 where

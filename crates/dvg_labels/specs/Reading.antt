@@ -20,6 +20,7 @@ with_meaning known Nothing = Some known
 with_meaning known (Label name value) = Some (add known name (word_of value))
 with_meaning known Wrong = None
 
+-- the labels with that of a line, by its bytes
 abbrev pub with_line : Labelling → List ℕ → Option Labelling
 with_line known line = with_meaning known (line_meaning line)
 

@@ -190,7 +190,8 @@ impl Labels {
         nearest_in(&self.labels, at)
     }
 
-    /// The word address at which all labels with a name stand.
+    /// The word address at which all labels with a name stand, or why there is none: no label has the name, or labels with it stand at
+    /// several.
     pub fn address_of(&self, name: &[u8]) -> Result<u16, Unnamed>
         ensures { IsAddress self.now.named name.now result }
     {

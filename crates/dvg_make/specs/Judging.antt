@@ -37,7 +37,7 @@ CheckMeans rom words w budget refusal.IndexMemory = Unit {0}
 CheckMeans rom words w budget r = ⊥
 
 -- what a refusal means: no certificate gets the frame accepted. After 62 for too many entries, where each made list is too
--- long, another certificate may; a want of memory says nothing (profile)
+-- long, another certificate may; a want of memory says nothing, and never comes with a call (profile)
 abbrev pub FrameRefused : Rom → List ℕ → Window → ℕ → FrameRefusal → Type 0
 FrameRefused rom words w budget (Make at Memory) = ⊥
 FrameRefused rom words w budget (Make at why) = BarsList rom [] (words ∷ []) why × BarsFrame rom words why
@@ -70,6 +70,7 @@ refusal_at None why = NoMemory
 refusal_at (Some call) Memory = NoMemory
 refusal_at (Some call) why = Make call.at why
 
+-- the refusal of a frame by the maker's
 abbrev pub refusal_by : FramesFault → FrameRefusal
 refusal_by fault = refusal_at fault.call fault.why
 

@@ -27,6 +27,7 @@ outcome_of (Err (refusal.Cert f)) = cert_outcome f.why
 outcome_of (Err refusal.IndexMemory) = NoMemory
 outcome_of (Err r) = Refused
 
+-- what the refusal of a frame by its own certificate comes to
 abbrev pub refusal_outcome_of : FrameRefusal → FrameOutcome
 refusal_outcome_of frame.NoMemory = outcome.NoMemory
 refusal_outcome_of (frame.Make at entry.Memory) = outcome.NoMemory

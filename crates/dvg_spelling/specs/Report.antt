@@ -44,6 +44,7 @@ shape_fault_text f =
 abbrev pub frame_fault_text : FrameFault → List ℕ
 frame_fault_text f = decimal (frame_number f.why) ++ codes " frame at " ++ hex_address f.word
 
+-- a refusal: its number and its place
 abbrev pub refusal_text : Refusal → List ℕ
 refusal_text (refusal.Image RomLength) = codes "1"
 refusal_text (refusal.Image FrameLength) = codes "2"
@@ -53,9 +54,11 @@ refusal_text refusal.IndexMemory = codes "50"
 refusal_text (refusal.Shape f) = shape_fault_text f
 refusal_text (refusal.Frame f) = frame_fault_text f
 
+-- the counts of what is accepted
 abbrev pub accepted_text : Yes → List ℕ
 accepted_text y = codes "accepted shapes=" ++ decimal y.shapes ++ codes " words=" ++ decimal y.words ++ codes " depth=" ++ decimal y.depth
 
+-- the line of a verdict, without its LF
 abbrev pub verdict_text : Result Yes Refusal → List ℕ
 verdict_text (Ok y) = accepted_text y
 verdict_text (Err r) = codes "refused " ++ refusal_text r
@@ -78,12 +81,14 @@ call_fault_text at entry.TooManyWords = codes "refused 62" ++ for_frame_text at
 call_fault_text at entry.TooManyEntries = codes "refused 62 by entries" ++ for_frame_text at
 call_fault_text at entry.Memory = codes "out of memory"
 
+-- why a frame is refused by its own certificate
 abbrev pub frame_refusal_text : FrameRefusal → List ℕ
 frame_refusal_text (Make at why) = call_fault_text at why
 frame_refusal_text NoMemory = codes "out of memory"
 frame_refusal_text (Check refusal.IndexMemory) = codes "out of memory"
 frame_refusal_text (Check r) = codes "refused " ++ refusal_text r
 
+-- what is said of a frame behind its name
 abbrev pub answer_text : FrameAnswer → List ℕ
 answer_text (Judged (Ok y)) = accepted_text y
 answer_text (Judged (Err r)) = frame_refusal_text r

@@ -30,7 +30,7 @@ pub enum RunFault {
 }
 
 impl RunFault {
-    /// The number of the fault.
+    /// The number of the fault, 70 to 74.
     pub fn number(self) -> u8
         ensures { result ≡ run_number self }
     {
@@ -73,7 +73,7 @@ pub enum MakeRunFault {
 }
 
 impl MakeRunFault {
-    /// The number of the fault.
+    /// The number of the fault: 1, 60 to 63, 70 or 73.
     pub fn number(self) -> u8
         ensures { result ≡ make_run_number self }
     {
@@ -104,7 +104,7 @@ pub enum FramesRunFault {
 }
 
 impl FramesRunFault {
-    /// The number of the fault.
+    /// The number of the fault: 1, 2, 60 to 63, 70, 71 or 73.
     pub fn number(self) -> u8
         ensures { result ≡ frames_run_number self }
     {

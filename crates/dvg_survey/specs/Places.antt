@@ -72,5 +72,6 @@ ArePlaces w rom list e places = (x y : ℤ) → HasPlace places x y ↔ CallKeep
 -- the places of each of these entries, in their order
 abbrev pub AreAllPlaces : Window → Rom → List Entry → List Entry → List EntryPlaces → Type 0
 AreAllPlaces w rom list [] [] = Unit {0}
-AreAllPlaces w rom list (e ∷ es) (p ∷ ps) = (p.entry ≡ e) × ArePlaces w rom list e p.places × IsNotEmpty p.places × AreAllPlaces w rom list es ps
+AreAllPlaces w rom list (e ∷ es) (p ∷ ps) =
+    (p.entry ≡ e) × ArePlaces w rom list e p.places × IsNotEmpty p.places × AreAllPlaces w rom list es ps
 AreAllPlaces w rom list es ps = ⊥

@@ -3,13 +3,14 @@
 pub mod devices;
 
 use crate::expecting::{FaultRow, expect, expect_faults, expect_same};
-use crate::inputs::EMPTY;
+use crate::inputs::{EMPTY, STROKE_FRAME, stroke_rom};
 use devices::SlowReader;
 use dvg_cmd::{
-    Counted, EntryFault, FrameCall, FrameOutcome, FramesRunFault, Key, MakeFault, MakeRunFault,
-    Mode, Outcome, RunFault, SCREEN, Window, frames_status_of, make_frames_report_of,
-    make_frames_status_of, make_report_of, make_status_of, map_of, message_of, root_of, run_check,
-    run_make, start_of, status_of, window_of,
+    ASTEROIDS, Counted, Detail, EntryFault, FrameCall, FrameOutcome, FramesRunFault, Key, Machine,
+    MakeFault, MakeRunFault, Mode, Outcome, OwnCertificates, RunFault, SCREEN, Window,
+    frames_status_of, make_frames_report_of, make_frames_status_of, make_report_of, make_status_of,
+    map_of, message_of, root_of, run_check, run_frame, run_make, run_unopened, start_of, status_of,
+    window_of,
 };
 use std::alloc::Global;
 use std::fmt::Debug;
@@ -74,6 +75,43 @@ fn reads_each_byte_once(rt: HostRuntime) {
         let told = told_of_readers(rt.alloc(), inputs, most);
         expect_same(&rt, &told, &(reads, left), &lengths);
     }
+}
+
+/// The frame of the stroke, over the stroke's ROM by its own certificate, and a frame that can't be opened.
+#[test]
+fn judges_one_frame(rt: HostRuntime) {
+    let rom = stroke_rom();
+    let judge = OwnCertificates {
+        machine: Machine::Profile,
+        rom: &rom,
+        map: ASTEROIDS,
+        budget: 20000,
+        window: SCREEN,
+    };
+    let mut frame = Counted::new(SlowReader::new(STROKE_FRAME, 1));
+    let mut out = Counted::new(Vec::new(rt.alloc()));
+    let judged = run_frame(
+        rt.alloc(),
+        &judge,
+        None,
+        "stroke",
+        &mut frame,
+        Detail::Line,
+        &mut out,
+    );
+    expect_same(&rt, &judged, &Ok(FrameOutcome::Accepted), &"stroke");
+    let unopened = run_unopened(
+        Machine::Profile,
+        rt.alloc(),
+        "absent",
+        Detail::Line,
+        &mut out,
+    );
+    expect_same(&rt, &unopened, &Ok(FrameOutcome::Unread), &"absent");
+    let written = out.into_inner();
+    let lines = str::from_utf8(&written).unwrap_or("");
+    let wanted = "stroke: accepted shapes=1 words=7 depth=1\nabsent: cannot read\n";
+    expect_same(&rt, &lines, &wanted, &"lines");
 }
 
 /// Stops the test unless each outcome has its status, which this gives.

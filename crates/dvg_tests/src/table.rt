@@ -13,8 +13,9 @@
 //! - `accepted` or `refused`, which is what the profile's machine reports.
 //!
 //! A row has what it leaves out from the row above it where its first line begins with `the same`, and else from the usual row of
-//! its table.
+//! its table. A line with another name stops the test.
 
+use crate::expecting::expect;
 use dvg_check::Mode;
 use dvg_cmd::window_of;
 use dvg_words::{Machine, SCREEN, Window};
@@ -96,6 +97,23 @@ pub const MADE: Row<'static> = Row {
     ..ZEROS
 };
 
+/// What a line of a row may begin with.
+const NAMES: &[&str] = &[
+    "map", "rom", "bytes", "shape", "text", "frame", "budget", "window", "mode", "made", "board",
+    "accepted", "refused",
+];
+
+/// Each line behind the first begins with a name.
+fn are_named(lines: &str) -> bool {
+    for line in lines.lines().skip(1) {
+        let (word, _) = line.split_once(' ').unwrap_or((line, ""));
+        if !NAMES.contains(&word) {
+            return false;
+        }
+    }
+    true
+}
+
 /// What stands behind the first word of a line: of the first line that begins so, or this where there is none.
 fn words_of<'a>(lines: &'a str, first: &str, usual: &'a str) -> &'a str {
     for line in lines.lines() {
@@ -136,6 +154,7 @@ pub fn read_rows<'a>(
     let mut rows = Vec::new(alloc);
     let mut above = *usual;
     for lines in table.split("\n\n") {
+        expect(rt, are_named(lines), &lines);
         let other = if lines.starts_with("the same") {
             above
         } else {

@@ -6,7 +6,7 @@ use crate::expecting::{FaultRow, expect, expect_faults, expect_same};
 use dvg_words::{
     ASTEROIDS, Draw, Format, FrameImage, ImageFault, Instr, Machine, Point, RomImage, RomMap,
     SCREEN, Window, decode, decode_on, displacement, displacement_on, draw_move, factor, in_window,
-    is_long, labs_place, on_screen, shift,
+    in_zone, is_long, labs_place, on_screen, shift,
 };
 
 fn draw(dx: i16, dy: i16, lscale: u8, bright: u8) -> Option<Instr>
@@ -180,6 +180,21 @@ fn knows_the_screen(rt: HostRuntime) {
     for (x, y) in OFF_SCREEN {
         let is_wrong = on_screen(x, y) || in_window(&SCREEN, x, y);
         expect(&rt, !is_wrong, &(x, y));
+    }
+}
+
+/// Places at the edges of the zone that a board clips, -1024 and 2047, and just past them.
+const IN_ZONE: [Place; 2] = [(-1048576, 2096128), (2096128, -1048576)];
+
+const PAST_ZONE: [Place; 4] = [(2096129, 0), (0, 2096129), (-1048577, 0), (0, -1048577)];
+
+#[test]
+fn knows_the_zone(rt: HostRuntime) {
+    for (x, y) in IN_ZONE {
+        expect(&rt, in_zone(x, y), &(x, y));
+    }
+    for (x, y) in PAST_ZONE {
+        expect(&rt, !in_zone(x, y), &(x, y));
     }
 }
 

@@ -11,4 +11,5 @@ use Rattle.dvg_verdict.specs.Verdict.{VerdictOn, NotMemory}
 abbrev pub OneVerdict : Type 0
 OneVerdict =
     (machine : Machine) (mode : Mode) (w : Window) (rom cert words : List ℕ) (budget : ℕ) (a b : Result Yes Refusal)
-    → VerdictOn machine mode w rom cert words budget a → VerdictOn machine mode w rom cert words budget b → NotMemory a → NotMemory b → a ≡ b
+    → VerdictOn machine mode w rom cert words budget a → VerdictOn machine mode w rom cert words budget b → NotMemory a → NotMemory b
+    → a ≡ b

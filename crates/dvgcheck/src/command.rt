@@ -322,7 +322,7 @@ fn places_command<'a>(alloc: Global) -> Result<Command<'a>, AllocError> {
 
 fn diff_command<'a>(alloc: Global) -> Result<Command<'a>, AllocError> {
     let command = Command::new(alloc, "diff").about(
-        "Prints which shapes that are made over a vector ROM, and which frames, read words in which another ROM differs",
+        "Prints which shapes of a vector ROM, and which frames, read words that differ in another ROM",
     );
     with_rom(alloc, command)?
         .arg(needed(

@@ -11,6 +11,7 @@ own_keys es = map (λ e. (e.addr, e.key)) es
 abbrev pub IsOwn : (ℕ × Key) × Entry → Type 0
 IsOwn p = p.0 ≡ (p.1.addr, p.1.key)
 
+-- each entry stands at its own address and key
 abbrev pub IsKeyed : List ((ℕ × Key) × Entry) → Type 0
 IsKeyed ps = All IsOwn ps
 

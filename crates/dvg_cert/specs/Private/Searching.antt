@@ -2,6 +2,7 @@
 use Rattle.std.specs.Prelude.{ℕ, ◌==◌, nat_lt, ◌&&◌, ◌||◌, Bool, true, false}
 use Rattle.dvg_cert.specs.Entry.{Entry, Key, At, Any}
 
+-- the first key stands before the second: `any` after all numbers
 abbrev pub lower_key : Key → Key → Bool
 lower_key (At m) (At n) = nat_lt m n
 lower_key (At m) Any = true

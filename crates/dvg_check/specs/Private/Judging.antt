@@ -33,7 +33,9 @@ EachKept K (why ∷ rest) = K why × EachKept K rest
 
 -- the rules on an item of a frame, by their numbers
 abbrev pub frame_rules : List FrameWhy
-frame_rules = frame.Unmapped ∷ frame.Odd ∷ frame.ReturnInFrame ∷ frame.BackJump ∷ frame.BeamUnknown ∷ frame.ScaleUnknown ∷ frame.OffScreen ∷ frame.NoEntry ∷ frame.Budget ∷ []
+frame_rules =
+    frame.Unmapped ∷ frame.Odd ∷ frame.ReturnInFrame ∷ frame.BackJump ∷ frame.BeamUnknown ∷ frame.ScaleUnknown ∷ frame.OffScreen
+    ∷ frame.NoEntry ∷ frame.Budget ∷ []
 
 -- the index of a rule among these
 abbrev pub frame_index : FrameWhy → ℕ
@@ -41,7 +43,10 @@ frame_index why = frame_number why - 40
 
 -- the rules on an item of a shape, by their numbers
 abbrev pub shape_rules : List ShapeWhy
-shape_rules = shape.Unmapped ∷ shape.Odd ∷ shape.HaltInShape ∷ shape.BeamUnknown ∷ shape.ScaleUnknown ∷ shape.OffScreen ∷ shape.NoEntry ∷ shape.TooDeep ∷ shape.TooManyWords ∷ shape.EndDiffers ∷ shape.ScaleDiffers ∷ shape.BoxTooSmall ∷ shape.WordsDiffer ∷ shape.DepthDiffers ∷ []
+shape_rules =
+    shape.Unmapped ∷ shape.Odd ∷ shape.HaltInShape ∷ shape.BeamUnknown ∷ shape.ScaleUnknown ∷ shape.OffScreen ∷ shape.NoEntry
+    ∷ shape.TooDeep ∷ shape.TooManyWords ∷ shape.EndDiffers ∷ shape.ScaleDiffers ∷ shape.BoxTooSmall ∷ shape.WordsDiffer
+    ∷ shape.DepthDiffers ∷ []
 
 -- the index of a rule among these
 abbrev pub shape_index : ShapeWhy → ℕ
@@ -71,7 +76,8 @@ pub record BreaksFirst {Why : Type 0} (order : Why → ℕ) (Keeps : Seen → Wh
 -- ---- a walk over all items
 
 -- every rule is kept, and this is known after the last item
-pub record WalksTo {Why : Type 0} (c : Context) (word : Source) (first : ℕ) (keeps : List Item → ℕ → Why → Type 0) (known : Known) : Type 0 where
+pub record WalksTo {Why : Type 0} (c : Context) (word : Source) (first : ℕ) (keeps : List Item → ℕ → Why → Type 0)
+    (known : Known) : Type 0 where
   pub keeps_all : AllKeep c.kind word first keeps
   pub items : List Item
   pub last : Item

@@ -8,7 +8,8 @@ use Rattle.dvg_cmd.specs.Runs.{MOST_ROM_READ}
 use Rattle.dvg_cmd.specs.Private.Reading.{IsPrefix, ArePrefixes}
 
 -- these are the first of the bytes that the readers of a ROM and of frames held, up to their limits
-pub record AreRead (rom : Option (List ℕ)) (frames : List (Option (List ℕ))) (rom_bytes : List ℕ) (frame_bytes : List (List ℕ)) : Type 0 where
+pub record AreRead (rom : Option (List ℕ)) (frames : List (Option (List ℕ))) (rom_bytes : List ℕ)
+    (frame_bytes : List (List ℕ)) : Type 0 where
   pub rom_prefix : IsPrefix MOST_ROM_READ rom rom_bytes
   pub frame_prefixes : ArePrefixes frames frame_bytes
 

@@ -28,7 +28,8 @@ HasCalls machine words list = (to : ℕ) (scale : Key) → FrameAsksFor machine 
 -- from the old list on, the entry that an instruction of a frame calls at this scale is made
 pub record IsCalledBy (rom : Rom) (old : List Entry) (instr : Instr) (scale : Key) (new : List Entry) (callee : Option Entry) : Type 0 where
   pub none : target Frame instr ≡ None → (new ≡ old) × (callee ≡ None)
-  pub some : (to : ℕ) → target Frame instr ≡ Some to → InProgress rom old (to, scale) new [] × HasEntry new to scale × (callee ≡ entry_at new to scale)
+  pub some : (to : ℕ) → target Frame instr ≡ Some to
+      → InProgress rom old (to, scale) new [] × HasEntry new to scale × (callee ≡ entry_at new to scale)
 
 -- the refusal of the entry that the instruction calls is right
 abbrev pub BlocksTarget : Rom → List Entry → Instr → Key → Blocked → Type 0
@@ -48,7 +49,8 @@ NoneHasCalls rom words old = (list : List Entry) → AllMade rom list → Extend
 
 -- each list that has all of these is too long for a certificate
 abbrev pub LongHasCalls : Rom → List ℕ → List Entry → Type 0
-LongHasCalls rom words old = (list : List Entry) → AllMade rom list → Extends old list → HasCalls rom.machine words list → MOST_ENTRIES < length list
+LongHasCalls rom words old =
+    (list : List Entry) → AllMade rom list → Extends old list → HasCalls rom.machine words list → MOST_ENTRIES < length list
 
 -- what a refusal says of such lists
 abbrev pub BarsCalls : Rom → List ℕ → List Entry → EntryFault → Type 0
@@ -78,7 +80,8 @@ AllCalledHere rom words old list chain =
     → IsGivenHere rom.machine words asked list addr key ⊎ IsCalled rom list chain addr key
 
 -- the account of the call at a word address is right, by a list of made and needed entries
-pub record TellsHere (rom : Rom) (words : List ℕ) (old : List Entry) (at : ℕ) (chain : List PartialEntry) (obstacle : Obstacle) : Type 0 where
+pub record TellsHere (rom : Rom) (words : List ℕ) (old : List Entry) (at : ℕ) (chain : List PartialEntry)
+    (obstacle : Obstacle) : Type 0 where
   pub list : List Entry
   pub within : AllWithin rom list
   pub made : AllMade rom list
@@ -102,7 +105,8 @@ pub record BlocksHere (rom : Rom) (index : ℕ) (words : List ℕ) (old : List E
 
 -- each of these addresses and keys is a root, or a call of a frame asks for it
 abbrev pub AreAskedFor : Machine → List (ℕ × Key) → List (List ℕ) → List Entry → List (ℕ × Key) → Type 0
-AreAskedFor machine roots frames list asked = (addr : ℕ) (key : Key) → Contains asked (addr, key) → IsAskedFor machine roots frames list addr key
+AreAskedFor machine roots frames list asked =
+    (addr : ℕ) (key : Key) → Contains asked (addr, key) → IsAskedFor machine roots frames list addr key
 
 -- the entries for the roots and for all calls of these frames are made
 pub record AllFramed (rom : Rom) (roots : List (ℕ × Key)) (frames : List (List ℕ)) (done : List Entry) : Type 0 where
@@ -111,7 +115,8 @@ pub record AllFramed (rom : Rom) (roots : List (ℕ × Key)) (frames : List (Lis
   pub asked : List (ℕ × Key)
   pub asked_for : AreAskedFor rom.machine roots frames done asked
   pub collected : Collected rom asked done
-  pub forced : (list : List Entry) → AllMade rom list → HasAll roots list → ((words : List ℕ) → Contains frames words → HasCalls rom.machine words list) → Extends done list
+  pub forced : (list : List Entry) → AllMade rom list → HasAll roots list
+      → ((words : List ℕ) → Contains frames words → HasCalls rom.machine words list) → Extends done list
 
 -- the entries are made for a ROM at this map and for some roots and frames
 abbrev pub IsForSome : MemoryMap → List Entry → Type 0
@@ -120,7 +125,8 @@ IsForSome map done = (rom : Rom) × (rom.map ≡ map) × (roots : List (ℕ × K
 -- the list is made for each ROM, roots and frames for which these entries were made
 abbrev pub MakesFor : MemoryMap → List Entry → List Entry → Type 0
 MakesFor map done list =
-    (rom : Rom) (roots : List (ℕ × Key)) (frames : List (List ℕ)) → rom.map ≡ map → AllFramed rom roots frames done → FramesMade rom roots frames list
+    (rom : Rom) (roots : List (ℕ × Key)) (frames : List (List ℕ)) → rom.map ≡ map → AllFramed rom roots frames done
+        → FramesMade rom roots frames list
 
 -- the certificate is made for these roots and frames, and the map has its entries
 pub record IsMadeFor (rom : Rom) (roots : List (ℕ × Key)) (frames : List (List ℕ)) (made : MadeCert) : Type 0 where

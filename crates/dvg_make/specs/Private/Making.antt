@@ -122,7 +122,8 @@ IsInProgress rom done stack = (from : List Entry) × (root : ℕ × Key) × InPr
 
 -- whatever root's making is in progress with the old lists, it is so with the new ones
 abbrev pub StaysInProgress : Rom → List Entry → List PartialEntry → List Entry → List PartialEntry → Type 0
-StaysInProgress rom old stack new rest = (from : List Entry) (root : ℕ × Key) → InProgress rom from root old stack → InProgress rom from root new rest
+StaysInProgress rom old stack new rest =
+    (from : List Entry) (root : ℕ × Key) → InProgress rom from root old stack → InProgress rom from root new rest
 
 -- nothing is such an aim
 abbrev pub NoAim : Rom → List Entry → ℕ × Key → Type 0
@@ -146,7 +147,8 @@ obstacle_fault obstacle = entry_fault obstacle.cursor.at obstacle.cause
 
 -- the account of the obstacle is right: its chain, its word address and its cause
 abbrev pub TellsObstacle : Rom → List Entry → ℕ × Key → List PartialEntry → Obstacle → Type 0
-TellsObstacle rom list root chain obstacle = Tells rom list (asked_shape root) (shapes chain) obstacle.cursor.at obstacle.cursor.known obstacle.cause
+TellsObstacle rom list root chain obstacle =
+    Tells rom list (asked_shape root) (shapes chain) obstacle.cursor.at obstacle.cursor.known obstacle.cause
 
 -- the account is right for each root whose making may be in progress, by the entries that are made, all needed and not too many
 abbrev pub TellsAll : Rom → List Entry → List PartialEntry → List PartialEntry → Obstacle → Type 0
@@ -176,7 +178,8 @@ pub record IsBlocked (rom : Rom) (from : List Entry) (root : ℕ × Key) (blocke
 
 -- why a shape is not begun
 abbrev pub NotBegun : List Entry → List PartialEntry → ℕ → Key → EntryCause → Type 0
-NotBegun done stack addr key (cause.Ring from) = (partial : PartialEntry) × (slice_get stack from ≡ Some partial) × (partial.addr ≡ addr) × (partial.key ≡ key)
+NotBegun done stack addr key (cause.Ring from) =
+    (partial : PartialEntry) × (slice_get stack from ≡ Some partial) × (partial.addr ≡ addr) × (partial.key ≡ key)
 NotBegun done stack addr key cause.TooManyEntries = (MOST_ENTRIES ≤ length done + length stack) × (IsMaking stack addr key → ⊥)
 NotBegun done stack addr key cause.Memory = Unit {0}
 NotBegun done stack addr key other = ⊥
@@ -204,7 +207,8 @@ pub record Collected (rom : Rom) (asked : List (ℕ × Key)) (done : List Entry)
 
 -- the account of the obstacle is right, for these roots and frames and this call
 abbrev pub IsToldOf : Rom → List (ℕ × Key) → List (List ℕ) → Option FrameCall → List PartialEntry → Obstacle → Type 0
-IsToldOf rom roots frames call chain obstacle = IsTold rom roots frames call (shapes chain) obstacle.cursor.at obstacle.cursor.known obstacle.cause
+IsToldOf rom roots frames call chain obstacle =
+    IsTold rom roots frames call (shapes chain) obstacle.cursor.at obstacle.cursor.known obstacle.cause
 
 -- the refusal of the certificate, by the root or call whose entry can't be made
 abbrev pub blocked_fault : Blocked → FramesFault

@@ -40,7 +40,8 @@ start addr key = record { addr = addr; key = key; cursor = first_cursor Shape ad
 
 -- the whole entry, if this is known after the last item and this is the least box
 abbrev pub entry_of : ℕ → Key → Known → LitBox → Entry
-entry_of addr key known lit = record { addr = addr; key = key; stop = known.place; lit = lit; depth = known.depth; words = known.words; scale = known.scale }
+entry_of addr key known lit =
+    record { addr = addr; key = key; stop = known.place; lit = lit; depth = known.depth; words = known.words; scale = known.scale }
 
 -- the item is straight, and what it calls has an entry for exactly the scale there
 pub record IsFine (c : Context) (earlier : List Item) (i : Item) : Type 0 where

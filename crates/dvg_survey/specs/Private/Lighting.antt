@@ -26,6 +26,7 @@ relative_part (Rel x y) box = moved box (record { x = x; y = y })
 relative_part (Abs x y) box = Empty
 relative_part Lost box = Empty
 
+-- at absolute places
 abbrev pub absolute_part : End → LitBox → LitBox
 absolute_part (Rel x y) box = Empty
 absolute_part (Abs x y) box = moved box (record { x = x; y = y })

@@ -12,6 +12,7 @@ use Rattle.dvg_survey.specs.Private.KeyedWords.{KeyedWord, is_marked}
 use Rattle.dvg_survey.specs.Private.Visiting.{AreNewCalls}
 pub use Rattle.dvg_survey.specs.declared.reached.Link.{Link}
 
+-- the entries that the links call
 abbrev pub entries_of : List Link → List Entry
 entries_of links = map (λ l. l.call.entry) links
 
@@ -34,7 +35,8 @@ reach_all links from (call ∷ rest) = reach_all (reach links (record { call = c
 
 -- the links of the entries that a frame with these words calls
 abbrev pub IsReachedByFrame : Machine → List ℕ → List Entry → List Link → Type 0
-IsReachedByFrame machine words list links = (calls : List Call) × AreCalls (frame_context machine list) (frame_word machine words) 0 calls × (links ≡ reach_all [] None calls)
+IsReachedByFrame machine words list links =
+    (calls : List Call) × AreCalls (frame_context machine list) (frame_word machine words) 0 calls × (links ≡ reach_all [] None calls)
 
 -- the links, with those of the entries that the shape of an entry calls where no walk came by before; its own link stands at this
 -- index
@@ -47,6 +49,7 @@ abbrev pub IsStep : Rom → List ℕ → List Entry → List Link → Option ℕ
 IsStep rom words list links None call = IsFrameCall rom.machine words list call
 IsStep rom words list links (Some j) call = (f : Link) × (slice_get links j ≡ Some f) × IsShapeCall rom list f.call.entry call
 
+-- each link is a step from the one that it names
 abbrev pub AllSteps : Rom → List ℕ → List Entry → List Link → Type 0
 AllSteps rom words list links = (k : ℕ) (l : Link) → slice_get links k ≡ Some l → IsStep rom words list links l.from l.call
 

@@ -15,6 +15,7 @@ use Rattle.dvg_cert.specs.declared.entry.LitBox.{LitBox}
 use Rattle.dvg_cert.specs.declared.entry.LitBox.TheVariants.{Empty, Span}
 use Rattle.dvg_cert.specs.declared.entry.Entry.{Entry}
 
+-- what is read after what was read
 infixl 10 ◌>>=◌
 abbrev pub ◌>>=◌ : {A B : Type 0} → Option A → (A → Option B) → Option B
 o >>= f = option_and_then f o
@@ -26,15 +27,19 @@ Reads (Some x) rest read = read ≡ Some (x, rest)
 
 -- the number from low to high whose decimal spelling the bytes are
 unfoldable pub natural_in : ℕ → ℕ → List ℕ → Option ℕ
-natural_in low high bytes = let n = digits_value 10 bytes in if bytes_eq (decimal n) bytes && (nat_le low n && nat_le n high) then Some n else None
+natural_in low high bytes =
+    let n = digits_value 10 bytes in if bytes_eq (decimal n) bytes && (nat_le low n && nat_le n high) then Some n else None
 
 -- the value of a capital hexadecimal digit, or 16
 abbrev pub hex_value : ℕ → ℕ
-hex_value c = if nat_lt c 48 then 16 else (if nat_lt c 58 then c - 48 else (if nat_lt c 65 then 16 else (if nat_lt c 71 then c - 55 else 16)))
+hex_value c =
+    if nat_lt c 48 then 16 else (if nat_lt c 58 then c - 48 else (if nat_lt c 65 then 16 else (if nat_lt c 71 then c - 55 else 16)))
 
+-- three capital hexadecimal digits as an address within these
 unfoldable pub address_in : ℕ → ℕ → List ℕ → Option ℕ
 address_in first last (a ∷ b ∷ c ∷ []) = let n = hex_value a * 256 + hex_value b * 16 + hex_value c in
-    if (nat_lt (hex_value a) 16 && (nat_lt (hex_value b) 16 && nat_lt (hex_value c) 16)) && (nat_le first n && nat_le n last) then Some n else None
+    if (nat_lt (hex_value a) 16 && (nat_lt (hex_value b) 16 && nat_lt (hex_value c) 16)) && (nat_le first n && nat_le n last)
+    then Some n else None
 address_in first last bytes = None
 
 -- no digit comes first
@@ -67,13 +72,17 @@ unfoldable pub digit_at : ℕ → List ℕ → Option (ℕ × List ℕ)
 digit_at most [] = None
 digit_at most (c ∷ cs) = if nat_le 48 c && nat_le c (48 + most) then Some (c - 48, cs) else None
 
+-- an address at the start, and what follows it
 unfoldable pub address_at : ℕ → ℕ → List ℕ → Option (ℕ × List ℕ)
 address_at first last (a ∷ b ∷ c ∷ bytes) = option_map (λ n. (n, bytes)) (address_in first last (a ∷ b ∷ c ∷ []))
 address_at first last bytes = None
 
 -- a scale of one digit or two, or any
 unfoldable pub key_at : List ℕ → Option (Key × List ℕ)
-key_at bytes = option_map_or (λ d. if d.0 == 1 then option_map_or (λ u. Some (At (10 + u.0), u.1)) (digit_at 5 d.1) (Some (At 1, d.1)) else Some (At d.0, d.1)) (digit_at 9 bytes)
+key_at bytes =
+    option_map_or
+    (λ d. if d.0 == 1 then option_map_or (λ u. Some (At (10 + u.0), u.1)) (digit_at 5 d.1) (Some (At 1, d.1)) else Some (At d.0, d.1))
+    (digit_at 9 bytes)
     (option_map (λ rest. (Any, rest)) (past (codes "any") bytes))
 
 -- 0, or a number on either side of it
@@ -90,6 +99,7 @@ two_at bytes = do
   y ← number_at s
   Some ((x.0, y.0), y.1)
 
+-- an end at the start, and what follows it
 unfoldable pub end_at : List ℕ → Option (End × List ℕ)
 end_at bytes = option_map_or (λ rest. option_map (λ p. (Rel p.0.0 p.0.1, p.1)) (two_at rest)) (past (codes "rel ") bytes)
     (option_map_or (λ rest. option_map (λ p. (Abs p.0.0 p.0.1, p.1)) (two_at rest)) (past (codes "abs ") bytes)
@@ -103,6 +113,7 @@ span_at bytes = do
   y ← two_at s
   if int_le x.0.0 x.0.1 && int_le y.0.0 y.0.1 then Some (Span x.0.0 x.0.1 y.0.0 y.0.1, y.1) else None
 
+-- a box at the start, and what follows it
 unfoldable pub box_at : List ℕ → Option (LitBox × List ℕ)
 box_at bytes = option_map_or (λ rest. Some (Empty, rest)) (past (codes "none") bytes) (span_at bytes)
 
@@ -134,6 +145,7 @@ rom_at bytes = do
   last ← address_at 0 (ADDRESS_END - 1) s2
   Some ((first.0, last.0), last.1)
 
+-- the number of entries of a last line, and what follows it
 unfoldable pub done_at : List ℕ → Option (ℕ × List ℕ)
 done_at bytes = do
   s ← past (codes "done ") bytes

@@ -33,13 +33,15 @@ abbrev pub stream_of : Option CertFault → Taken → List ℕ → Stream
 stream_of None taken rest = Open (text_taken taken ++ rest)
 stream_of (Some f) taken rest = Refused f
 
+-- the lines taken and the line begun are those of a text that was not refused
 abbrev pub IsProgress : Option CertFault → Taken → List ℕ → Type 0
 IsProgress None taken rest = IsTaken taken × IsRest taken rest
 IsProgress (Some f) taken rest = Unit {0}
 
 -- why a whole line after these is refused, out of memory included
 abbrev pub IsLineRefused : Taken → List ℕ → CertWhy → Type 0
-IsLineRefused (Begun map es) line Memory = (e : Entry) × IsLine map.rom_first map.rom_last (EntryLine e) line × IsCertificate map (es ++ e ∷ [])
+IsLineRefused (Begun map es) line Memory =
+    (e : Entry) × IsLine map.rom_first map.rom_last (EntryLine e) line × IsCertificate map (es ++ e ∷ [])
 IsLineRefused taken line why = IsWrong taken line why
 
 -- what taking an entry gives
@@ -71,24 +73,30 @@ TakesLater map old line new (Err why) = IsCertificate map new × IsLineRefused (
 
 -- the bytes begin with whole lines of entries: what taking these entries gives; `bytes` reads the bytes that are left
 abbrev pub TakesFirst : {X : Type 0} → (X → List ℕ) → Taken → List ℕ → Taken → Result X CertWhy → Type 0
-TakesFirst bytes old rest new (Ok after) = IsTaken new × (text_taken old ++ rest ≡ text_taken new ++ bytes after) × (length (bytes after) ≤ length rest)
+TakesFirst bytes old rest new (Ok after) =
+    IsTaken new × (text_taken old ++ rest ≡ text_taken new ++ bytes after) × (length (bytes after) ≤ length rest)
 TakesFirst bytes old rest new (Err why) = (why ≡ Memory) × HasEntryAt (text_taken old ++ rest) (line_number new)
 
 -- the same for a piece after a begun line: nothing is taken unless that line is empty
 abbrev pub TakesEntries : {X : Type 0} → (X → List ℕ) → Taken → List ℕ → List ℕ → Taken → Result X CertFault → Type 0
-TakesEntries bytes old begun rest new (Ok after) = (text_taken old ++ (begun ++ rest) ≡ text_taken new ++ (begun ++ bytes after)) × IsTaken new × IsRest new begun × (length (bytes after) ≤ length rest)
+TakesEntries bytes old begun rest new (Ok after) =
+    (text_taken old ++ (begun ++ rest) ≡ text_taken new ++ (begun ++ bytes after)) × IsTaken new × IsRest new begun
+    × (length (bytes after) ≤ length rest)
 TakesEntries bytes old begun rest new (Err f) = IsRefusal (text_taken old ++ (begun ++ rest)) f.line f.why × (f.why ≢ Unended)
 
 -- the position at which the next line ends; a line has fewer than `room` bytes
 abbrev pub EndsLine : ℕ → List ℕ → Result (Option ℕ) CertWhy → Type 0
-EndsLine room rest (Ok (Some at)) = (rest ≡ take at rest ++ LINE_FEED ∷ drop (at + 1) rest) × Without LINE_FEED (take at rest) × (at < room) × (at < length rest)
+EndsLine room rest (Ok (Some at)) =
+    (rest ≡ take at rest ++ LINE_FEED ∷ drop (at + 1) rest) × Without LINE_FEED (take at rest) × (at < room) × (at < length rest)
 EndsLine room rest (Ok None) = Without LINE_FEED rest × (length rest < room)
 EndsLine room rest (Err why) = (why ≡ TooLong) × (room ≤ length rest) × Without LINE_FEED (take room rest)
 
 -- what taking the next line of a piece gives; `bytes` reads the bytes that are left
 abbrev pub TakesNext : {X : Type 0} → (X → List ℕ) → Taken → List ℕ → List ℕ → Taken → List ℕ → Result (Option X) CertFault → Type 0
 TakesNext bytes taken begun rest taken' begun' (Ok None) = Holds (text_taken taken ++ (begun ++ rest)) taken' begun'
-TakesNext bytes taken begun rest taken' begun' (Ok (Some after)) = (text_taken taken ++ (begun ++ rest) ≡ text_taken taken' ++ bytes after) × IsTaken taken' × (begun' ≡ []) × (length (bytes after) < length rest)
+TakesNext bytes taken begun rest taken' begun' (Ok (Some after)) =
+    (text_taken taken ++ (begun ++ rest) ≡ text_taken taken' ++ bytes after) × IsTaken taken' × (begun' ≡ [])
+    × (length (bytes after) < length rest)
 TakesNext bytes taken begun rest taken' begun' (Err f) = IsRefusal (text_taken taken ++ (begun ++ rest)) f.line f.why × (f.why ≢ Unended)
 
 -- what taking a piece gives

@@ -1,4 +1,4 @@
-use Rattle.std.proofs.Common.{◌≡◌, take}
+use Rattle.dvg_form.proofs.Common.{◌≡◌, take}
 use Rattle.dvg_form.proofs.leaving.common.Given as goal
 
 abbrev pub invariant-loop-at : goal.invariant-loop-at

@@ -1,5 +1,4 @@
-use Rattle.std.proofs.Common.{◌≡◌, take, refl}
-use Rattle.dvg_text.specs.Grammar.{done_line, ended}
+use Rattle.dvg_form.proofs.Common.{◌≡◌, take, refl, done_line, ended}
 use Rattle.dvg_form.proofs.Columns.{allowed_before}
 use Rattle.dvg_form.proofs.leaving.count_leaving.Goals as goal
 

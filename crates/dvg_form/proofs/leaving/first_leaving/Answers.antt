@@ -1,5 +1,4 @@
-use Rattle.std.proofs.Common.{refl, inl, inr}
-use Rattle.dvg_text.specs.Grammar.{first_version_line, second_version_line}
+use Rattle.dvg_form.proofs.Common.{refl, inl, inr, first_version_line, second_version_line}
 use Rattle.dvg_form.specs.Columns.{IsFirstLine}
 use Rattle.dvg_form.proofs.Columns.{allowed_before}
 use Rattle.dvg_form.proofs.leaving.first_leaving.Goals as goal

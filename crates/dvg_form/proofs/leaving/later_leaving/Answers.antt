@@ -1,8 +1,6 @@
-use Rattle.std.proofs.Common.{◌≡◌, ◌++◌, [], length, take, refl, arith, ◌∙◌, ap}
+use Rattle.dvg_form.proofs.Common.{◌≡◌, ◌++◌, [], length, take, refl, arith, ◌∙◌, ap, flat_map, heading, entry_line, done_line, ended, text_of}
 use Rattle.std.proofs.lemmas.Grind.{common_steps}
-use Rattle.std.specs.List.{flat_map}
 use Rattle.dvg_cert.specs.Entry.{IsEntry}
-use Rattle.dvg_text.specs.Grammar.{heading, entry_line, done_line, ended, text_of}
 use Rattle.dvg_text.specs.Reading.{EntryLine, DoneLine}
 use Rattle.dvg_form.specs.Columns.{IsLaterLine}
 use Rattle.dvg_form.proofs.Columns.{allowed_before, entry_text, heading_length, short_done}

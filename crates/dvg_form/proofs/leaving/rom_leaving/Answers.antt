@@ -1,5 +1,4 @@
-use Rattle.std.proofs.Common.{◌≡◌, ◌++◌, take, refl, arith, ◌∙◌, ap}
-use Rattle.dvg_text.specs.Grammar.{rom_line, second_version_line, done_line, ended, text_of}
+use Rattle.dvg_form.proofs.Common.{◌≡◌, ◌++◌, take, refl, arith, ◌∙◌, ap, rom_line, second_version_line, done_line, ended, text_of}
 use Rattle.dvg_form.specs.Columns.{IsRomLine}
 use Rattle.dvg_form.proofs.Columns.{allowed_before, rom_text, short_done}
 use Rattle.dvg_form.proofs.leaving.rom_leaving.Goals as goal

@@ -1,4 +1,4 @@
-use Rattle.std.proofs.Common.{◌≤◌}
+use Rattle.dvg_form.proofs.Common.{◌≤◌}
 use Rattle.dvg_form.proofs.number.nearest_address.Given as goal
 
 abbrev pub invariant-loop-digit : goal.invariant-loop-digit

@@ -1,4 +1,4 @@
-use Rattle.std.proofs.Common.{◌≤◌, length}
+use Rattle.dvg_form.proofs.Common.{◌≤◌, length}
 use Rattle.dvg_form.proofs.watch.TextWatch.pass_lines.Given as goal
 
 abbrev pub invariant-loop-self : goal.invariant-loop-self
