@@ -20,17 +20,26 @@ pub enum Key {
     Any,
 }
 
-/// By one byte, a scale's own number and 16 for `Any`: a write less than the case and the number.
+impl Key {
+    /// The one byte that is hashed: a scale's own number, and 16 for `Any`.
+    pub(crate) fn hashed(self) -> u8
+        ensures { result ≡ hashed_number self }
+    {
+        match self {
+            Key::At(scale) => scale,
+            Key::Any => 16,
+        }
+    }
+}
+
+/// By one byte: a write less than the case and the number.
 impl Hash for Key {
     ghost hash_input = { λ key. fed.u8 (hashed_number key) };
 
     ghost respects_eq = { Prim.search (comparing, hashing, rules) };
 
     fn hash<H: Hasher>(&self, state: &mut H) {
-        match self {
-            Key::At(scale) => state.write_u8(*scale),
-            Key::Any => state.write_u8(16),
-        }
+        state.write_u8(self.hashed());
     }
 }
 

@@ -1,9 +1,13 @@
 //! An index of a certificate that hashes addresses and keys.
 
-ghost use Rattle.std.specs.Prelude.{◌≡◌, ◌*◌, ◌≤◌, min, IfOk};
+ghost use Rattle.std.specs.Prelude.{◌≡◌, ◌+◌, ◌*◌, ◌≤◌, min, IfOk};
 ghost use Rattle.std.specs.Option.{option_copied};
 ghost use Rattle.dvg_cert.specs.Lookup.{entry_at};
 ghost use Rattle.dvg_cert.specs.Limits.{MOST_ENTRIES};
+ghost use Rattle.dvg_cert.specs.Private.Keyed.{hashed_number};
+ghost use Rattle.std.specs.Hash as fed;
+ghost use Rattle.std.specs.Cmp.Rules.{comparing, hashing};
+ghost use Rattle.std.proofs.Common.{rules};
 
 use crate::certificate::Cert;
 use crate::entry::{Entry, Key};
@@ -11,6 +15,7 @@ use crate::lookup::Entries;
 use dvg_words::MOST_ROM_WORDS;
 use indexmap::IndexSet;
 use std::alloc::{AllocError, Global};
+use std::hash::{Hash, Hasher};
 use std::marker::Model;
 
 /// The number of pairs of an address and a key: each word of the longest ROM, at sixteen scales and at `any`.
@@ -25,12 +30,30 @@ fn room_for(entries: usize) -> usize
     (16 * entries).min(ALL_KEYS)
 }
 
+/// What an entry is found by.
+#[derive(Clone, Copy, PartialEq, Eq)]
+struct AddressKey {
+    addr: u16,
+    key: Key,
+}
+
+/// By one number, a write less than the address and the key.
+impl Hash for AddressKey {
+    ghost hash_input = { λ own. fed.u32 (256 * own.addr + hashed_number own.key) };
+
+    ghost respects_eq = { Prim.search (comparing, hashing, rules) };
+
+    fn hash<H: Hasher>(&self, state: &mut H) {
+        state.write_u32(256 * u32::from(self.addr) + u32::from(self.key.hashed()));
+    }
+}
+
 /// An index that hashes the address and the key, so that a look-up takes about as long however many entries there are.
 #[derive(Drop)]
 pub struct HashIndex<'a> {
     cert: &'a Cert,
     /// The addresses and keys of the entries, in the certificate's order.
-    keys: IndexSet<(u16, Key)>,
+    keys: IndexSet<AddressKey>,
 }
 
 impl<'a> Model for HashIndex<'a> {
@@ -57,7 +80,10 @@ impl<'a> HashIndex<'a> {
         let entries = cert.entries();
         let mut keys = IndexSet::with_capacity(alloc, room_for(entries.len()))?;
         for entry in entries {
-            keys.insert((entry.addr, entry.key))?;
+            keys.insert(AddressKey {
+                addr: entry.addr,
+                key: entry.key,
+            })?;
         }
         Ok(HashIndex { cert, keys })
     }
@@ -67,7 +93,7 @@ impl<'a> HashIndex<'a> {
     fn entry_of(&self, addr: u16, key: Key) -> Option<&Entry>
         ensures { option_copied result ≡ entry_at self.now addr key }
     {
-        let index = self.keys.get_index_of(&(addr, key))?;
+        let index = self.keys.get_index_of(&AddressKey { addr, key })?;
         Some(&self.cert.entries()[index])
     }
 }

@@ -2,10 +2,11 @@
 use Rattle.std.specs.Prelude.{◌≡◌, ℕ, List, map}
 use Rattle.std.specs.List.{All}
 use Rattle.dvg_cert.specs.Entry.{Entry, Key, At, Any}
+use Rattle.dvg_cert.specs.declared.hash_index.AddressKey.{AddressKey}
 
 -- the address and key of each entry, in their order
-abbrev pub own_keys : List Entry → List (ℕ × Key)
-own_keys es = map (λ e. (e.addr, e.key)) es
+abbrev pub own_keys : List Entry → List AddressKey
+own_keys es = map (λ e. record { addr = e.addr; key = e.key }) es
 
 -- the entry stands at its own address and key
 abbrev pub IsOwn : (ℕ × Key) × Entry → Type 0
