@@ -62,8 +62,8 @@ pub record AreImagesOf (machine : Machine) (map : MemoryMap) (rom_bytes frame_by
   pub rom_is : IsRomLength map (length rom_bytes) → rom ≡ Some (rom_on machine map rom_bytes)
   pub frame_is : IsFrameLength (length frame_bytes) → frame ≡ Some (words_of frame_bytes)
 
--- the lines of what is accepted of inputs with these images: counts, calls, where the frame and the shapes light, what the board clips, what
--- is worth a second look (only tested), and the board's answer
+-- the lines of what is accepted of inputs with these images: counts, calls, where the frame and the shapes light, what the board
+-- clips, what is worth a second look (only tested), and the board's answer
 pub record AcceptedLines (inputs : Inputs) (rom : Option Rom) (frame : Option (List ℕ)) (yes : Yes) (lines : List Line) : Type 0 where
   pub survey : Survey
   pub surveyed : IfSome inputs.cert (λ cert. Surveyed inputs.machine cert.now rom frame survey)

@@ -41,7 +41,7 @@ most_depth list = fold (λ most e. max most e.depth) 0 list
 abbrev pub made_lines : Machine → List Entry → List Line
 made_lines machine list =
     machine_lines machine
-        ++ Made (made.Entries (length list)) ∷ Made (made.Words (most_words list)) ∷ Made (made.ReturnPlaces (most_depth list)) ∷ []
+    ++ Made (made.Entries (length list)) ∷ Made (made.Words (most_words list)) ∷ Made (made.ReturnPlaces (most_depth list)) ∷ []
 
 -- which shapes need one another
 abbrev pub ring_of : EntryCause → Option ℕ

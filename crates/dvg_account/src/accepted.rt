@@ -42,7 +42,8 @@ impl Survey {
         rom: Option<&RomImage>,
         frame: Option<&FrameImage>,
     ) -> Result<Survey, AllocError>
-        ensures { IfOk result (λ s. IfSome inputs.now.cert (λ cert. Surveyed inputs.now.machine cert.now (option_copied rom.entry) (option_copied frame.entry) s)) }
+        ensures { IfOk result (λ s. IfSome inputs.now.cert (λ cert. Surveyed inputs.now.machine cert.now (option_copied rom.entry)
+            (option_copied frame.entry) s)) }
     {
         match inputs.cert {
             Some(cert) => Survey::by(alloc, inputs.machine, cert, rom, frame),

@@ -20,7 +20,8 @@ fn lines_of(
     verdict: &Result<Yes, Refusal>,
     cause: Option<&RomFinding>,
 ) -> Result<Vec<Line>, AllocError>
-    ensures { IfOk result (λ lines. LinesOf inputs.now (option_copied rom.entry) (option_copied frame.entry) verdict.now (option_copied cause.entry) lines.items) }
+    ensures { IfOk result (λ lines. LinesOf inputs.now (option_copied rom.entry) (option_copied frame.entry) verdict.now
+        (option_copied cause.entry) lines.items) }
 {
     match verdict {
         Ok(yes) => accepted_lines(alloc, inputs, rom, frame, *yes),

@@ -33,7 +33,8 @@ pub fn refused_lines(
     refusal: &Refusal,
     cause: Option<&RomFinding>,
 ) -> Result<Vec<Line>, AllocError>
-    ensures { IfOk result (λ lines. RefusedLines inputs.now (option_copied rom.entry) (option_copied frame.entry) refusal.now (option_copied cause.entry) lines.items) }
+    ensures { IfOk result (λ lines. RefusedLines inputs.now (option_copied rom.entry) (option_copied frame.entry) refusal.now
+        (option_copied cause.entry) lines.items) }
 {
     match (cause, inputs.cert, rom, frame) {
         (Some(RomFinding::Shape(finding)), Some(cert), Some(rom), frame) => {
@@ -152,8 +153,10 @@ fn chain_line(
 
 /// The items of an entry's shape by which the place and the scale were lost that are not known before a word.
 fn losses_in_shape(rom: &RomImage, cert: &Cert, entry: &Entry, at: u16) -> Option<Losses>
-    ensures some { IfSome result (AreLosses (shape_context rom.now.machine cert.now.entries entry.now) (rom_word rom.now) entry.now.addr at) }
-    ensures none { IfNone result (HasEntry cert.now.entries entry.now.addr entry.now.key → NoneLead Shape (rom_word rom.now) entry.now.addr at) }
+    ensures some { IfSome result (AreLosses (shape_context rom.now.machine cert.now.entries entry.now)
+        (rom_word rom.now) entry.now.addr at) }
+    ensures none { IfNone result (HasEntry cert.now.entries entry.now.addr entry.now.key
+        → NoneLead Shape (rom_word rom.now) entry.now.addr at) }
 {
     let entries = ListIndex::new(cert);
     match entries.find(entry.addr, entry.key) {

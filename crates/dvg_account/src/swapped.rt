@@ -84,7 +84,8 @@ fn accepted_by(
     frame: &[u8],
 ) -> Result<Option<Yes>, AllocError>
     ensures range { IfOk result (λ counts. IfSome counts (λ _. InRange frame.now inputs.now.budget)) }
-    ensures yes { IfOk result (λ counts. IfSome counts (λ yes. RomVerdict inputs.now.machine inputs.now.mode inputs.now.window rom.now cert.now
+    ensures yes { IfOk result (λ counts. IfSome counts (λ yes. RomVerdict inputs.now.machine inputs.now.mode inputs.now.window
+        rom.now cert.now
         (words_of frame.now) inputs.now.budget (Ok yes))) }
 {
     let Inputs {

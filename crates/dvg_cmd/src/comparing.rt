@@ -87,13 +87,16 @@ pub fn run_comparison<R1: CountedRead, R2: CountedRead, W: CountedWrite>(
     ensures frames_unread { result ≡ Err (FramesRunFault.Plain maker.ReadRom) → frames.new ≡ frames.old }
 
     // What is written are the lines of what the change touches, by all bytes that the readers held, or a prefix of them, or nothing.
-    ensures text { IfOk result (λ touched. WritesComparison (ComparesFor machine (R1.remaining rom.old) (R1.remaining other.old) map roots.now
+    ensures text { IfOk result (λ touched. WritesComparison (ComparesFor machine (R1.remaining rom.old)
+        (R1.remaining other.old) map roots.now
         (of_each (λ frame. R2.remaining frame) frames.old)) (of_each (λ name. string_bytes name) names.now) touched
         (W.contents out.old) (W.contents out.new) (W.whole_writes out.old) (W.whole_writes out.new)) }
     ensures prefix { result ≡ Err (FramesRunFault.Plain maker.Write) → WritesComparisonPrefix (ComparesFor machine (R1.remaining rom.old)
-        (R1.remaining other.old) map roots.now (of_each (λ frame. R2.remaining frame) frames.old)) (of_each (λ name. string_bytes name) names.now)
+        (R1.remaining other.old) map roots.now (of_each (λ frame. R2.remaining frame) frames.old))
+        (of_each (λ name. string_bytes name) names.now)
         (W.contents out.old) (W.contents out.new) }
-    ensures nothing { IfErr result (λ fault. fault ≢ FramesRunFault.Plain maker.Write → Appends (W.contents out.old) (W.contents out.new) []) }
+    ensures nothing { IfErr result (λ fault. fault ≢ FramesRunFault.Plain maker.Write
+        → Appends (W.contents out.old) (W.contents out.new) []) }
 
     // 1 and 2 come for a wrong length alone, and 60 to 62 as the maker refuses over the first ROM.
     ensures refused { IfErr result (λ fault. frames_run_number fault ≢ 63 → ComparisonFaultMeans machine (R1.remaining rom.old)

@@ -41,7 +41,8 @@ impl HasLine for TouchedEntry {
 
 /// Writes the line of each of these, by one write.
 pub fn write_each<L: HasLine, W: CountedWrite>(things: &[L], out: &mut W) -> Result<(), WriteFault>
-    ensures sent { OnOk result (Sent (of_each L.text things.now) (W.contents out.old) (W.contents out.new) (W.whole_writes out.old) (W.whole_writes out.new)) }
+    ensures sent { OnOk result (Sent (of_each L.text things.now) (W.contents out.old) (W.contents out.new) (W.whole_writes out.old)
+        (W.whole_writes out.new)) }
     ensures prefix { OnErr result (AppendsPrefix (W.contents out.old) (W.contents out.new) (joined (of_each L.text things.now))) }
     ensures count { W.failures out.new ≡ count_after (is_err result) (W.failures out.old) }
 {

@@ -87,7 +87,8 @@ fn answer_on(
     ensures refused { (held : Option (List ℕ)) (readers : List (Option (List ℕ)))
         → AreRead held readers bytes.now.rom.items (of_each (λ bytes. bytes.items) bytes.now.frames.items)
         → IfErr result.made (FramesFaultMeans machine held map roots.now readers) }
-    ensures no_device { (blames_frames_rom result.made ≡ false) × (blames_a_frame result.made ≡ false) × (blames_frames_writer result.made ≡ false) }
+    ensures no_device { (blames_frames_rom result.made ≡ false) × (blames_a_frame result.made ≡ false)
+        × (blames_frames_writer result.made ≡ false) }
 {
     let images = match bytes.images(machine, alloc, map) {
         Ok(images) => images,
@@ -169,7 +170,8 @@ fn write_make_line_and<W: CountedWrite>(
     ensures ok { IfOk result (λ outcome. outcome ≡ make_outcome_of made.now) }
     ensures written { OnOk result (Appends (W.contents out.old) (W.contents out.new) (make_line name.now made.now ++ text.now)) }
     ensures prefix { OnErr result (AppendsPrefix (W.contents out.old) (W.contents out.new) (make_line name.now made.now ++ text.now)) }
-    ensures one_write { OnOk result (TakesOneWrite (make_line name.now made.now ++ text.now) (W.whole_writes out.old) (W.whole_writes out.new)) }
+    ensures one_write { OnOk result (TakesOneWrite (make_line name.now made.now ++ text.now) (W.whole_writes out.old)
+        (W.whole_writes out.new)) }
     ensures fault { IfErr result (λ fault. fault ≡ RunFault.Write) }
     ensures count { W.failures out.new ≡ count_after (is_err result) (W.failures out.old) }
 {
@@ -188,8 +190,10 @@ pub fn write_make_answer<W: CountedWrite>(
     answer: &MakeAnswer,
     out: &mut W,
 ) -> Result<Outcome, RunFault>
-    ensures ok { IfOk result (MakeExplained string_bytes name.now answer.now.made answer.now.account (W.contents out.old) (W.contents out.new) (W.whole_writes out.old) (W.whole_writes out.new)) }
-    ensures prefix { OnErr result (MakeExplainedPrefix string_bytes name.now answer.now.made answer.now.account (W.contents out.old) (W.contents out.new)) }
+    ensures ok { IfOk result (MakeExplained string_bytes name.now answer.now.made answer.now.account (W.contents out.old)
+        (W.contents out.new) (W.whole_writes out.old) (W.whole_writes out.new)) }
+    ensures prefix { OnErr result (MakeExplainedPrefix string_bytes name.now answer.now.made answer.now.account (W.contents out.old)
+        (W.contents out.new)) }
     ensures fault { IfErr result (λ fault. fault ≡ RunFault.Write) }
     ensures count { W.failures out.new ≡ count_after (is_err result) (W.failures out.old) }
 {

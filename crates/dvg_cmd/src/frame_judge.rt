@@ -43,13 +43,17 @@ pub trait FrameJudge {
         ensures verdict { (judging self.now).is_verdict frame.now result.0 }
         ensures behind { IsBehind detail.entry result.1 }
         ensures whole { IfOk result.0 (λ yes. IsFrameLength (length frame.now)) }
-        ensures safe { IfOk result.0 (λ yes. Safe (record { frame = words_of frame.now; rom = (judging self.now).rom }) (judging self.now).window yes.words yes.depth) }
+        ensures safe { IfOk result.0 (λ yes. Safe (record { frame = words_of frame.now; rom = (judging self.now).rom })
+            (judging self.now).window yes.words yes.depth) }
         ensures exact { (judging self.now).is_exact
-            → IfOk result.0 (λ yes. CountsAtHalt (record { frame = words_of frame.now; rom = (judging self.now).rom }) yes.words yes.depth) }
+            → IfOk result.0 (λ yes. CountsAtHalt (record { frame = words_of frame.now; rom = (judging self.now).rom }) yes.words
+            yes.depth) }
         ensures circuit { (judging self.now).rom.machine ≡ Board
-            → IfOk result.0 (λ yes. SafeOnCircuit (record { frame = words_of frame.now; rom = (judging self.now).rom }) (judging self.now).window yes.words yes.depth) }
+            → IfOk result.0 (λ yes. SafeOnCircuit (record { frame = words_of frame.now; rom = (judging self.now).rom })
+            (judging self.now).window yes.words yes.depth) }
         ensures circuit_exact { (judging self.now).rom.machine ≡ Board → (judging self.now).is_exact
-            → IfOk result.0 (λ yes. CountsOnCircuit (record { frame = words_of frame.now; rom = (judging self.now).rom }) yes.words yes.depth) };
+            → IfOk result.0 (λ yes. CountsOnCircuit (record { frame = words_of frame.now; rom = (judging self.now).rom }) yes.words
+            yes.depth) };
 }
 
 /// The judge of each frame by its own certificate, as [`judge`] judges.
@@ -170,7 +174,14 @@ impl<'a, E: Entries> GivenCertificate<'a, E> {
         mode: Mode,
         budget: u32,
     ) -> GivenCertificate<'a, E>
-        ensures { result ≡ record { machine = machine; rom = rom.entry; cert = cert.entry; shapes = shapes.entry; mode = mode; budget = budget } }
+        ensures { result ≡ record {
+          machine = machine;
+          rom = rom.entry;
+          cert = cert.entry;
+          shapes = shapes.entry;
+          mode = mode;
+          budget = budget;
+        } }
     {
         GivenCertificate {
             machine,

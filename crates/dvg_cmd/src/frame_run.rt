@@ -90,10 +90,12 @@ pub fn write_answer<W: CountedWrite>(
     out: &mut W,
 ) -> Result<FrameOutcome, RunFault>
     ensures outcome { IfOk result (λ outcome. outcome ≡ frame_outcome_behind behind.now (frame_outcome_of answer.now)) }
-    ensures written { OnOk result (Appends (W.contents out.old) (W.contents out.new) (frame_line name.now answer.now ++ behind_text behind.now)) }
+    ensures written { OnOk result (Appends (W.contents out.old) (W.contents out.new)
+        (frame_line name.now answer.now ++ behind_text behind.now)) }
     ensures one_write { OnOk result (TakesOneWrite (frame_line name.now answer.now ++ behind_text behind.now)
         (W.whole_writes out.old) (W.whole_writes out.new)) }
-    ensures prefix { OnErr result (AppendsPrefix (W.contents out.old) (W.contents out.new) (frame_line name.now answer.now ++ behind_text behind.now)) }
+    ensures prefix { OnErr result (AppendsPrefix (W.contents out.old) (W.contents out.new)
+        (frame_line name.now answer.now ++ behind_text behind.now)) }
     ensures unread { IfOk result (λ outcome. is_unread_outcome outcome ≡ is_unread answer.now) }
     ensures fault { IfErr result (λ fault. fault ≡ RunFault.Write) }
     ensures count { W.failures out.new ≡ count_after (is_err result) (W.failures out.old) }

@@ -57,9 +57,12 @@ pub fn read_frames<R: CountedRead>(
     alloc: Global,
     frames: &mut [R],
 ) -> Result<Vec<FrameBytes>, FramesRunFault>
-    ensures bytes { IfOk result (λ read. ArePrefixes (of_each (λ frame. R.remaining frame) frames.old) (of_each (λ bytes. bytes.items) read.items)) }
-    ensures read { OnOk result (EachRead (of_each (λ frame. R.remaining frame) frames.old) (of_each (λ frame. R.remaining frame) frames.new)) }
-    ensures counts { FailedAfter (blames_a_frame result) (of_each (λ frame. R.failures frame) frames.old) (of_each (λ frame. R.failures frame) frames.new) }
+    ensures bytes { IfOk result (λ read. ArePrefixes (of_each (λ frame. R.remaining frame) frames.old)
+        (of_each (λ bytes. bytes.items) read.items)) }
+    ensures read { OnOk result (EachRead (of_each (λ frame. R.remaining frame) frames.old)
+        (of_each (λ frame. R.remaining frame) frames.new)) }
+    ensures counts { FailedAfter (blames_a_frame result) (of_each (λ frame. R.failures frame) frames.old)
+        (of_each (λ frame. R.failures frame) frames.new) }
     ensures fault { IfErr result (λ fault. (fault ≡ FramesRunFault.ReadFrame) ⊎ (fault ≡ FramesRunFault.Plain (maker.Make making.Memory))) }
     ensures some { OnErr result (0 < length frames.old) }
 {
@@ -125,7 +128,8 @@ impl InputBytes {
         ensures frames_unread { result ≡ Err (FramesRunFault.Plain maker.ReadRom) → frames.new ≡ frames.old }
         ensures fault { IfErr result (λ fault. (fault ≡ FramesRunFault.Plain maker.ReadRom) ⊎ (fault ≡ FramesRunFault.ReadFrame)
             ⊎ (fault ≡ FramesRunFault.Plain (maker.Make making.Memory))) }
-        ensures refused { (machine : Machine) (map : MemoryMap) (roots : List (ℕ × Key)) → IfErr result (FramesFaultMeans machine (R1.remaining rom.old) map roots
+        ensures refused { (machine : Machine) (map : MemoryMap) (roots : List (ℕ × Key))
+            → IfErr result (FramesFaultMeans machine (R1.remaining rom.old) map roots
             (of_each (λ frame. R2.remaining frame) frames.old)) }
     {
         let rom = read_maker_rom(rom)?;

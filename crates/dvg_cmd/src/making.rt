@@ -35,7 +35,8 @@ pub fn run_make<R: CountedRead, W: CountedWrite>(
     ensures rom_read { result ≢ Err MakeRunFault.ReadRom → IsReadTo MOST_ROM_READ (R.remaining rom.old) (R.remaining rom.new) }
 
     // What is written is the text of the list that is made for all bytes that the reader held, or a prefix of it, or nothing.
-    ensures text { OnOk result (WritesMade (Makes Profile (R.remaining rom.old) map roots.now) map (W.contents out.old) (W.contents out.new)) }
+    ensures text { OnOk result (WritesMade (Makes Profile (R.remaining rom.old) map roots.now) map (W.contents out.old)
+        (W.contents out.new)) }
     ensures prefix { result ≡ Err MakeRunFault.Write → WritesMadePrefix (Makes Profile (R.remaining rom.old) map roots.now) map
         (W.contents out.old) (W.contents out.new) }
     ensures nothing { IfErr result (λ fault. fault ≢ MakeRunFault.Write → Appends (W.contents out.old) (W.contents out.new) []) }

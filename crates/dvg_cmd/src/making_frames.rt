@@ -46,18 +46,22 @@ pub fn run_make_frames<R1: CountedRead, R2: CountedRead, W: CountedWrite>(
     ensures frames_read { OnOk result (EachRead (of_each (λ frame. R2.remaining frame) frames.old)
         (of_each (λ frame. R2.remaining frame) frames.new)) }
     ensures frames_read_too { IfErr result (λ fault. fault ≢ FramesRunFault.Plain maker.ReadRom → fault ≢ FramesRunFault.ReadFrame
-        → frames_run_number fault ≢ 63 → EachRead (of_each (λ frame. R2.remaining frame) frames.old) (of_each (λ frame. R2.remaining frame) frames.new)) }
+        → frames_run_number fault ≢ 63 → EachRead (of_each (λ frame. R2.remaining frame) frames.old)
+        (of_each (λ frame. R2.remaining frame) frames.new)) }
     ensures frames_unread { result ≡ Err (FramesRunFault.Plain maker.ReadRom) → frames.new ≡ frames.old }
 
     // What is written is the text of the list that is made for all bytes that the readers held, or a prefix of it, or nothing.
     ensures text { OnOk result (WritesMade (MakesForFrames machine (R1.remaining rom.old) map roots.now
         (of_each (λ frame. R2.remaining frame) frames.old)) map (W.contents out.old) (W.contents out.new)) }
-    ensures prefix { result ≡ Err (FramesRunFault.Plain maker.Write) → WritesMadePrefix (MakesForFrames machine (R1.remaining rom.old) map roots.now
+    ensures prefix { result ≡ Err (FramesRunFault.Plain maker.Write) → WritesMadePrefix
+        (MakesForFrames machine (R1.remaining rom.old) map roots.now
         (of_each (λ frame. R2.remaining frame) frames.old)) map (W.contents out.old) (W.contents out.new) }
-    ensures nothing { IfErr result (λ fault. fault ≢ FramesRunFault.Plain maker.Write → Appends (W.contents out.old) (W.contents out.new) []) }
+    ensures nothing { IfErr result (λ fault. fault ≢ FramesRunFault.Plain maker.Write
+        → Appends (W.contents out.old) (W.contents out.new) []) }
 
     // 1 and 2 come for a wrong length alone, and 60 to 62 as the maker refuses.
-    ensures refused { IfErr result (FramesFaultMeans machine (R1.remaining rom.old) map roots.now (of_each (λ frame. R2.remaining frame) frames.old)) }
+    ensures refused { IfErr result (FramesFaultMeans machine (R1.remaining rom.old) map roots.now
+        (of_each (λ frame. R2.remaining frame) frames.old)) }
 {
     let bytes = InputBytes::read(alloc, rom, frames)?;
     let images = bytes.images(machine, alloc, map)?;

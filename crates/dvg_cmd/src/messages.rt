@@ -37,8 +37,10 @@ pub fn write_make_fault<W: CountedWrite>(
     fault: &FramesRunFault,
     out: &mut W,
 ) -> Result<(), RunFault>
-    ensures written { OnOk result (Appends (W.contents out.old) (W.contents out.new) (name.now ++ (frames_message fault.now ++ codes "\n"))) }
-    ensures prefix { OnErr result (AppendsPrefix (W.contents out.old) (W.contents out.new) (name.now ++ (frames_message fault.now ++ codes "\n"))) }
+    ensures written { OnOk result (Appends (W.contents out.old) (W.contents out.new)
+        (name.now ++ (frames_message fault.now ++ codes "\n"))) }
+    ensures prefix { OnErr result (AppendsPrefix (W.contents out.old) (W.contents out.new)
+        (name.now ++ (frames_message fault.now ++ codes "\n"))) }
     ensures one_write { OnOk result (TakesOneWrite (name.now ++ (frames_message fault.now ++ codes "\n"))
         (W.whole_writes out.old) (W.whole_writes out.new)) }
     ensures fault { IfErr result (λ fault. fault ≡ RunFault.Write) }

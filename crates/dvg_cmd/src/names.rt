@@ -42,7 +42,8 @@ fn keep(name: &mut NameBytes, byte: u8)
 /// The next name that a list holds, or `None` at its end. It is read through the byte behind it, which the last name may lack; of a
 /// name over 4096 bytes 4097 are kept. A name may be empty.
 pub fn read_name<R: CountedRead>(list: &mut R, end: NameEnd) -> io::Result<Option<NameBytes>>
-    ensures name { IfOk result (λ name. ReadsNext (end_byte end) (R.remaining list.old) (R.remaining list.new) (option_map (λ kept. kept.items) name)) }
+    ensures name { IfOk result (λ name. ReadsNext (end_byte end) (R.remaining list.old) (R.remaining list.new)
+        (option_map (λ kept. kept.items) name)) }
     ensures count { OnOk result (R.failures list.new ≡ R.failures list.old) }
 {
     let mut name = NameBytes::new();

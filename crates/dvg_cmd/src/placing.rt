@@ -48,15 +48,19 @@ pub fn run_places<R1: CountedRead, R2: CountedRead, W: CountedWrite>(
     ensures frames_read { OnOk result (EachRead (of_each (λ frame. R2.remaining frame) frames.old)
         (of_each (λ frame. R2.remaining frame) frames.new)) }
     ensures frames_read_too { IfErr result (λ fault. fault ≢ FramesRunFault.Plain maker.ReadRom → fault ≢ FramesRunFault.ReadFrame
-        → frames_run_number fault ≢ 63 → EachRead (of_each (λ frame. R2.remaining frame) frames.old) (of_each (λ frame. R2.remaining frame) frames.new)) }
+        → frames_run_number fault ≢ 63 → EachRead (of_each (λ frame. R2.remaining frame) frames.old)
+        (of_each (λ frame. R2.remaining frame) frames.new)) }
     ensures frames_unread { result ≡ Err (FramesRunFault.Plain maker.ReadRom) → frames.new ≡ frames.old }
 
     // What is written are the lines of the entries that are made for all bytes that the readers held, or a prefix of them, or nothing.
     ensures text { OnOk result (WritesPlaces (PlacesFor machine window (R1.remaining rom.old) map roots.now
-        (of_each (λ frame. R2.remaining frame) frames.old)) (W.contents out.old) (W.contents out.new) (W.whole_writes out.old) (W.whole_writes out.new)) }
-    ensures prefix { result ≡ Err (FramesRunFault.Plain maker.Write) → WritesPlacesPrefix (PlacesFor machine window (R1.remaining rom.old) map roots.now
+        (of_each (λ frame. R2.remaining frame) frames.old)) (W.contents out.old) (W.contents out.new) (W.whole_writes out.old)
+        (W.whole_writes out.new)) }
+    ensures prefix { result ≡ Err (FramesRunFault.Plain maker.Write) → WritesPlacesPrefix
+        (PlacesFor machine window (R1.remaining rom.old) map roots.now
         (of_each (λ frame. R2.remaining frame) frames.old)) (W.contents out.old) (W.contents out.new) }
-    ensures nothing { IfErr result (λ fault. fault ≢ FramesRunFault.Plain maker.Write → Appends (W.contents out.old) (W.contents out.new) []) }
+    ensures nothing { IfErr result (λ fault. fault ≢ FramesRunFault.Plain maker.Write
+        → Appends (W.contents out.old) (W.contents out.new) []) }
 
     // 1 and 2 come for a wrong length alone, and 60 to 62 as the maker refuses.
     ensures refused { IfErr result (λ fault. frames_run_number fault ≢ 63

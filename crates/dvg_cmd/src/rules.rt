@@ -21,7 +21,8 @@ pub fn run_rules<W: CountedWrite>(
 ) -> Result<(), RunFault>
     ensures written { OnOk result (Appends (W.contents out.old) (W.contents out.new) (rows_text rules.now)) }
     ensures prefix { OnErr result (AppendsPrefix (W.contents out.old) (W.contents out.new) (rows_text rules.now)) }
-    ensures one_write { 0 < length (rows_text rules.now) → OnOk result (TakesOneWrite (rows_text rules.now) (W.whole_writes out.old) (W.whole_writes out.new)) }
+    ensures one_write { 0 < length (rows_text rules.now) → OnOk result
+        (TakesOneWrite (rows_text rules.now) (W.whole_writes out.old) (W.whole_writes out.new)) }
     ensures memory { result ≡ Err RunFault.Memory → out.new ≡ out.old }
     ensures fault { IfErr result (λ fault. (fault ≡ RunFault.Write) ⊎ (fault ≡ RunFault.Memory)) }
     ensures count { W.failures out.new ≡ count_after (blames_writer result) (W.failures out.old) }
@@ -38,7 +39,8 @@ pub fn run_rules<W: CountedWrite>(
 pub fn run_rule<W: CountedWrite>(alloc: Global, rule: &Rule, out: &mut W) -> Result<(), RunFault>
     ensures written { OnOk result (Appends (W.contents out.old) (W.contents out.new) (rule_text rule.now)) }
     ensures prefix { OnErr result (AppendsPrefix (W.contents out.old) (W.contents out.new) (rule_text rule.now)) }
-    ensures one_write { 0 < length (rule_text rule.now) → OnOk result (TakesOneWrite (rule_text rule.now) (W.whole_writes out.old) (W.whole_writes out.new)) }
+    ensures one_write { 0 < length (rule_text rule.now) → OnOk result (TakesOneWrite (rule_text rule.now) (W.whole_writes out.old)
+        (W.whole_writes out.new)) }
     ensures memory { result ≡ Err RunFault.Memory → out.new ≡ out.old }
     ensures fault { IfErr result (λ fault. (fault ≡ RunFault.Write) ⊎ (fault ≡ RunFault.Memory)) }
     ensures count { W.failures out.new ≡ count_after (blames_writer result) (W.failures out.old) }

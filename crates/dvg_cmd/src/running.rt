@@ -107,7 +107,8 @@ pub fn read_verdict<R: CountedRead>(
 ) -> io::Result<Judgment>
     ensures verdict { (rom_held frame_held : Option (List ℕ)) → IsPrefix MOST_ROM_READ rom_held rom.now
         → IsPrefix MOST_FRAME_READ frame_held frame.now
-        → IfOk result (λ judged. Judges options.now.machine options.now.mode options.now.window rom_held (R.remaining cert.old) frame_held options.now.budget judged.verdict) }
+        → IfOk result (λ judged. Judges options.now.machine options.now.mode options.now.window rom_held
+        (R.remaining cert.old) frame_held options.now.budget judged.verdict) }
     ensures read { IfOk result (λ judged. IsReadFor judged.verdict (R.remaining cert.old) (R.remaining cert.new)) }
     ensures count { R.failures cert.new ≡ count_after (is_err result) (R.failures cert.old) }
 {
@@ -206,8 +207,10 @@ pub fn write_report<W: CountedWrite>(
     ensures written { OnOk result (Appends (W.contents out.old) (W.contents out.new) (report_text verdict.now ++ behind_text behind.now)) }
     ensures one_write { OnOk result (TakesOneWrite (report_text verdict.now ++ behind_text behind.now)
         (W.whole_writes out.old) (W.whole_writes out.new)) }
-    ensures prefix { OnErr result (AppendsPrefix (W.contents out.old) (W.contents out.new) (report_text verdict.now ++ behind_text behind.now)) }
-    ensures line_write { IsBehind details.Line behind.now → OnOk result (W.whole_writes out.new ≡ count_after true (W.whole_writes out.old)) }
+    ensures prefix { OnErr result (AppendsPrefix (W.contents out.old) (W.contents out.new)
+        (report_text verdict.now ++ behind_text behind.now)) }
+    ensures line_write { IsBehind details.Line behind.now → OnOk result
+        (W.whole_writes out.new ≡ count_after true (W.whole_writes out.old)) }
     ensures fault { IfErr result (λ fault. fault ≡ RunFault.Write) }
     ensures count { W.failures out.new ≡ count_after (is_err result) (W.failures out.old) }
 {
@@ -233,17 +236,21 @@ pub fn run_check_in<R1: CountedRead, R2: CountedRead, R3: CountedRead, W: Counte
     out: &mut W,
 ) -> Result<Outcome, RunFault>
     // A fault of 70 to 73 comes exactly where its device failed in this call, and the device's count then rises by one.
-    ensures counts { CountsFaults result (R1.failures rom.old) (R1.failures rom.new) (R2.failures cert.old) (R2.failures cert.new) (R3.failures frame.old) (R3.failures frame.new) (W.failures out.old) (W.failures out.new) }
+    ensures counts { CountsFaults result (R1.failures rom.old) (R1.failures rom.new) (R2.failures cert.old) (R2.failures cert.new)
+        (R3.failures frame.old) (R3.failures frame.new) (W.failures out.old) (W.failures out.new) }
 
     // With an outcome the ROM and the frame were read to their end or to one byte past their limit, whatever was known by
     // then. After a failed read no later device is touched, and by the counts none is called again.
-    ensures reads { ReadsInOrder result (R1.remaining rom.old) (R1.remaining rom.new) (R3.remaining frame.old) (R3.remaining frame.new) frame.old frame.new cert.old cert.new out.old out.new }
+    ensures reads { ReadsInOrder result (R1.remaining rom.old) (R1.remaining rom.new)
+        (R3.remaining frame.old) (R3.remaining frame.new) frame.old frame.new cert.old cert.new out.old out.new }
 
     // What is written is the report of the verdict on all bytes that the readers held, with its account, or a prefix of them.
-    ensures report { IfOk result (Reports options.now.machine detail.entry options.now.mode options.now.window (R1.remaining rom.old) (R2.remaining cert.old)
+    ensures report { IfOk result (Reports options.now.machine detail.entry options.now.mode options.now.window
+        (R1.remaining rom.old) (R2.remaining cert.old)
         (R2.remaining cert.new) (R3.remaining frame.old) options.now.budget (W.contents out.old) (W.contents out.new)
         (W.whole_writes out.old) (W.whole_writes out.new)) }
-    ensures prefix { result ≡ Err RunFault.Write → ReportsPrefix options.now.machine detail.entry options.now.mode options.now.window (R1.remaining rom.old)
+    ensures prefix { result ≡ Err RunFault.Write → ReportsPrefix options.now.machine detail.entry options.now.mode
+        options.now.window (R1.remaining rom.old)
         (R2.remaining cert.old) (R3.remaining frame.old) options.now.budget (W.contents out.old) (W.contents out.new) }
     ensures one_write { detail.entry ≡ details.Line → OnOk result (W.whole_writes out.new ≡ count_after true (W.whole_writes out.old)) }
 
@@ -251,9 +258,11 @@ pub fn run_check_in<R1: CountedRead, R2: CountedRead, R3: CountedRead, W: Counte
     // each run; on the board also on its circuit.
     ensures safe { result ≡ Ok Outcome.Accepted → ReportsAccepted detail.entry (W.contents out.old) (W.contents out.new)
         (SafeRead options.now.machine options.now.window (R1.remaining rom.old) (R2.remaining cert.old) (R3.remaining frame.old)) }
-    ensures exact { options.now.mode ≡ Exact → result ≡ Ok Outcome.Accepted → ReportsAccepted detail.entry (W.contents out.old) (W.contents out.new)
+    ensures exact { options.now.mode ≡ Exact → result ≡ Ok Outcome.Accepted
+        → ReportsAccepted detail.entry (W.contents out.old) (W.contents out.new)
         (CountsRead options.now.machine (R1.remaining rom.old) (R2.remaining cert.old) (R3.remaining frame.old)) }
-    ensures circuit { options.now.machine ≡ Board → result ≡ Ok Outcome.Accepted → ReportsAccepted detail.entry (W.contents out.old) (W.contents out.new)
+    ensures circuit { options.now.machine ≡ Board → result ≡ Ok Outcome.Accepted
+        → ReportsAccepted detail.entry (W.contents out.old) (W.contents out.new)
         (SafeCircuitRead options.now.machine options.now.window (R1.remaining rom.old) (R2.remaining cert.old) (R3.remaining frame.old)) }
     ensures circuit_exact { options.now.machine ≡ Board → options.now.mode ≡ Exact → result ≡ Ok Outcome.Accepted
         → ReportsAccepted detail.entry (W.contents out.old) (W.contents out.new)
@@ -307,17 +316,21 @@ pub fn run_check<R1: CountedRead, R2: CountedRead, R3: CountedRead, W: CountedWr
     out: &mut W,
 ) -> Result<Outcome, RunFault>
     // A fault of 70 to 73 comes exactly where its device failed in this call, and the device's count then rises by one.
-    ensures counts { CountsFaults result (R1.failures rom.old) (R1.failures rom.new) (R2.failures cert.old) (R2.failures cert.new) (R3.failures frame.old) (R3.failures frame.new) (W.failures out.old) (W.failures out.new) }
+    ensures counts { CountsFaults result (R1.failures rom.old) (R1.failures rom.new) (R2.failures cert.old) (R2.failures cert.new)
+        (R3.failures frame.old) (R3.failures frame.new) (W.failures out.old) (W.failures out.new) }
 
     // With an outcome the ROM and the frame were read to their end or to one byte past their limit, whatever was known by
     // then. After a failed read no later device is touched, and by the counts none is called again.
-    ensures reads { ReadsInOrder result (R1.remaining rom.old) (R1.remaining rom.new) (R3.remaining frame.old) (R3.remaining frame.new) frame.old frame.new cert.old cert.new out.old out.new }
+    ensures reads { ReadsInOrder result (R1.remaining rom.old) (R1.remaining rom.new) (R3.remaining frame.old)
+        (R3.remaining frame.new) frame.old frame.new cert.old cert.new out.old out.new }
 
     // What is written is the report of the verdict on all bytes that the readers held, or a prefix of it. The certificate was
     // read as far as the ROM, or so far that its own refusal was known.
-    ensures report { IfOk result (Reports Profile details.Line mode window (R1.remaining rom.old) (R2.remaining cert.old) (R2.remaining cert.new)
+    ensures report { IfOk result (Reports Profile details.Line mode window (R1.remaining rom.old) (R2.remaining cert.old)
+        (R2.remaining cert.new)
         (R3.remaining frame.old) budget (W.contents out.old) (W.contents out.new) (W.whole_writes out.old) (W.whole_writes out.new)) }
-    ensures prefix { result ≡ Err RunFault.Write → ReportsPrefix Profile details.Line mode window (R1.remaining rom.old) (R2.remaining cert.old)
+    ensures prefix { result ≡ Err RunFault.Write → ReportsPrefix Profile details.Line mode window (R1.remaining rom.old)
+        (R2.remaining cert.old)
         (R3.remaining frame.old) budget (W.contents out.old) (W.contents out.new) }
 
     // Just one write took its whole piece: it is the only one, if the writer takes the line whole.

@@ -83,7 +83,8 @@ fn write_listed<W: CountedWrite>(
     ensures outcome { IfOk result (λ end. line_outcome (record { name = name.now; answer = answer.now; behind = behind.now }) ≡ end) }
     ensures written { OnOk result (Appends (W.contents out.old) (W.contents out.new)
         (joined (line_texts listing.entry.lines (record { name = name.now; answer = answer.now; behind = behind.now } ∷ [])))) }
-    ensures one_write { OnOk result (TakeOneWriteEach (line_texts listing.entry.lines (record { name = name.now; answer = answer.now; behind = behind.now } ∷ []))
+    ensures one_write { OnOk result (TakeOneWriteEach (line_texts listing.entry.lines
+        (record { name = name.now; answer = answer.now; behind = behind.now } ∷ []))
         (W.whole_writes out.old) (W.whole_writes out.new)) }
     ensures prefix { OnErr result (AppendsPrefix (W.contents out.old) (W.contents out.new)
         (joined (line_texts listing.entry.lines (record { name = name.now; answer = answer.now; behind = behind.now } ∷ [])))) }
@@ -110,7 +111,8 @@ fn run_named<J: FrameJudge, R: CountedRead + Drop, W: CountedWrite>(
 ) -> Result<FrameOutcome, RunFault>
     requires { J.valid judge.now listing.detail }
     ensures ok { IfOk result (WritesLineOf (J.judging judge.now) listing.entry start
-        (opened (λ reader. R.remaining reader) frame) (W.contents out.old) (W.contents out.new) tally.old tally.new (W.whole_writes out.old) (W.whole_writes out.new)) }
+        (opened (λ reader. R.remaining reader) frame) (W.contents out.old) (W.contents out.new) tally.old tally.new
+        (W.whole_writes out.old) (W.whole_writes out.new)) }
     ensures prefix { OnErr result (WritesLineOfPrefix (J.judging judge.now) listing.entry start
         (opened (λ reader. R.remaining reader) frame) (W.contents out.old) (W.contents out.new)) }
     ensures fault { IfErr result (λ fault. fault ≡ RunFault.Write) }
@@ -161,7 +163,8 @@ pub fn run_frames<
 
     // A line is written for each frame that the listing has, in their order, and then the summary, each by one write if it fits one.
     ensures report { IfOk result (λ end. HoldsOfAll I.next_gives (λ reader. R.remaining reader) frames (λ opened.
-        ReportsFrames (J.judging judge.now) listing.entry start opened (W.contents out.old) (W.contents out.new) (W.whole_writes out.old) (W.whole_writes out.new) end)) }
+        ReportsFrames (J.judging judge.now) listing.entry start opened (W.contents out.old) (W.contents out.new)
+        (W.whole_writes out.old) (W.whole_writes out.new) end)) }
 
     // Where the writer failed, a prefix of what is written of the frames that were taken.
     ensures prefix { OnErr result (HoldsOfTaken I.next_gives (λ reader. R.remaining reader) frames (λ opened.
@@ -186,7 +189,8 @@ fn run_refusal<W: CountedWrite>(
     out: &mut W,
 ) -> Result<FrameOutcome, RunFault>
     requires { IsBehind detail behind.now }
-    ensures ok { IfOk result (λ end. (plain : Plain) × WritesReport detail.entry (Err refusal.now) (W.contents out.old) (W.contents out.new) (W.whole_writes out.old) (W.whole_writes out.new) plain × (end ≡ plain_outcome plain)) }
+    ensures ok { IfOk result (λ end. (plain : Plain) × WritesReport detail.entry (Err refusal.now) (W.contents out.old)
+        (W.contents out.new) (W.whole_writes out.old) (W.whole_writes out.new) plain × (end ≡ plain_outcome plain)) }
     ensures prefix { OnErr result (WritesReportPrefix detail.entry (Err refusal.now) (W.contents out.old) (W.contents out.new)) }
     ensures fault { IfErr result (λ fault. fault ≡ RunFault.Write) }
     ensures count { W.failures out.new ≡ count_after (is_err result) (W.failures out.old) }
@@ -205,7 +209,8 @@ struct Given<'a> {
 impl<'a> Given<'a> {
     /// What the detail asks for behind the line of a refusal of the ROM or of a shape, of which this is the cause.
     fn refusal_account(&self, alloc: Global, cause: &RomFinding, detail: Detail) -> Behind
-        requires { RefusesShapes self.now.options.now.machine self.now.options.now.window self.now.rom.now self.now.cert.now (refusal_of cause.now) }
+        requires { RefusesShapes self.now.options.now.machine self.now.options.now.window self.now.rom.now self.now.cert.now
+            (refusal_of cause.now) }
         ensures { IsBehind detail.entry result }
     {
         let Detail::Account(labels) = detail else {
@@ -233,10 +238,13 @@ impl<'a> Given<'a> {
         detail: Detail,
         out: &mut W,
     ) -> Result<FrameOutcome, RunFault>
-        requires { RefusesShapes self.now.options.now.machine self.now.options.now.window self.now.rom.now self.now.cert.now (refusal_of cause.now) }
-        ensures report { IfOk result (ReportsRefusal self.now.options.now.machine detail.entry self.now.options.now.window self.now.rom.now (Ok self.now.cert.now)
+        requires { RefusesShapes self.now.options.now.machine self.now.options.now.window self.now.rom.now self.now.cert.now
+            (refusal_of cause.now) }
+        ensures report { IfOk result (ReportsRefusal self.now.options.now.machine detail.entry self.now.options.now.window
+            self.now.rom.now (Ok self.now.cert.now)
             (W.contents out.old) (W.contents out.new) (W.whole_writes out.old) (W.whole_writes out.new)) }
-        ensures prefix { OnErr result (ReportsRefusalPrefix self.now.options.now.machine detail.entry self.now.options.now.window self.now.rom.now (Ok self.now.cert.now)
+        ensures prefix { OnErr result (ReportsRefusalPrefix self.now.options.now.machine detail.entry self.now.options.now.window
+            self.now.rom.now (Ok self.now.cert.now)
             (W.contents out.old) (W.contents out.new)) }
         ensures fault { IfErr result (λ fault. fault ≡ RunFault.Write) }
         ensures count { W.failures out.new ≡ count_after (is_err result) (W.failures out.old) }
@@ -268,16 +276,24 @@ pub fn run_frames_given<
     requires ends { IsFinite (I.remaining frames) }
 
     // The report of a refusal is written, or a line for each frame, in their order, each by one write if it fits one.
-    ensures report { IfOk result (λ end. ReportsRefusal options.now.machine listing.entry.detail options.now.window rom.now cert.now (W.contents out.old) (W.contents out.new) (W.whole_writes out.old) (W.whole_writes out.new) end
-        ⊎ IfOk cert.now (λ given. IsRomLength given.map (length rom.now) × HoldsOfAll I.next_gives (λ reader. R.remaining reader) frames (λ opened.
-        ReportsFrames (judged_given options.now.machine options.now.window rom.now given options.now.budget) listing.entry options.now.start opened (W.contents out.old) (W.contents out.new) (W.whole_writes out.old) (W.whole_writes out.new) end))) }
+    ensures report { IfOk result (λ end. ReportsRefusal options.now.machine listing.entry.detail options.now.window rom.now cert.now
+        (W.contents out.old) (W.contents out.new) (W.whole_writes out.old) (W.whole_writes out.new) end
+        ⊎ IfOk cert.now (λ given. IsRomLength given.map (length rom.now)
+        × HoldsOfAll I.next_gives (λ reader. R.remaining reader) frames (λ opened.
+        ReportsFrames (judged_given options.now.machine options.now.window rom.now given options.now.budget) listing.entry
+        options.now.start opened (W.contents out.old) (W.contents out.new) (W.whole_writes out.old) (W.whole_writes out.new) end))) }
     // Without a certificate it is the refusal.
-    ensures refused { IfOk result (λ end. IfErr cert.now (λ fault. ReportsRefusal options.now.machine listing.entry.detail options.now.window rom.now cert.now (W.contents out.old) (W.contents out.new) (W.whole_writes out.old) (W.whole_writes out.new) end)) }
+    ensures refused { IfOk result (λ end. IfErr cert.now (λ fault. ReportsRefusal options.now.machine listing.entry.detail
+        options.now.window rom.now cert.now (W.contents out.old) (W.contents out.new) (W.whole_writes out.old)
+        (W.whole_writes out.new) end)) }
 
     // Where the writer failed, a prefix of them.
-    ensures prefix { OnErr result (ReportsRefusalPrefix options.now.machine listing.entry.detail options.now.window rom.now cert.now (W.contents out.old) (W.contents out.new)
-        ⊎ IfOk cert.now (λ given. IsRomLength given.map (length rom.now) × HoldsOfTaken I.next_gives (λ reader. R.remaining reader) frames (λ opened.
-        ReportsFramesPrefix (judged_given options.now.machine options.now.window rom.now given options.now.budget) listing.entry options.now.start opened (W.contents out.old) (W.contents out.new)))) }
+    ensures prefix { OnErr result (ReportsRefusalPrefix options.now.machine listing.entry.detail options.now.window rom.now cert.now
+        (W.contents out.old) (W.contents out.new)
+        ⊎ IfOk cert.now (λ given. IsRomLength given.map (length rom.now)
+        × HoldsOfTaken I.next_gives (λ reader. R.remaining reader) frames (λ opened.
+        ReportsFramesPrefix (judged_given options.now.machine options.now.window rom.now given options.now.budget) listing.entry
+        options.now.start opened (W.contents out.old) (W.contents out.new)))) }
     ensures fault { IfErr result (λ fault. fault ≡ RunFault.Write) }
     ensures count { W.failures out.new ≡ count_after (is_err result) (W.failures out.old) }
 {

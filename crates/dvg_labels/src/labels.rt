@@ -91,8 +91,10 @@ fn has_name(label: &Label, name: &[u8]) -> bool
 
 /// Where a label with a name stands, of these up to a further one.
 fn found_with(found: Option<u16>, label: &Label, name: &[u8]) -> Result<Option<u16>, Unnamed>
-    ensures ok { IfOk result (λ now. (labels : List Named) → IsFound labels name.now found → IsFound (labels ++ named_of label.now ∷ []) name.now now) }
-    ensures err { IfErr result (λ e. (e ≡ Unnamed.Several) × ((labels : List Named) → IsFound labels name.now found → StandsAtTwo (labels ++ named_of label.now ∷ []) name.now)) }
+    ensures ok { IfOk result (λ now. (labels : List Named) → IsFound labels name.now found
+        → IsFound (labels ++ named_of label.now ∷ []) name.now now) }
+    ensures err { IfErr result (λ e. (e ≡ Unnamed.Several) × ((labels : List Named) → IsFound labels name.now found
+        → StandsAtTwo (labels ++ named_of label.now ∷ []) name.now)) }
 {
     if !has_name(label, name) {
         return Ok(found);
@@ -122,7 +124,8 @@ fn push_label(
     name: &[u8],
     addr: u16,
 ) -> Result<(), AllocError>
-    ensures ok { OnOk result (map named_of labels.new.items ≡ map named_of labels.old.items ++ record { name = name.now; addr = addr } ∷ []) }
+    ensures ok { OnOk result (map named_of labels.new.items ≡ map named_of labels.old.items
+        ++ record { name = name.now; addr = addr } ∷ []) }
     ensures err { OnErr result (labels.new.items ≡ labels.old.items) }
 {
     let name = Vec::from_slice(alloc, name)?;

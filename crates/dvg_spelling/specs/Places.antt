@@ -12,7 +12,7 @@ places_text Anywhere = codes "anywhere"
 places_text Nowhere = codes "nowhere"
 places_text (Within r) =
     signed_decimal r.x_min ++ codes "," ++ signed_decimal r.x_max ++ codes "," ++ signed_decimal r.y_min ++ codes ","
-        ++ signed_decimal r.y_max
+    ++ signed_decimal r.y_max
 
 -- the whole line
 abbrev pub place_line : EntryPlaces → List ℕ
