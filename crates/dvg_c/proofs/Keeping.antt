@@ -1,5 +1,5 @@
 -- What is kept stands for what was judged.
-use Rattle.dvg_c.proofs.Common.{◌≡◌, ℕ, ◌-◌, List, length, take, arith, Machine, MemoryMap, rom_on, IsRomLength, Entry, Mode, window_of, mode_of, machine_of, kept_list, kept_shapes, KeptEntry}
+use Rattle.dvg_c.proofs.Common.{◌≡◌, ℕ, List, length, take, arith, Machine, MemoryMap, rom_on, IsRomLength, Entry, Mode, window_of, mode_of, machine_of, kept_list, kept_shapes, KeptEntry}
 use Rattle.dvg_c.specs.declared.window.WindowEnds.{WindowEnds}
 
 -- the ROM, the entries and the mode that are kept are those that were judged

@@ -1,22 +1,22 @@
 -- What is known of kept shapes is known in one way: any two proofs of it are equal.
-use Rattle.dvg_c.proofs.Common.{◌≡◌, ℕ, inl, inr, List, [], ◌∷◌, Option, Some, None, ap, subst, pos, arith, rules, ◌≤ℤ◌, AllByRecursion, AllByRecursion-prop, Window, IsWindow, IsWindowOrZone, IsFor, clipped, Machine, Rom, rom_word, cell_at, InWindow, PlaceKnown, ScaleKnown, LitInWindow, LitInBox, InBox, relative_corners, HasCallee, seen_at, shape_context, Shapes, Mode, AtLast, AsClaimed, ShapeKeeps, CellKeeps, Good, IsKept, IsKey, IsEnd, IsBox, IsEntry, KeyBefore, Before, IsRising, Entry, Key}
+use Rattle.dvg_c.proofs.Common.{◌≡◌, ℕ, inl, inr, List, [], ◌∷◌, Option, Some, None, ap, subst, pos, arith, ◌≤ℤ◌, AllByRecursion, AllByRecursion-prop, Window, IsWindow, IsWindowOrZone, IsFor, clipped, Machine, Rom, rom_word, cell_at, InWindow, PlaceKnown, ScaleKnown, LitInWindow, LitInBox, InBox, relative_corners, HasCallee, seen_at, shape_context, Shapes, Mode, AtLast, AsClaimed, ShapeKeeps, CellKeeps, Good, IsKept, IsKey, IsEnd, IsBox, IsEntry, KeyBefore, Before, IsRising, Entry, Key}
 use Rattle.std.specs.Coded.{×_prop, Π_prop, →_prop, le_prop}
 use Rattle.std.proofs.Math.Nat.{ℕ_set}
 use Rattle.std.proofs.Props.{props}
 use Rattle.dvg_words.specs.declared.machine.Machine.TheVariants.{Profile, Board}
 use Rattle.dvg_words.specs.declared.instruction.Cell.{Cell}
-use Rattle.dvg_words.specs.declared.instruction.Cell.TheVariants.{Missing, Odd, Holds}
+use Rattle.dvg_words.specs.declared.instruction.Cell.TheVariants.{Holds}
 use Rattle.dvg_items.specs.declared.item.Item.{Item}
 use Rattle.dvg_items.specs.declared.seen.Seen.{Seen}
 use Rattle.dvg_items.specs.Lit.{absolute_corners}
 use Rattle.dvg_items.specs.declared.lit.LitExtent.{LitExtent}
-use Rattle.dvg_items.specs.declared.lit.LitExtent.TheVariants.{Nothing, Between, Anywhere}
+use Rattle.dvg_items.specs.declared.lit.LitExtent.TheVariants.{Nothing}
 use Rattle.dvg_check.specs.declared.fault.Mode.TheVariants.{Bound, Exact}
 use Rattle.dvg_check.specs.declared.fault.ShapeWhy.{ShapeWhy}
 use Rattle.dvg_check.specs.declared.fault.ShapeWhy.TheVariants as shape
 use Rattle.dvg_cert.specs.declared.entry.Key.TheVariants.{At, Any}
 use Rattle.dvg_cert.specs.declared.entry.End.{End}
-use Rattle.dvg_cert.specs.declared.entry.End.TheVariants.{Rel, Abs, Lost}
+use Rattle.dvg_cert.specs.declared.entry.End.TheVariants.{Rel}
 use Rattle.dvg_cert.specs.declared.entry.LitBox.{LitBox}
 use Rattle.dvg_cert.specs.declared.entry.LitBox.TheVariants.{Empty, Span}
 
@@ -26,8 +26,7 @@ IsKey-prop Any = hlevel props
 
 IsEnd-prop : (e : End) → IsProp (IsEnd e)
 IsEnd-prop (Rel x y) = hlevel props
-IsEnd-prop (Abs x y) = hlevel props
-IsEnd-prop Lost = hlevel props
+IsEnd-prop e = hlevel props
 
 IsBox-prop : (b : LitBox) → IsProp (IsBox b)
 IsBox-prop Empty = hlevel props
@@ -40,8 +39,7 @@ IsEntry-prop first last e = hlevel (props, IsKey-prop, IsEnd-prop, IsBox-prop)
 
 KeyBefore-prop : (a b : Key) → IsProp (KeyBefore a b)
 KeyBefore-prop (At m) (At n) = hlevel props
-KeyBefore-prop (At m) Any = hlevel props
-KeyBefore-prop Any b = hlevel props
+KeyBefore-prop a b = hlevel props
 
 -- an entry stands before another by its address or by its key, never by both
 Before-prop : (e f : Entry) → IsProp (Before e f)
@@ -63,13 +61,11 @@ InBox-prop (Span x_min x_max y_min y_max) p = hlevel props
 
 PlaceKnown-prop : (lit : LitExtent) (place : End) → IsProp (PlaceKnown lit place)
 PlaceKnown-prop Nothing place = hlevel props
-PlaceKnown-prop (Between a b) place = hlevel props
-PlaceKnown-prop Anywhere place = hlevel props
+PlaceKnown-prop lit place = hlevel props
 
 ScaleKnown-prop : (lit : LitExtent) → IsProp (ScaleKnown lit)
 ScaleKnown-prop Nothing = hlevel props
-ScaleKnown-prop (Between a b) = hlevel props
-ScaleKnown-prop Anywhere = hlevel props
+ScaleKnown-prop lit = hlevel props
 
 LitInWindow-prop : (w : Window) (lit : LitExtent) (place : End) → IsProp (LitInWindow w lit place)
 LitInWindow-prop w lit place = AllByRecursion-prop (InWindow w) (λ p. hlevel props) (absolute_corners lit place)
@@ -78,9 +74,8 @@ LitInBox-prop : (b : LitBox) (lit : LitExtent) (place : End) → IsProp (LitInBo
 LitInBox-prop b lit place = AllByRecursion-prop (InBox b) (InBox-prop b) (relative_corners lit place)
 
 HasCallee-prop : (to : Option ℕ) (named : Option Entry) → IsProp (HasCallee to named)
-HasCallee-prop None named = hlevel props
-HasCallee-prop (Some to) None = hlevel props
 HasCallee-prop (Some to) (Some e) = hlevel props
+HasCallee-prop to named = hlevel props
 
 AtLast-prop : (next : Option ℕ) (P : Type 0) → IsProp P → IsProp (AtLast next P)
 AtLast-prop None P h = h
@@ -97,26 +92,21 @@ Key-set : (a b : Key) → IsProp (a ≡ b)
 Key-set a b = hlevel props
 
 ShapeKeeps-prop : (mode : Mode) (w : Window) (e : Entry) (v : Seen) (why : ShapeWhy) → IsProp (ShapeKeeps mode w e v why)
-ShapeKeeps-prop mode w e v shape.Unmapped = hlevel props
-ShapeKeeps-prop mode w e v shape.Odd = hlevel props
-ShapeKeeps-prop mode w e v shape.HaltInShape = hlevel props
 ShapeKeeps-prop mode w e v shape.BeamUnknown = PlaceKnown-prop _ _
 ShapeKeeps-prop mode w e v shape.ScaleUnknown = ScaleKnown-prop _
 ShapeKeeps-prop mode w e v shape.OffScreen = LitInWindow-prop w _ _
 ShapeKeeps-prop mode w e v shape.NoEntry = HasCallee-prop _ _
-ShapeKeeps-prop mode w e v shape.TooDeep = le_prop
-ShapeKeeps-prop mode w e v shape.TooManyWords = le_prop
 ShapeKeeps-prop mode w e v shape.EndDiffers = AtLast-prop _ _ (End-set _ _)
 ShapeKeeps-prop mode w e v shape.ScaleDiffers = AtLast-prop _ _ (Key-set _ _)
 ShapeKeeps-prop mode w e v shape.BoxTooSmall = LitInBox-prop e.lit _ _
 ShapeKeeps-prop mode w e v shape.WordsDiffer = AtLast-prop _ _ (AsClaimed-prop mode _ _)
 ShapeKeeps-prop mode w e v shape.DepthDiffers = AtLast-prop _ _ (AsClaimed-prop mode _ _)
+ShapeKeeps-prop mode w e v why = hlevel props
 
 CellKeeps-prop : (mode : Mode) (w : Window) (e : Entry) (see : Item → Seen) (at : ℕ) (cell : Cell) (why : ShapeWhy)
     → IsProp (CellKeeps shape.Unmapped shape.Odd (λ i. ShapeKeeps mode w e (see i)) at cell why)
-CellKeeps-prop mode w e see at Missing why = hlevel props
-CellKeeps-prop mode w e see at Odd why = hlevel props
 CellKeeps-prop mode w e see at (Holds format i) why = ShapeKeeps-prop mode w e _ why
+CellKeeps-prop mode w e see at cell why = hlevel props
 
 Good-prop : (mode : Mode) (w : Window) (rom : Rom) (list : List Entry) → IsProp (Good mode w rom list)
 Good-prop mode w rom list =

@@ -1,5 +1,5 @@
 -- A list of entries from its entries one by one.
-use Rattle.dvg_cert.proofs.Common.{◌≡◌, ℕ, zero, suc, ◌+◌, ◌<◌, ◌≤◌, List, [], ◌∷◌, ◌++◌, length, get_or, take, drop, refl, ap, subst, arith, add-one, IsTrue, false, AllByRecursion, length-take-le, MemoryMap, MOST_ENTRIES, Entry, IsEntry, IsCertificate, IsRising, StandsAfter, rules, common_steps}
+use Rattle.dvg_cert.proofs.Common.{◌≡◌, ℕ, zero, suc, ◌+◌, ◌<◌, ◌≤◌, List, [], ◌∷◌, ◌++◌, length, get_or, take, drop, refl, ap, arith, add-one, AllByRecursion, length-take-le, MemoryMap, MOST_ENTRIES, Entry, IsEntry, IsCertificate, IsRising, StandsAfter, rules, common_steps}
 use Rattle.dvg_cert.proofs.Rising.{certificate_push}
 
 -- a list within a list
@@ -17,12 +17,6 @@ pub cut_at : (es : List Entry) (i : ℕ) (d : Entry) → i < length es → (es �
 cut_at [] i d lt = absurd (omega arith)
 cut_at (x ∷ es) zero d lt = (refl, refl)
 cut_at (x ∷ es) (suc i) d lt = let r = cut_at es i d (omega arith) in (ap (λ (t : List Entry). x ∷ t) r.0, ap (λ (t : List Entry). x ∷ t) r.1)
-
-pub not_entry : (map : MemoryMap) (es : List Entry) (i : ℕ) (d : Entry) → i < length es → (IsEntry map.rom_first map.rom_last (get_or es i d) → IsTrue false) → IsCertificate map es → IsTrue false
-not_entry map es i d lt h k = h (each_mid (IsEntry map.rom_first map.rom_last) (take i es) (get_or es i d) (drop (suc i) es) (subst (λ (xs : List Entry). AllByRecursion (IsEntry map.rom_first map.rom_last) xs) (cut_at es i d lt).0 k.each))
-
-pub not_rising : (map : MemoryMap) (es : List Entry) (i : ℕ) (d : Entry) → i < length es → (StandsAfter (take i es) (get_or es i d) → IsTrue false) → IsCertificate map es → IsTrue false
-not_rising map es i d lt h k = h (rising_mid (take i es) (get_or es i d) (drop (suc i) es) (subst (λ (xs : List Entry). IsRising xs) (cut_at es i d lt).0 k.rising))
 
 pub one_further : (map : MemoryMap) (es : List Entry) (i : ℕ) (d : Entry) → i < length es → length es ≤ MOST_ENTRIES → IsCertificate map (take i es) → IsEntry map.rom_first map.rom_last (get_or es i d) → StandsAfter (take i es) (get_or es i d) → IsCertificate map (take (i + 1) es)
 one_further map es i d lt few h fits s = grind (arith, rules, common_steps, (certificate_push map (take i es) (get_or es i d) h fits s (omega (arith, length-take-le i es (omega arith)))), (length-take-le i es (omega arith)), add-one, (cut_at es i d lt), certificate_push, length-take-le, cut_at)

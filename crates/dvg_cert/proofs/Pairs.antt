@@ -8,10 +8,7 @@ keyed_tail p ps h = λ k d lt. h (suc k) d (omega (arith, lt))
 
 pub lookup_is : (t : (ℕ × Key) → Bool) (addr : ℕ) (key : Key) → ((e : Entry) → t (e.addr, e.key) ≡ is_at addr key e) → (ps : List ((ℕ × Key) × Entry)) → IsKeyed ps → lookup t ps ≡ entry_at (values_of ps) addr key
 lookup_is t addr key h [] k = refl
-lookup_is t addr key h (p ∷ ps) k = rw (swapped p.0 p.1 (k 0 p (omega arith)), lookup_is t addr key h ps (keyed_tail p ps k)) refl
-  where
-    swapped : (q : ℕ × Key) (e : Entry) → q ≡ (e.addr, e.key) → t q ≡ is_at addr key e
-    swapped q e same = ap t same ∙ h e
+lookup_is t addr key h (p ∷ ps) k = rw (ap t (k 0 p (omega arith)) ∙ h p.1, lookup_is t addr key h ps (keyed_tail p ps k)) refl
 
 -- the tests of keys, and of addresses and keys, are those of the definitions
 pub key_test : (a b : Key) → ghosts.eq a b ≡ same_key a b

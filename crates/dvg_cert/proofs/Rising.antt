@@ -1,18 +1,12 @@
 -- Lists of entries that rise, and one more at the end.
-use Rattle.dvg_cert.proofs.Common.{◌≡◌, ℕ, zero, suc, ◌-◌, ◌<◌, List, [], ◌∷◌, ◌++◌, length, Some, refl, sym, ap, subst, ◌∙◌, arith, slice_get, AllByRecursion, length_push, MemoryMap, IsMap, MOST_ENTRIES, ADDRESS_END, Entry, IsEntry, Before, StandsAfter, IsRising, IsCertificate}
-
-last_at : (es : List Entry) (k : ℕ) (f e : Entry) → length es ≡ suc k → slice_get es k ≡ Some f → ((Before f e → StandsAfter es e) × (StandsAfter es e → Before f e))
-last_at [] k f e n h = absurd (omega arith)
-last_at (x ∷ []) zero f e n h = let same : x ≡ f = cc in (λ lt. subst (λ (y : Entry). Before y e) (sym same) lt, λ lt. subst (λ (y : Entry). Before y e) same lt)
-last_at (x ∷ []) (suc k) f e n h = absurd (omega arith)
-last_at (x ∷ y ∷ es) zero f e n h = absurd (omega arith)
-last_at (x ∷ y ∷ es) (suc k) f e n h = last_at (y ∷ es) k f e (omega arith) h
+use Rattle.dvg_cert.proofs.Common.{◌≡◌, ℕ, suc, ◌-◌, ◌<◌, List, [], ◌∷◌, ◌++◌, length, Some, ap, ◌∙◌, arith, slice_get, AllByRecursion, length_push, MemoryMap, IsMap, MOST_ENTRIES, ADDRESS_END, Entry, IsEntry, Before, StandsAfter, IsRising, IsCertificate}
 
 pub stands : (es : List Entry) (f e : Entry) → slice_get es (length es - 1) ≡ Some f → ((Before f e → StandsAfter es e) × (StandsAfter es e → Before f e))
 stands [] f e h = absurd cc
-stands (x ∷ es) f e h =
-    let k : length (x ∷ es) - 1 ≡ length es = omega arith in
-    last_at (x ∷ es) (length es) f e refl (ap (slice_get (x ∷ es)) (sym k) ∙ h)
+stands (x ∷ []) f e h = grind (arith)
+stands (x ∷ y ∷ es) f e h =
+    let k : suc (length (y ∷ es) - 1) ≡ length (x ∷ y ∷ es) - 1 = omega arith in
+    stands (y ∷ es) f e (ap (slice_get (x ∷ y ∷ es)) k ∙ h)
 
 rising_push : (es : List Entry) (e : Entry) → IsRising es → StandsAfter es e → IsRising (es ++ e ∷ [])
 rising_push [] e h s = tt

@@ -1,27 +1,19 @@
 -- What is accepted is safe.
-use Rattle.dvg_check.proofs.Common.{List, subst, ◌≡◌, ℕ, Rom, Window, Board, Entry, Good, GoodFrame, Safe, Mode, Exact, Err, Ok, Result, IfOk, IsFrame, IsRom, IsWindowOrZone, IsSomeCertificate, CountsAtHalt, SafeOnCircuit, CountsOnCircuit, Shapes, IsJudged, listed_claim}
+use Rattle.dvg_check.proofs.Common.{List, subst, ◌≡◌, ℕ, Board, Good, GoodFrame, Safe, Exact, Err, Ok, Result, IfOk, IsFrame, IsRom, IsWindowOrZone, CountsAtHalt, SafeOnCircuit, CountsOnCircuit, Shapes, IsJudged, listed_claim}
 use Rattle.dvg_check.proofs.Circuit.{safe_on_circuit, counts_on_circuit}
 use Rattle.dvg_check.specs.declared.frames.Accepted.{Accepted}
 use Rattle.dvg_check.proofs.FrameLaws.{good_is_safe, exact_is_exact}
 
--- the shapes and the frame of a certificate's list are safe
-safe_of_good : (mode : Mode) (w : Window) (frame : List ℕ) (rom : Rom) (list : List Entry) (budget words depth : ℕ) → IsSomeCertificate list → IsFrame frame → IsRom rom → Good mode w rom list → GoodFrame w rom.machine frame list budget words depth → Safe (record { frame = frame; rom = rom }) w words depth
-safe_of_good mode w frame rom list budget words depth some is_frame is_rom good good_frame =
-    good_is_safe mode (record { frame = frame; rom = rom }) w list budget words depth (record { frame = is_frame; rom = is_rom }) (λ e listed. (listed_claim list e some listed).depth) good good_frame
-
--- and their counts are exact where they are claimed so
-exact_of_good : (w : Window) (frame : List ℕ) (rom : Rom) (list : List Entry) (budget words depth : ℕ) → IsSomeCertificate list → IsFrame frame → IsRom rom → Good Exact w rom list → GoodFrame w rom.machine frame list budget words depth → CountsAtHalt (record { frame = frame; rom = rom }) words depth
-exact_of_good w frame rom list budget words depth some is_frame is_rom good good_frame =
-    exact_is_exact (record { frame = frame; rom = rom }) w list budget words depth (record { frame = is_frame; rom = is_rom }) (λ e listed. (listed_claim list e some listed).depth) good good_frame
-
 -- an accepted frame over judged shapes is safe
 pub safe_over : {F : Type 0} (shapes : Shapes) (frame : List ℕ) (budget : ℕ) (answer : Result Accepted F) → IsJudged shapes → IsFrame frame → IfOk answer (λ yes. GoodFrame shapes.window shapes.rom.machine frame shapes.list budget yes.words yes.depth) → IfOk answer (λ yes. Safe (record { frame = frame; rom = shapes.rom }) shapes.window yes.words yes.depth)
-safe_over shapes frame budget (Ok a) h is_frame good = safe_of_good shapes.mode shapes.window frame shapes.rom shapes.list budget a.words a.depth h.list is_frame h.rom h.good good
+safe_over shapes frame budget (Ok a) h is_frame good =
+    good_is_safe shapes.mode (record { frame = frame; rom = shapes.rom }) shapes.window shapes.list budget a.words a.depth (record { frame = is_frame; rom = h.rom }) (λ e listed. (listed_claim shapes.list e h.list listed).depth) h.good good
 safe_over shapes frame budget (Err f) h is_frame good = tt
 
 -- and its counts are exact over shapes that were judged so
 pub exact_over : {F : Type 0} (shapes : Shapes) (frame : List ℕ) (budget : ℕ) (answer : Result Accepted F) → IsJudged shapes → IsFrame frame → IfOk answer (λ yes. GoodFrame shapes.window shapes.rom.machine frame shapes.list budget yes.words yes.depth) → shapes.mode ≡ Exact → IfOk answer (λ yes. CountsAtHalt (record { frame = frame; rom = shapes.rom }) yes.words yes.depth)
-exact_over shapes frame budget (Ok a) h is_frame good exact = exact_of_good shapes.window frame shapes.rom shapes.list budget a.words a.depth h.list is_frame h.rom (subst (λ mode. Good mode shapes.window shapes.rom shapes.list) exact h.good) good
+exact_over shapes frame budget (Ok a) h is_frame good exact =
+    exact_is_exact (record { frame = frame; rom = shapes.rom }) shapes.window shapes.list budget a.words a.depth (record { frame = is_frame; rom = h.rom }) (λ e listed. (listed_claim shapes.list e h.list listed).depth) (subst (λ mode. Good mode shapes.window shapes.rom shapes.list) exact h.good) good
 exact_over shapes frame budget (Err f) h is_frame good exact = tt
 
 -- what is safe on the board is safe on its circuit

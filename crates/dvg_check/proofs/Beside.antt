@@ -1,5 +1,5 @@
 -- Two runs beside each other: what their steps keep of their places and strokes, while all else of their states is the same.
-use Rattle.dvg_check.proofs.Common.{List, zero, subst, sym, suc, refl, Bool, true, false, nat_lt, length, ◌≡◌, ◌≤◌, ◌∷◌, ◌++◌, ℕ, [], Machine, Cell, Missing, Odd, Holds, Format, Instr, Labs, Halt, Jsrl, Rtsl, Jmpl, Profile, Point, DrawFields, shift, displacement, labs_place, cell_at, Stroke, State, Status, Running, Halted, Fault, Reached, lit_by, after_call, after_return, after_instruction, after_cell, after_fetch, next_status, Memory, word_at, state_of, Course, course_past, course_at, course_after, course_along, on, OnlyRounds, arith, Draws, effective_scale, LabsOnScreen, Both}
+use Rattle.dvg_check.proofs.Common.{List, zero, subst, sym, suc, refl, nat_lt, ◌≡◌, ◌≤◌, ◌++◌, ℕ, Machine, Cell, Odd, Holds, Labs, Profile, Point, DrawFields, shift, displacement, labs_place, cell_at, Stroke, State, Status, Running, Reached, lit_by, after_cell, after_fetch, next_status, Memory, word_at, state_of, Course, course_past, course_at, course_after, course_along, on, OnlyRounds, arith, Draws, effective_scale, Both}
 use Rattle.dvg_check.proofs.Alike.{LowCell, same_cell, low_cell}
 
 -- ---- statuses
@@ -44,28 +44,10 @@ not_odd scale cell rounds e = subst (OnlyRounds scale) e rounds
 
 module _ (a b : Machine) (R : Relation) (kept : IsKept a b R) where
   module _ (s : State) (q : Point) (drawn : List Stroke) (c : Course) (related : R c s.place s.strokes q drawn) where
-    beside_call : (room : Bool) (to : ℕ) → Both (Beside R c) (after_call room to s) (after_call room to (moved s q drawn))
-    beside_call true to = record { same = refl; related = related }
-    beside_call false to = record { same = refl; related = related }
-
-    beside_return : (stack : List ℕ) → Both (Beside R c) (after_return stack s) (after_return stack (moved s q drawn))
-    beside_return [] = record { same = refl; related = related }
-    beside_return (back ∷ rest) = record { same = refl; related = related }
-
-    beside_instruction :
-        (i : Instr) (format : Format) → OnlyRounds s.scale (Holds format i) → LabsOnScreen i
-        → Both (Beside R (course_past a i s.scale c)) (after_instruction a i format s) (after_instruction b i format (moved s q drawn))
-    beside_instruction (Draws d) format rounds low = record { same = refl; related = kept.draws c d s.scale s.place q s.strokes drawn rounds related }
-    beside_instruction (Labs x y gscale) format rounds low = record { same = refl; related = kept.sets c x y gscale s.scale s.place q s.strokes drawn low related }
-    beside_instruction Halt format rounds low = record { same = refl; related = related }
-    beside_instruction (Jsrl to) format rounds low = beside_call (nat_lt (length s.return_stack) 4) to
-    beside_instruction Rtsl format rounds low = beside_return s.return_stack
-    beside_instruction (Jmpl to) format rounds low = record { same = refl; related = related }
-
     beside_cell : (cell : Cell) → OnlyRounds s.scale cell → LowCell cell → Both (Beside R (course_at a cell s.scale c)) (after_cell a cell s) (after_cell b cell (moved s q drawn))
-    beside_cell Missing rounds low = record { same = refl; related = related }
-    beside_cell Odd rounds low = absurd rounds
-    beside_cell (Holds format i) rounds low = beside_instruction i format rounds low
+    beside_cell (Holds format (Draws d)) rounds low = record { same = refl; related = kept.draws c d s.scale s.place q s.strokes drawn rounds related }
+    beside_cell (Holds format (Labs x y gscale)) rounds low = record { same = refl; related = kept.sets c x y gscale s.scale s.place q s.strokes drawn low related }
+    beside_cell cell rounds low = grind (arith, nat_lt)
 
   pub beside_next :
       (m : Memory) (c : Course) (s t : State) → OnlyRounds s.scale (cell_at (word_at (on Profile m)) s.pc) → Beside R c s t
@@ -95,10 +77,8 @@ module _ (A B : Memory) (Ok : Course → Status → Type 0) (Q : Course → Stat
       run_on steps next run.0 to (next_status B t) run.2 (subst (Ok next) run.1 (ok_on c s ok))
       (subst (λ x. Both (Q next) x (next_status B t)) run.1 (kept c s t ok q)) in
       (rest.0, (next_status B t, refl, rest.1), rest.2)
-  run_on (suc steps) c (Running s) to (Halted t) run ok q = absurd q
-  run_on (suc steps) c (Running s) to (Fault t) run ok q = absurd q
-  run_on (suc steps) c (Halted s) to other run ok q = absurd run.1
-  run_on (suc steps) c (Fault s) to other run ok q = absurd run.1
+  run_on (suc steps) c (Running s) to other run ok q = absurd q
+  run_on (suc steps) c from to other run ok q = absurd run.1
 
   pub run_back : (steps : ℕ) (c : Course) (from other end : Status) → Reached B steps other end → Ok c from → Both (Q c) from other → (to : Status) × (run : Reached A steps from to) × Both (Q (course_along A steps from to run c)) to end
   run_back zero c from other end run ok q = (from, refl, subst (λ x. Both (Q c) from x) run q)
@@ -106,10 +86,8 @@ module _ (A B : Memory) (Ok : Course → Status → Type 0) (Q : Course → Stat
       let next = course_after A (Running s) c in
       let rest = run_back steps next (next_status A s) run.0 end run.2 (ok_on c s ok) (subst (λ x. Both (Q next) (next_status A s) x) run.1 (kept c s t ok q)) in
       (rest.0, (next_status A s, refl, rest.1), rest.2)
-  run_back (suc steps) c (Running s) (Halted t) end run ok q = absurd q
-  run_back (suc steps) c (Running s) (Fault t) end run ok q = absurd q
-  run_back (suc steps) c (Halted s) other end run ok q = grind (arith)
-  run_back (suc steps) c (Fault s) other end run ok q = grind (arith)
+  run_back (suc steps) c (Running s) other end run ok q = absurd q
+  run_back (suc steps) c from other end run ok q = grind (arith)
 
 -- all that a run from a status comes to, the machines take alike but for rounding
 abbrev pub Rounds : Machine → Memory → Status → Type 0

@@ -1,5 +1,5 @@
 -- The rule that a fault names is broken by what stands there.
-use Rattle.dvg_check.proofs.Common.{sym, ◌≡◌, ◌≢◌, ℕ, Option, ap, ◌∙◌, subst, arith, Source, cell_at, Cell, Context, seen_at, Known, IsFound, AtLast, AsClaimed, CellKeeps, PlaceKeeps, Mode, rules, SeenItem, FaultFound, Found}
+use Rattle.dvg_check.proofs.Common.{sym, ◌≡◌, ◌≢◌, ℕ, ap, ◌∙◌, subst, arith, Source, cell_at, Cell, Context, seen_at, Known, IsFound, CellKeeps, PlaceKeeps, SeenItem, FaultFound, Found}
 use Rattle.dvg_words.specs.declared.instruction.Cell.TheVariants as cell
 use Rattle.dvg_check.specs.Finding.{Missing, Odd, Seen}
 use Rattle.dvg_check.specs.Private.Breaking.{Breaks}
@@ -20,29 +20,11 @@ module _ {Why : Type 0} (number : Why → ℕ) (rule : ℕ → Why) (back : (why
   breaks_at : (x : Cell) → cell_at word at ≡ x → CellKeeps unmapped odd (λ i. keeps (seen_at c h.fault.items i)) at x why → ⊥
   breaks_at x is = subst (λ x. CellKeeps unmapped odd (λ i. keeps (seen_at c h.fault.items i)) at x why → ⊥) is h.fault.breaks
 
-  module _ (v : SeenItem) (at_is : v.item.at ≡ at) (stands : cell_at word at ≡ cell.Holds v.item.format v.item.instr)
-      (seen : v ≡ seen_at c h.fault.items v.item) where
-    same_item : v.item ≡ record { at = at; format = v.item.format; instr = v.item.instr }
-    same_item = ap (λ at. record { at = at; format = v.item.format; instr = v.item.instr }) at_is
-
-    same_seen : v ≡ seen_at c h.fault.items (record { at = at; format = v.item.format; instr = v.item.instr })
-    same_seen = seen ∙ ap (λ i. seen_at c h.fault.items i) same_item
-
-    seen_breaks : keeps v why → ⊥
-    seen_breaks kept = breaks_at (cell.Holds v.item.format v.item.instr) stands (subst (λ x. keeps x why) same_seen kept)
-
   broken_at : (found : Found) → IsFound c word h.fault.items at found → Breaks unmapped odd keeps why found
   broken_at Missing stands = only number rule back why unmapped (breaks_at cell.Missing stands)
   broken_at Odd stands = only number rule back why odd (breaks_at cell.Odd stands)
-  broken_at (Seen v) stands = seen_breaks v stands.0 stands.1 stands.2
+  broken_at (Seen v) stands =
+      λ kept. breaks_at (cell.Holds v.item.format v.item.instr) stands.1 (subst (λ x. keeps x why) (stands.2 ∙ ap (λ at. seen_at c h.fault.items (record { at = at; format = v.item.format; instr = v.item.instr })) stands.0) kept)
 
   pub broken : Breaks unmapped odd keeps why found
   broken = broken_at found h.stands
-
--- ---- causes of shapes
-
-pub at_last : {P : Type 0} (next : Option ℕ) → P → AtLast next P
-at_last next p = grind (arith)
-
-pub as_claimed : (mode : Mode) (n claimed : ℕ) → n ≡ claimed → AsClaimed mode n claimed
-as_claimed mode n claimed is = grind (arith)

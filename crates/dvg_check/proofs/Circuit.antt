@@ -1,5 +1,5 @@
 -- What is safe on the board's generator is safe on its circuit.
-use Rattle.dvg_check.proofs.Common.{Bool, true, false, ◌≡◌, ℕ, zero, suc, ◌+◌, ◌%◌, ◌≤◌, inl, inr, ◌⊎◌, ⊎_elim, List, [], ◌∷◌, length, nat_lt, refl, ap, sym, subst, ◌∙◌, arith, pos, if◌then◌else◌, AllByRecursion, cases_lt, Window, Point, Machine, Board, Cell, InWindow, cell_at, Memory, IsMemory, word_at, Stroke, State, Status, Running, Halted, Fault, Reached, start, after_call, after_cell, after_fetch, next_status, state_of, Ends, IsSafeStatus, Safe, rules, reverse, AllZip, length-reverse, Circuit, Counters, Reads, Run, act, run_after, begin, IsStart, ReadsAs, IsSamePlace, IsDrawnAs, Agrees, AgreesWith, counters_after, IsMapped, IsPast, IsSafeRun, SafeRuns, CountsOfRun, IsDrawAtPlaces, SafeIsWithinOnCircuit, SafeIsSafeOnCircuit, CountsAreOnCircuit}
+use Rattle.dvg_check.proofs.Common.{Bool, true, ◌≡◌, ℕ, zero, suc, ◌+◌, ◌%◌, ◌≤◌, inl, inr, ◌⊎◌, ⊎_elim, List, ◌∷◌, length, nat_lt, refl, ap, sym, subst, ◌∙◌, arith, pos, if◌then◌else◌, AllByRecursion, cases_lt, Window, Point, Board, InWindow, Memory, IsMemory, Stroke, State, Status, Running, Halted, Fault, Reached, start, next_status, state_of, Ends, IsSafeStatus, Safe, rules, reverse, AllZip, length-reverse, Circuit, Counters, Reads, Run, act, run_after, begin, IsStart, ReadsAs, IsSamePlace, IsDrawnAs, Agrees, AgreesWith, counters_after, IsMapped, IsPast, IsSafeRun, SafeRuns, CountsOfRun, IsDrawAtPlaces, SafeIsWithinOnCircuit, SafeIsSafeOnCircuit, CountsAreOnCircuit}
 use Rattle.std.specs.Prelude.{◌*ℤ◌}
 use Rattle.dvg_words.proofs.Stack.{stack_within_max}
 use Rattle.dvg_circuit.specs.declared.lit.LitDraw.{LitDraw}
@@ -53,10 +53,9 @@ module _ (m : Memory) (w : Window) (words depth : ℕ) (mem : IsMemory m) (board
   -- one more instruction; none after a halt
   on : (n steps : ℕ) (status : Status) → steps ≤ n → Reached m steps (Running (first c)) status → AgreesWith c.pointer status (run_after reads n (begin c)) → ((s : State) → status ≡ Running s → steps ≡ n) → Follows m reads c (suc n)
   on n steps (Running s) within reached agrees going =
-      let same : suc steps ≡ suc n = ap suc (going s refl) in
-      let more : Reached m (steps + 1) (Running (first c)) (next_status m s) = reached_on m steps 1 (Running (first c)) (Running s) (next_status m s) reached (next_status m s, refl, refl) in
-      let next : Reached m (suc steps) (Running (first c)) (next_status m s) = subst (λ k. Reached m k (Running (first c)) (next_status m s)) (let e : steps + 1 ≡ suc steps = omega arith in e) more in
-      search (rules, suc steps, next_status m s, next, subst (λ k. AgreesWith c.pointer (next_status m s) (run_after reads k (begin c))) same (agree (suc steps) (next_status m s) next))
+      let same : steps + 1 ≡ suc n = omega (arith, going s refl) in
+      let next : Reached m (steps + 1) (Running (first c)) (next_status m s) = reached_on m steps 1 (Running (first c)) (Running s) (next_status m s) reached (next_status m s, refl, refl) in
+      search (rules, steps + 1, next_status m s, next, subst (λ k. AgreesWith c.pointer (next_status m s) (run_after reads k (begin c))) same (agree (steps + 1) (next_status m s) next))
   on n steps (Halted s) within reached agrees going =
       let r : Run = run_after reads n (begin c) in
       search (rules, steps, Halted s, reached, subst (λ (halted : Bool). AgreesWith c.pointer (Halted s) (if halted then r else act (reads n) (reads n r.circuit.pc) r)) (sym agrees.0) agrees)
@@ -77,10 +76,8 @@ module _ (m : Memory) (w : Window) (words depth : ℕ) (mem : IsMemory m) (board
   -- what holds of the draw of each stroke that lies in the window holds of the draws of all of them
   module _ (P : LitDraw → Type 0) (drawn : (stroke : Stroke) (l : LitDraw) → InWindow w stroke.from → InWindow w stroke.to → IsDrawnAs stroke l → P l) where
     all_drawn : (strokes : List Stroke) (lit : List LitDraw) → AllByRecursion (Ends (InWindow w)) strokes → AllZip IsDrawnAs strokes lit → AllByRecursion P lit
-    all_drawn [] [] ends same = tt
-    all_drawn [] (l ∷ lit) ends same = absurd same
-    all_drawn (stroke ∷ strokes) [] ends same = absurd same
     all_drawn (stroke ∷ strokes) (l ∷ lit) ends same = (drawn stroke l ends.0.0 ends.0.1 same.0, all_drawn strokes lit ends.1 same.1)
+    all_drawn strokes lit ends same = grind (arith)
 
     safe_run : (n : ℕ) → IsSafeRun m P words depth c.pointer (run_after reads n (begin c))
     safe_run n =
@@ -133,16 +130,9 @@ safe_on_circuit m w words depth mem board is safe = search (rules, safe_runs, dr
 abbrev Rises : State → Status → Type 0
 Rises s after = ((state_of after).max_stack ≤ s.max_stack) ⊎ ((u : State) × (after ≡ Running u) × (length u.return_stack ≡ u.max_stack))
 
-rises_call : (room : Bool) (to : ℕ) (s : State) → Rises s (after_call room to s)
-rises_call false to s = inl (omega arith)
-rises_call true to s = grind (arith, (cases_lt s.max_stack (length s.return_stack + 1)))
-
-rises_cell : (machine : Machine) (cell : Cell) (s : State) → Rises s (after_cell machine cell s)
-rises_cell machine cell s = grind (arith, rises_call, nat_lt)
-
 rises_next : (m : Memory) (s : State) → Rises s (next_status m s)
 unfolding next_status
-rises_next m s = rises_cell m.rom.machine (cell_at (word_at m) s.pc) (after_fetch m s)
+rises_next m s = grind (arith, nat_lt, (cases_lt s.max_stack (length s.return_stack + 1)))
 
 -- a state of the run in which so many are stored as are at most up to the end
 abbrev Deepest : Memory → ℕ → State → Status → Type 0
@@ -163,10 +153,8 @@ deepest_on m n s (Running u) after e reached rest =
   where
     here : (u : State) → Rises s (Running u) → (u.max_stack ≤ s.max_stack) ⊎ (length u.return_stack ≡ u.max_stack)
     here u h = ⊎_elim (λ le. inl le) (λ full. inr (let same : Running u ≡ Running full.0 = full.1 in cc)) h
-deepest_on m zero s (Halted u) after e reached rest = grind (arith, state_of, rises_next)
-deepest_on m zero s (Fault u) after e reached rest = grind (arith, state_of, rises_next)
-deepest_on m (suc n) s (Halted u) after e reached rest = absurd reached.1
-deepest_on m (suc n) s (Fault u) after e reached rest = absurd reached.1
+deepest_on m zero s mid after e reached rest = grind (arith, state_of, rises_next)
+deepest_on m (suc n) s mid after e reached rest = absurd reached.1
 
 deepest_from : (m : Memory) (n : ℕ) (s : State) (after : Status) → Reached m n (Running s) after → ((state_of after).max_stack ≤ s.max_stack) ⊎ Deepest m n s after
 deepest_from m zero s after reached = inl (omega (arith, ap (λ (t : Status). (state_of t).max_stack) reached))
@@ -191,8 +179,6 @@ module _ (m : Memory) (w : Window) (words depth : ℕ) (mem : IsMemory m) (board
         deepest = (deep.0, omega (arith, deep.2, within), there.pointer ∙ ap (λ k. (c.pointer + k) % 16) (deep.4 ∙ just.1));
       }
 
-  counts_after : (n : ℕ) → (run_after reads n (begin c)).circuit.halted ≡ true → CountsOfRun words depth c.pointer (λ k. run_after reads k (begin c)) n
-  counts_after n halted = let f = follows m w words depth mem board safe c reads begun seen n in counts_by n f.steps f.status f.within f.reached f.agrees halted
-
 pub counts_on_circuit : CountsAreOnCircuit
-counts_on_circuit m w words depth mem board safe counts c reads begun seen n halted = counts_after m w words depth mem board safe counts c reads begun seen n halted
+counts_on_circuit m w words depth mem board safe counts c reads begun seen n halted =
+    let f = follows m w words depth mem board safe c reads begun seen n in counts_by m w words depth mem board safe counts c reads begun seen n f.steps f.status f.within f.reached f.agrees halted

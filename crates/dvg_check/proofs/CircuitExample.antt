@@ -1,6 +1,5 @@
 -- The worked example on the circuit, instruction by instruction.
-use Rattle.dvg_check.proofs.Common.{true, false, ◌≡◌, ℕ, zero, suc, ◌≤◌, List, Option, Some, length, inl, refl, ap, sym, subst, arith, Contains, ints, Board, format_of, instruction_of, screen, Entry, Exact, Safe, get_or-set_same, IsWindow, Circuit, Counters, Run, run_after, begin, IsStart, ReadsNow, ReadsAs, memory_for, example_list}
-use Rattle.std.specs.Prelude.{unwrap_or}
+use Rattle.dvg_check.proofs.Common.{true, false, ◌≡◌, ℕ, zero, suc, ◌≤◌, List, length, inl, refl, sym, subst, arith, Contains, ints, Board, format_of, instruction_of, screen, Entry, Exact, Safe, get_or-set_same, IsWindow, Circuit, Counters, Run, run_after, begin, IsStart, ReadsNow, ReadsAs, memory_for, example_list}
 use Rattle.dvg_cert.specs.declared.limits.TheConstants.{MOST_DEPTH}
 use Rattle.dvg_check.specs.CircuitExample.{example_reads, WorkedCircuit}
 use Rattle.dvg_check.proofs.Circuit.{safe_on_circuit, counts_on_circuit}
@@ -16,10 +15,6 @@ registers counters scale pointer returns =
 same_registers : (c : Circuit) → IsStart c → registers c.counters c.scale c.pointer c.returns ≡ c
 same_registers c begun = sym (λ i. record { pc = begun.pc i; counters = c.counters; scale = c.scale; pointer = c.pointer; returns = c.returns; halted = begun.running i })
 
--- a word that is there is read
-there : (p : ℕ) (word : ℕ) (found : Option ℕ) → found ≡ Some word → unwrap_or found 0 ≡ word
-there p word found is = ap (λ (o : Option ℕ). unwrap_or o 0) is
-
 module _ (counters : Counters) (scale pointer : ℕ) (returns : List ℕ) (four : length returns ≡ 4) (other : ℕ) where
   abbrev at : ℕ → Run
   at n = run_after (example_reads other) n (begin (registers counters scale pointer returns))
@@ -28,22 +23,15 @@ module _ (counters : Counters) (scale pointer : ℕ) (returns : List ℕ) (four 
   unfolding instruction_of
   back = grind (arith, get_or-set_same)
 
-  halts : (at 5).circuit.halted ≡ true
-  unfolding instruction_of
-  halts = grind (arith, format_of, back)
-
   stays : (n : ℕ) → (at (suc (suc (suc (suc (suc n)))))).circuit.halted ≡ true
-  stays zero = halts
+  unfolding instruction_of
+  stays zero = grind (arith, format_of, back)
   stays (suc n) = grind (arith, (stays n))
 
   reads_now : (n : ℕ) → (at n).circuit.halted ≡ false → ReadsNow (memory_for Board) (example_reads other n) (at n)
   unfolding instruction_of
-  reads_now zero going = (λ word is. there 0 word _ is, (λ word is. there 1 word _ is, tt))
-  reads_now (suc zero) going = (λ word is. there 2 word _ is, tt)
-  reads_now (suc (suc zero)) going = (λ word is. there 2048 word _ is, (λ word is. there 2049 word _ is, tt))
-  reads_now (suc (suc (suc zero))) going = (λ word is. there 2050 word _ is, tt)
-  reads_now (suc (suc (suc (suc zero)))) going = grind (arith, format_of, back, there)
   reads_now (suc (suc (suc (suc (suc n))))) going = grind (arith, stays)
+  reads_now n going = grind (arith, format_of, back)
 
 -- ---- all
 

@@ -1,18 +1,12 @@
 -- The beam is where it was last set, moved by the sum of the moves since then.
-use Rattle.dvg_check.proofs.Common.{zero, subst, sym, suc, Bool, nat_lt, ◌≡◌, ℕ, Machine, Cell, shift, displacement, labs_place, cell_at, State, Status, Running, Halted, Fault, Reached, start, after_call, after_cell, after_fetch, next_status, Memory, word_at, state_of, shift_origin, shift_shift, Course, course_at, course_after, course_along, course_at_start, arith, place_of, PlaceIsSum}
+use Rattle.dvg_check.proofs.Common.{zero, subst, sym, suc, nat_lt, ◌≡◌, ℕ, shift, displacement, labs_place, State, Status, Running, Reached, start, next_status, Memory, state_of, shift_origin, shift_shift, Course, course_after, course_along, course_at_start, arith, place_of, PlaceIsSum}
 
 abbrev IsAt : Course → Status → Type 0
 IsAt c status = (state_of status).place ≡ place_of c
 
-at_call : (c : Course) (room : Bool) (to : ℕ) (s : State) → s.place ≡ place_of c → IsAt c (after_call room to s)
-at_call c room to s h = grind (arith)
-
-at_cell : (machine : Machine) (cell : Cell) (s : State) (c : Course) → s.place ≡ place_of c → IsAt (course_at machine cell s.scale c) (after_cell machine cell s)
-at_cell machine cell s c h = grind (arith, shift, displacement, shift_shift, shift_origin, labs_place, at_call, nat_lt)
-
 at_next : (m : Memory) (s : State) (c : Course) → s.place ≡ place_of c → IsAt (course_after m (Running s) c) (next_status m s)
 unfolding next_status
-at_next m s c h = at_cell m.rom.machine (cell_at (word_at m) s.pc) (after_fetch m s) c h
+at_next m s c h = grind (arith, shift, displacement, shift_shift, shift_origin, labs_place, nat_lt)
 
 -- what each step keeps of course and status holds all along a run
 pub along :
@@ -20,8 +14,7 @@ pub along :
     → (steps : ℕ) (c : Course) (from to : Status) (run : Reached m steps from to) → P c from → P (course_along m steps from to run c) to
 along m P kept zero c from to run h = subst (P c) run h
 along m P kept (suc steps) c (Running s) to run h = grind (arith, (along m P kept steps (course_after m (Running s) c) run.0 to run.2 (subst (P (course_after m (Running s) c)) run.1 (kept c s h))), course_after)
-along m P kept (suc steps) c (Halted s) to run h = absurd run.1
-along m P kept (suc steps) c (Fault s) to run h = absurd run.1
+along m P kept (suc steps) c from to run h = absurd run.1
 
 pub place_is_sum : PlaceIsSum
 place_is_sum m place scale steps after run =

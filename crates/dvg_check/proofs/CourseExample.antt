@@ -1,5 +1,5 @@
 -- The runs of the worked frame, state by state.
-use Rattle.dvg_check.proofs.Common.{arith, ap, refl, true, false, inl, length, pos, ◌≡◌, ◌≤◌, ◌⊎◌, ◌∷◌, ℕ, [], Machine, Profile, Board, Point, Cell, Holds, Short, Long, Labs, Halt, DrawFields, displacement, labs_place, cell_at, instruction_of, State, Status, Running, Halted, Fault, Reached, start, after_cell, after_fetch, next_status, word_at, Course, course_at, course_after, course_at_start, on, OnlyRounds, Draws, course_of, FewDraws}
+use Rattle.dvg_check.proofs.Common.{arith, ap, refl, true, false, inl, length, pos, ◌≡◌, ◌⊎◌, ◌∷◌, ℕ, [], Machine, Profile, Board, Point, Cell, Holds, Short, Long, Labs, Halt, DrawFields, displacement, labs_place, cell_at, instruction_of, State, Status, Running, Halted, Fault, Reached, start, next_status, word_at, Course, course_after, course_at_start, on, Draws, course_of, FewDraws}
 use Rattle.dvg_check.specs.CourseExample.{edge_memory, edge_move, edge_course, WorkedCourse}
 use Rattle.dvg_check.proofs.Course.{along}
 
@@ -27,45 +27,23 @@ Runs machine c (Halted s) = c ≡ edge_course machine
 Runs machine c (Fault s) = ⊥
 
 -- what stands at its words
-labs_there : (machine : Machine) → cell_at (word_at (on machine edge_memory)) 0 ≡ Holds Long (Labs 1022 100 0)
+abbrev IsThere : Machine → ℕ → Cell → Type 0
+IsThere machine p cell = cell_at (word_at (on machine edge_memory)) p ≡ cell
+
+there : (machine : Machine) → IsThere machine 0 (Holds Long (Labs 1022 100 0)) × IsThere machine 2 (Holds Long (Draws half)) × IsThere machine 4 (Holds Long (Draws half)) × IsThere machine 6 (Holds Short Halt)
 unfolding cell_at instruction_of
-labs_there Profile = refl
-labs_there Board = refl
+there Profile = (refl, refl, refl, refl)
+there Board = (refl, refl, refl, refl)
 
-first_there : (machine : Machine) → cell_at (word_at (on machine edge_memory)) 2 ≡ Holds Long (Draws half)
-unfolding cell_at instruction_of
-first_there Profile = refl
-first_there Board = refl
-
-second_there : (machine : Machine) → cell_at (word_at (on machine edge_memory)) 4 ≡ Holds Long (Draws half)
-unfolding cell_at instruction_of
-second_there Profile = refl
-second_there Board = refl
-
-halt_there : (machine : Machine) → cell_at (word_at (on machine edge_memory)) 6 ≡ Holds Short Halt
-unfolding cell_at instruction_of
-halt_there Profile = refl
-halt_there Board = refl
-
-set_there : (machine : Machine) → labs_place machine 1022 100 ≡ record { x = pos 1046528; y = pos 102400 }
-set_there Profile = refl
-set_there Board = refl
-
-move_is : (machine : Machine) → displacement machine half 0 ≡ edge_move machine
+-- where the LABS sets the beam, and how far a draw moves it
+moves : (machine : Machine) → (labs_place machine 1022 100 ≡ record { x = pos 1046528; y = pos 102400 }) × (displacement machine half 0 ≡ edge_move machine)
 unfolding displacement
-move_is Profile = refl
-move_is Board = refl
-
--- what a step leads to, by what stands there
-abbrev Leads : Machine → Course → State → Cell → Type 0
-Leads machine c s cell = Runs machine (course_at machine cell s.scale c) (after_cell machine cell (after_fetch (on machine edge_memory) s))
-
-leads : (machine : Machine) (c : Course) (s : State) → Stands machine c s → Leads machine c s (cell_at (word_at (on machine edge_memory)) s.pc)
-leads machine c s h3 = grind (arith, cell_at, word_at, on, labs_there, labs_place, set_there, first_there, displacement, move_is, second_there, halt_there)
+moves Profile = (refl, refl)
+moves Board = (refl, refl)
 
 leads_next : (machine : Machine) (c : Course) (s : State) → Stands machine c s → Runs machine (course_after (on machine edge_memory) (Running s) c) (next_status (on machine edge_memory) s)
 unfolding next_status
-leads_next machine c s stands = leads machine c s stands
+leads_next machine c s h3 = grind (arith, cell_at, word_at, on, labs_place, displacement, ((there machine).0), ((there machine).1), ((there machine).2), ((there machine).3), ((moves machine).0), ((moves machine).1))
 
 -- each state of each run
 runs :
@@ -74,12 +52,6 @@ runs :
 runs machine place scale steps after run = grind (arith, (along (on machine edge_memory) (Runs machine) (leads_next machine) steps (course_at_start place) (Running (start place scale)) after run (inl (refl, refl))), (on machine edge_memory), (leads_next machine), (course_at_start place), (start place scale))
 
 -- ---- what is claimed
-
-rounds_at : (machine : Machine) (c : Course) (s : State) → Stands machine c s → OnlyRounds s.scale (cell_at (word_at (on Profile edge_memory)) s.pc)
-rounds_at machine c s h3 = grind (arith, cell_at, word_at, on, labs_there, first_there, second_there, halt_there)
-
-two_at : (machine : Machine) (c : Course) (after : Status) → Runs machine c after → c.by_labs ≡ true → length c.moves ≤ 2
-two_at machine c after h3 set = grind (arith)
 
 -- a run to the HALT, of four steps
 halting : (machine : Machine) (place : Point) (scale : ℕ) → (h : State) × Reached (on machine edge_memory) 4 (Running (start place scale)) (Halted h)
@@ -90,8 +62,8 @@ halting Board place scale = (_, (_, refl, (_, refl, (_, refl, (_, refl, refl))))
 pub worked_course : (machine : Machine) → WorkedCourse machine
 worked_course machine =
     record {
-      rounds = λ place scale steps s small run. rounds_at machine (course_of (on machine edge_memory) place scale steps (Running s) run) s (runs machine place scale steps (Running s) run);
-      two = λ place scale steps after small run. two_at machine (course_of (on machine edge_memory) place scale steps after run) after (runs machine place scale steps after run);
+      rounds = λ place scale steps s small run. let stands = runs machine place scale steps (Running s) run in grind (arith, cell_at, word_at, on, ((there Profile).0), ((there Profile).1), ((there Profile).2), ((there Profile).3));
+      two = λ place scale steps after small run set. let stands = runs machine place scale steps after run in grind (arith);
       more_than_one = more;
       course = λ place scale steps h run. runs machine place scale steps (Halted h) run;
     }

@@ -1,5 +1,5 @@
 -- How far apart runs of the two machines are, and what is safe on one of them by the other.
-use Rattle.dvg_check.proofs.Common.{arith, List, subst, sym, suc, ap, refl, Bool, true, false, nat_lt, length, ℤ, pos, ◌≡◌, ◌+◌, ◌≤◌, ◌∷◌, ◌++◌, ◌∙◌, ◌+ℤ◌, ◌*ℤ◌, ℕ, [], AllByRecursion, ints, Machine, Profile, Point, Cell, Format, Instr, DrawFields, Window, shift, displacement, labs_place, InWindow, cell_at, Stroke, State, Status, Running, Halted, Reached, start, lit_by, after_call, after_return, after_instruction, after_cell, after_fetch, next_status, Memory, word_at, state_of, Course, course_past, course_at, course_after, course_along, course_at_start, on, OnlyRounds, Safe, Ends, IsSafeState, IsSafeStatus, rules, common_steps, negsuc, neg_ℤ, ◌*◌, effective_scale, axis_move, point_is, course_of, RunsOnlyRound, Both, HalfPlaceEach, IsInset, InsetIsSafe, IsMapped, HaltsWithin, StaysSafe}
+use Rattle.dvg_check.proofs.Common.{arith, List, subst, sym, suc, ap, refl, true, false, nat_lt, length, ℤ, pos, ◌≡◌, ◌+◌, ◌≤◌, ◌∷◌, ◌∙◌, ◌+ℤ◌, ◌*ℤ◌, ℕ, [], AllByRecursion, ints, Machine, Profile, Point, Cell, Window, shift, displacement, InWindow, cell_at, Stroke, State, Status, Running, Halted, Reached, start, lit_by, after_cell, after_fetch, next_status, Memory, word_at, state_of, Course, course_past, course_at, course_after, course_along, course_at_start, on, OnlyRounds, Safe, Ends, IsSafeState, IsSafeStatus, rules, common_steps, negsuc, neg_ℤ, ◌*◌, point_is, course_of, RunsOnlyRound, Both, HalfPlaceEach, IsInset, InsetIsSafe, IsMapped, HaltsWithin, StaysSafe}
 use Rattle.dvg_words.specs.Machines.{IsNearMove, HalfPlace}
 use Rattle.dvg_check.specs.Drift.{IsNear}
 use Rattle.dvg_check.proofs.Alike.{same_cell, coordinate_same}
@@ -17,17 +17,6 @@ near_here most v = record { low = omega (arith, ints); high = omega (arith, ints
 near_on : (most more : ℕ) (v u d e : ℤ) → most + 512 ≡ more → IsNearMove most v u → IsNearMove 512 d e → IsNearMove more (v +ℤ d) (u +ℤ e)
 near_on most more v u d e is near moved = record { low = omega (arith, ints, is, near.low, moved.low); high = omega (arith, ints, is, near.high, moved.high) }
 
-labs_near : (a b : Machine) (x y : ℕ) (most : ℕ) → (x ≤ 1023) × (y ≤ 1023) → AreNear most (labs_place a x y) (labs_place b x y)
-labs_near a b x y most low = grind (arith, coordinate_same, near_here)
-
-module _ (half : HalfPlace) where
-  axis_near : (a b : Machine) (size : ℤ) (local global : ℕ) → effective_scale local global ≤ 9 → IsNearMove 512 (axis_move a size local global) (axis_move b size local global)
-  axis_near a b size local global le = grind (arith, near_here)
-
-  draw_near : (a b : Machine) (d : DrawFields) (global most more : ℕ) (p q : Point) → effective_scale d.lscale global ≤ 9 → most + 512 ≡ more → AreNear most p q → AreNear more (shift p (displacement a d global)) (shift q (displacement b d global))
-  unfolding displacement
-  draw_near a b d global most more p q le is near = grind (arith, near_on, axis_near)
-
 -- ---- one step of the two machines
 
 abbrev NearBy : Course → State → State → Type 0
@@ -38,11 +27,9 @@ PlacesNear c p k q l = AreNear (512 * length c.moves) p q
 
 module _ (half : HalfPlace) (a b : Machine) where
   places_kept : IsKept a b PlacesNear
+  unfolding displacement
   places_kept =
-      record {
-        draws = λ c d global p q k l low near. draw_near half a b d global (512 * length c.moves) (512 * length (displacement a d global ∷ c.moves)) p q low (omega arith) near;
-        sets = λ c x y gscale scale p q k l low near. labs_near a b x y 0 low;
-      }
+      record { draws = λ c d global p q k l low near. grind (arith, near_on, near_here); sets = λ c x y gscale scale p q k l low near. grind (arith, coordinate_same, near_here) }
 
   near_next :
       (m : Memory) (c : Course) (s t : State) → OnlyRounds s.scale (cell_at (word_at (on Profile m)) s.pc) → NearBy c s t
@@ -116,64 +103,29 @@ near_window n k outer inner p q inset few near there =
 abbrev Lit : Window → List Stroke → Type 0
 Lit w strokes = AllByRecursion (Ends (InWindow w)) strokes
 
--- a draw that is lit in the inner window on the one machine is lit in the outer one on the other
-lit_draw :
-    (outer inner : Window) (bright : ℕ) (first second : Stroke) (drawn other : List Stroke)
-    → (InWindow inner first.from → InWindow outer second.from) → (InWindow inner first.to → InWindow outer second.to)
-    → Lit inner (lit_by bright first ++ drawn) → Lit outer other → Lit outer (lit_by bright second ++ other)
-lit_draw outer inner bright first second drawn other from to lit all = grind (arith)
+-- a step after which the place is in the outer window on the second machine, if it is in the inner one on the first, once a LABS has
+-- come, and which lights nothing on the first machine before: what it lights is in the outer window on the second
+abbrev LitKept : Window → Window → Course → Course → State → State → Status → Status → Type 0
+LitKept outer inner c next s t u v =
+    (c.by_labs ≡ true → InWindow inner s.place → InWindow outer t.place) → (c.by_labs ≡ true → InWindow inner (state_of u).place → InWindow outer (state_of v).place)
+    → (next.by_labs ≡ false → (state_of u).strokes ≡ []) → Lit inner (state_of u).strokes → Lit outer (state_of v).strokes
 
-lit_call : (w : Window) (room : Bool) (to : ℕ) (s : State) → Lit w s.strokes → Lit w (state_of (after_call room to s)).strokes
-lit_call w room to s all = grind (arith)
-
-lit_return : (w : Window) (stack : List ℕ) (s : State) → Lit w s.strokes → Lit w (state_of (after_return stack s)).strokes
-lit_return w stack s all = grind (arith)
-
--- and if it lights nothing on the one machine, it lights nothing on the other
-dark_draw : (outer : Window) (bright : ℕ) (first second : Stroke) (drawn other : List Stroke) → lit_by bright first ++ drawn ≡ [] → Lit outer other → Lit outer (lit_by bright second ++ other)
-dark_draw outer bright first second drawn other none all = grind (arith)
-
-module _ (outer inner : Window) (a b : Machine) (s t : State) (c : Course) (all : Lit outer t.strokes) where
-  -- the place is in the outer window on the second machine, if it is in the inner one on the first, once a LABS has come
-  abbrev Moves : State → State → Type 0
-  Moves u v = c.by_labs ≡ true → InWindow inner u.place → InWindow outer v.place
-
-  lit_instruction :
-      (i : Instr) (format : Format) → Moves s t → Moves (state_of (after_instruction a i format s)) (state_of (after_instruction b i format t))
-      → ((course_past a i s.scale c).by_labs ≡ false → (state_of (after_instruction a i format s)).strokes ≡ [])
-      → Lit inner (state_of (after_instruction a i format s)).strokes → Lit outer (state_of (after_instruction b i format t)).strokes
-  lit_instruction i format from to none lit = grind (arith, drawn_on, lit_draw, dark_draw, lit_call, nat_lt, lit_return)
-
-  lit_cell :
-      (cell : Cell) → Moves s t → Moves (state_of (after_cell a cell s)) (state_of (after_cell b cell t))
-      → ((course_at a cell s.scale c).by_labs ≡ false → (state_of (after_cell a cell s)).strokes ≡ [])
-      → Lit inner (state_of (after_cell a cell s)).strokes → Lit outer (state_of (after_cell b cell t)).strokes
-  lit_cell cell from to none lit = grind (arith, lit_instruction)
-
--- the same of what stands at an address, as each machine reads it
-abbrev LitKept : Window → Window → Machine → Machine → Course → State → State → Cell → Cell → Type 0
-LitKept outer inner a b c here there u v =
-    (c.by_labs ≡ true → InWindow inner here.place → InWindow outer there.place)
-    → (c.by_labs ≡ true → InWindow inner (state_of (after_cell a u here)).place → InWindow outer (state_of (after_cell b v there)).place)
-    → ((course_at a u here.scale c).by_labs ≡ false → (state_of (after_cell a u here)).strokes ≡ [])
-    → Lit inner (state_of (after_cell a u here)).strokes → Lit outer (state_of (after_cell b v there)).strokes
+lit_cell :
+    (outer inner : Window) (a b : Machine) (s t : State) (c : Course) (cell : Cell) → Lit outer t.strokes
+    → LitKept outer inner c (course_at a cell s.scale c) s t (after_cell a cell s) (after_cell b cell t)
+lit_cell outer inner a b s t c cell all from to none lit = grind (arith, drawn_on, nat_lt)
 
 lit_next :
-    (outer inner : Window) (a b : Machine) (m : Memory) (c : Course) (s t : State) → OnlyRounds s.scale (cell_at (word_at (on Profile m)) s.pc) → t.pc ≡ s.pc
-    → (c.by_labs ≡ true → InWindow inner s.place → InWindow outer t.place)
-    → (c.by_labs ≡ true → InWindow inner (state_of (next_status (on a m) s)).place → InWindow outer (state_of (next_status (on b m) t)).place)
-    → ((course_after (on a m) (Running s) c).by_labs ≡ false → (state_of (next_status (on a m) s)).strokes ≡ [])
-    → Lit inner (state_of (next_status (on a m) s)).strokes → Lit outer t.strokes → Lit outer (state_of (next_status (on b m) t)).strokes
+    (outer inner : Window) (a b : Machine) (m : Memory) (c : Course) (s t : State) → OnlyRounds s.scale (cell_at (word_at (on Profile m)) s.pc) → t.pc ≡ s.pc → Lit outer t.strokes
+    → LitKept outer inner c (course_after (on a m) (Running s) c) s t (next_status (on a m) s) (next_status (on b m) t)
 unfolding next_status
-lit_next outer inner a b m c s t rounds pc from to none lit all =
+lit_next outer inner a b m c s t rounds pc all =
     let cell = cell_at (word_at (on Profile m)) s.pc in
     let read = not_odd s.scale cell rounds in
     let here = after_fetch (on a m) s in
     let there = after_fetch (on b m) t in
-    let first = lit_cell outer inner a b here there c all cell in
-    let second = subst (λ u. LitKept outer inner a b c here there u cell) (sym (same_cell a m s.pc read)) first in
-    let third = subst (λ v. LitKept outer inner a b c here there (cell_at (word_at (on a m)) s.pc) v) (sym (ap (λ p. cell_at (word_at (on b m)) p) pc ∙ same_cell b m s.pc read)) second in
-    third from to none lit
+    let first = subst (λ u. LitKept outer inner c (course_at a u s.scale c) s t (after_cell a u here) (after_cell b cell there)) (sym (same_cell a m s.pc read)) (lit_cell outer inner a b here there c cell all) in
+    subst (λ v. LitKept outer inner c (course_after (on a m) (Running s) c) s t (next_status (on a m) s) (after_cell b v there)) (sym (ap (λ p. cell_at (word_at (on b m)) p) pc ∙ same_cell b m s.pc read)) first
 
 -- once a LABS has come, it has come
 still_set : (a : Machine) (cell : Cell) (scale : ℕ) (c : Course) → c.by_labs ≡ true → (course_at a cell scale c).by_labs ≡ true
@@ -211,15 +163,12 @@ module _ (half : HalfPlace) (a b : Machine) (m : Memory) (n : ℕ) (outer inner 
       let rounds = ahead.rounds 0 s refl in
       let nears = near_next half a b m c s t rounds near in
       let ends = of_both (NearBy next) (next_status (on a m) s) (next_status (on b m) t) nears in
-      let set = still_set a (cell_at (word_at (on a m)) s.pc) s.scale c in
       let from = λ (is : c.by_labs ≡ true). near_window n (length c.moves) outer inner s.place t.place inset (ahead.few 0 (Running s) refl is) (near.x, near.y) in
       let to =
       λ (is : c.by_labs ≡ true).
       near_window n (length next.moves) outer inner (state_of (next_status (on a m) s)).place (state_of (next_status (on b m) t)).place inset
-      (rest.few 0 (next_status (on a m) s) refl (set is)) (ends.x, ends.y) in
-      let all =
-      lit_next outer inner a b m c s t rounds (ap (λ u. u.pc) near.same) from to (rest.none 0 (next_status (on a m) s) refl)
-      (rest.lit 0 (next_status (on a m) s) refl) lit in
+      (rest.few 0 (next_status (on a m) s) refl (still_set a (cell_at (word_at (on a m)) s.pc) s.scale c is)) (ends.x, ends.y) in
+      let all = lit_next outer inner a b m c s t rounds (ap (λ u. u.pc) near.same) lit from to (rest.none 0 (next_status (on a m) s) refl) (rest.lit 0 (next_status (on a m) s) refl) in
       both_with (NearBy next) (λ u v. Lit outer v.strokes) (IsNearLit outer next) (next_status (on a m) s) (next_status (on b m) t) (λ u v p q. (p, q)) nears all
 
   safe_as :

@@ -1,6 +1,7 @@
 -- The items of a shape or of a frame are determined: so a walk to the last one has met them all, and there is one first
 -- fault at most.
-use Rattle.dvg_check.proofs.Common.{Source, Machine, List, length, refl, sym, arith, ap, None, subst, suc, ◌≡◌, ◌+◌, ◌<◌, ◌∷◌, ◌++◌, ◌∙◌, ℕ, ⊎_elim, [], cases_lt, AllByRecursion, Contains, if◌then◌else◌, cell_at, word_count, frame_word, rom_word, Window, Holds, Halt, Entry, frame_number, LeadsTo, next_address, words_before, frame_context, depth_before, AllKeep, FramePlaceKeeps, GoodFrame, ShapePlaceKeeps, GoodShape, FrameWhy, ShapeWhy, Item, Kind, Frame, Shape, ◌==◌, Same, same_lead, too_long, shorter, everywhere, AllBefore, FaultAt, shape_number, ShapeFaultAt, OneFault, NoFault, OneCount, NoShapeFault, OneShapeFault}
+use Rattle.dvg_check.proofs.Common.{◌⊎◌, inl, inr, Source, List, length, refl, sym, arith, ap, None, subst, ◌≡◌, ◌+◌, ◌<◌, ◌∷◌, ◌++◌, ◌∙◌, ℕ, ⊎_elim, [], cases_lt, AllByRecursion, Contains, if◌then◌else◌, cell_at, word_count, frame_word, rom_word, Holds, Halt, Entry, frame_number, LeadsTo, next_address, words_before, frame_context, depth_before, AllKeep, FramePlaceKeeps, ShapePlaceKeeps, GoodShape, FrameWhy, ShapeWhy, Item, Kind, Frame, Shape, ◌==◌, Same, same_lead, too_long, shorter, everywhere, AllBefore, FaultAt, shape_number, ShapeFaultAt, OneFault, NoFault, OneCount, NoShapeFault, OneShapeFault}
+use Rattle.std.proofs.lemmas.List.Elements.{Contains-append_right}
 use Rattle.dvg_check.specs.declared.fault.FrameWhy.TheVariants as frame
 use Rattle.dvg_check.specs.declared.fault.ShapeWhy.TheVariants as shape
 
@@ -34,9 +35,9 @@ module _ (kind : Kind) (word : Source) (first : ℕ) (Why : Type 0) (keeps : Lis
         let s = same_items p q u v f g in
         f.breaks (subst (λ x. keeps x p u) (sym s.items) (subst (λ x. keeps g.items x u) (sym s.place) (g.lowest u less)))
 
-    -- and the lowest rule is one
-    pub same_order : (p q : ℕ) (u v : Why) → (f : FaultAt order kind word first keeps p u) → (g : FaultAt order kind word first keeps q v) → order u ≡ order v
-    same_order p q u v f g = neither_less (order u) (order v) (not_lower p q u v f g) (not_lower q p v u g f)
+    -- so there is one fault, where the order of a rule tells it
+    one_place : (rule : ℕ → Why) → ((why : Why) → rule (order why) ≡ why) → (p q : ℕ) (u v : Why) → FaultAt order kind word first keeps p u → FaultAt order kind word first keeps q v → (p ≡ q) × (u ≡ v)
+    one_place rule back p q u v f g = ((same_items p q u v f g).place, sym (back u) ∙ ap rule (neither_less (order u) (order v) (not_lower p q u v f g) (not_lower q p v u g f)) ∙ back v)
 
 -- ---- frames
 
@@ -50,31 +51,23 @@ rule_of-number = elim [ frame.Unmapped ↦ refl | frame.Odd ↦ refl | frame.Ret
 
 pub one_fault : OneFault
 one_fault w machine words list budget f g a b =
-    let keeps = FramePlaceKeeps w machine words list budget in
-    let s = same_items Frame (frame_word machine words) 0 FrameWhy keeps frame_number f.word g.word f.why g.why a b in
-    let o = same_order Frame (frame_word machine words) 0 FrameWhy keeps frame_number f.word g.word f.why g.why a b in
-    let why : f.why ≡ g.why = sym (rule_of-number f.why) ∙ ap rule_of o ∙ rule_of-number g.why in
-    λ x. record { word = s.place x; why = why x }
+    let s = one_place Frame (frame_word machine words) 0 FrameWhy (FramePlaceKeeps w machine words list budget) frame_number rule_of rule_of-number f.word g.word f.why g.why a b in
+    λ x. record { word = s.0 x; why = s.1 x }
 
 pub no_fault : NoFault
 no_fault w machine words list budget count depth f good fault = fault_or_none Frame (frame_word machine words) 0 FrameWhy (FramePlaceKeeps w machine words list budget) frame_number f.word f.why fault good.keeps
 
--- the last items of two walks are one
-last_same : (w : Window) (machine : Machine) (words : List ℕ) (list : List Entry) (budget count depth count' depth' : ℕ) (a : GoodFrame w machine words list budget count depth) (b : GoodFrame w machine words list budget count' depth') → Same a.items b.items a.at b.at
-last_same w machine words list budget count depth count' depth' a b =
-    let i : Item = record { at = a.at; format = a.format; instr = Halt } in
-    let j : Item = record { at = b.at; format = b.format; instr = Halt } in
-    same_lead Frame (frame_word machine words) 0 a.items b.items a.at b.at a.leads b.leads
-    (neither_less (length a.items) (length b.items) (too_long Frame (frame_word machine words) 0 a.items i a.leads a.halts refl b.items b.at b.leads) (too_long Frame (frame_word machine words) 0 b.items j b.leads b.halts refl a.items a.at a.leads))
-
 pub one_count : OneCount
 one_count w machine words list budget count depth count' depth' a b =
-    let s = last_same w machine words list budget count depth count' depth' a b in
+    let i : Item = record { at = a.at; format = a.format; instr = Halt } in
+    let j : Item = record { at = b.at; format = b.format; instr = Halt } in
+    -- the last items of two walks are one
+    let s = same_lead Frame (frame_word machine words) 0 a.items b.items a.at b.at a.leads b.leads
+    (neither_less (length a.items) (length b.items) (too_long Frame (frame_word machine words) 0 a.items i a.leads a.halts refl b.items b.at b.leads) (too_long Frame (frame_word machine words) 0 b.items j b.leads b.halts refl a.items a.at a.leads)) in
     let cells : Holds a.format Halt ≡ Holds b.format Halt = sym a.halts ∙ ap (cell_at (frame_word machine words)) s.place ∙ b.halts in
     let format : a.format ≡ b.format = cc cells in
-    let before : words_before (frame_context machine list) a.items ≡ words_before (frame_context machine list) b.items = ap (words_before (frame_context machine list)) s.items in
     record {
-      count_is = a.count_is ∙ ap (λ n. n + word_count a.format) before ∙ ap (λ x. words_before (frame_context machine list) b.items + word_count x) format ∙ sym b.count_is;
+      count_is = a.count_is ∙ ap (λ items. words_before (frame_context machine list) items + word_count a.format) s.items ∙ ap (λ x. words_before (frame_context machine list) b.items + word_count x) format ∙ sym b.count_is;
       depth_is = a.depth_is ∙ ap (depth_before (frame_context machine list)) s.items ∙ sym b.depth_is;
     }
 
@@ -83,31 +76,21 @@ one_count w machine words list budget count depth count' depth' a b =
 -- the rule of a number
 abbrev pub shape_rule_of : ℕ → ShapeWhy
 shape_rule_of n =
-    if n == 20 then shape.Unmapped else if n == 21 then shape.Odd else if n == 22 then shape.HaltInShape else if n == 23 then shape.BeamUnknown else if n == 24 then shape.ScaleUnknown else if n == 25 then shape.OffScreen else if n == 26 then shape.NoEntry else if n == 27 then shape.TooDeep else if n == 28 then shape.TooManyWords else if n == 29 then shape.EndDiffers else if n == 30 then shape.ScaleDiffers else if n == 31 then shape.BoxTooSmall else if n == 32 then shape.WordsDiffer else shape.DepthDiffers
+    if n == 20 then shape.Unmapped else if n == 21 then shape.Odd else if n == 22 then shape.HaltInShape else if n == 23 then shape.BeamUnknown else if n == 24 then shape.ScaleUnknown else if n == 25 then shape.OffScreen else if n == 26 then shape.NoEntry
+    else if n == 27 then shape.TooDeep else if n == 28 then shape.TooManyWords else if n == 29 then shape.EndDiffers else if n == 30 then shape.ScaleDiffers else if n == 31 then shape.BoxTooSmall else if n == 32 then shape.WordsDiffer else shape.DepthDiffers
 
 pub shape_rule_of-number : (why : ShapeWhy) → shape_rule_of (shape_number why) ≡ why
 shape_rule_of-number = elim [ shape.Unmapped ↦ refl | shape.Odd ↦ refl | shape.HaltInShape ↦ refl | shape.BeamUnknown ↦ refl | shape.ScaleUnknown ↦ refl | shape.OffScreen ↦ refl | shape.NoEntry ↦ refl | shape.TooDeep ↦ refl | shape.TooManyWords ↦ refl | shape.EndDiffers ↦ refl | shape.ScaleDiffers ↦ refl | shape.BoxTooSmall ↦ refl | shape.WordsDiffer ↦ refl | shape.DepthDiffers ↦ refl ]
 
-contains_at : (before after : List Entry) (e : Entry) → Contains (before ++ e ∷ after) e
-contains_at [] after e = (0, omega arith, refl)
-contains_at (x ∷ before) after e =
-    let h = contains_at before after e in
-    (suc h.0, omega (arith, h.1), h.2)
-
 pub no_shape_fault : NoShapeFault
 no_shape_fault mode w rom list f good s =
-    fault_or_none Shape (rom_word rom) s.entry.addr ShapeWhy (ShapePlaceKeeps mode w rom list s.entry) shape_number f.word f.why s.fault (good s.entry (subst (λ (l : List Entry). Contains l s.entry) (sym s.order_is) (contains_at s.before s.after s.entry)))
+    fault_or_none Shape (rom_word rom) s.entry.addr ShapeWhy (ShapePlaceKeeps mode w rom list s.entry) shape_number f.word f.why s.fault (good s.entry (subst (λ (l : List Entry). Contains l s.entry) (sym s.order_is) (Contains-append_right s.before (s.entry ∷ s.after) s.entry (0, omega arith, refl))))
 
 -- of two ways to cut a list at an entry, one cuts earlier, or both are the same
-data Cuts (P : Entry → Type 0) (e f : Entry) : Type 0 where
-  Earlier : P e → Cuts P e f
-  Later : P f → Cuts P e f
-  Together : e ≡ f → Cuts P e f
-
-cuts : (P : Entry → Type 0) (a b c d : List Entry) (e f : Entry) → a ++ e ∷ b ≡ c ++ f ∷ d → AllByRecursion P a → AllByRecursion P c → Cuts P e f
-cuts P [] b [] d e f is p q = Together (cc)
-cuts P [] b (x ∷ c) d e f is p q = let same : x ≡ e = cc in Earlier (subst P same q.0)
-cuts P (x ∷ a) b [] d e f is p q = let same : x ≡ f = cc in Later (subst P same p.0)
+cuts : (P : Entry → Type 0) (a b c d : List Entry) (e f : Entry) → a ++ e ∷ b ≡ c ++ f ∷ d → AllByRecursion P a → AllByRecursion P c → (P e ⊎ P f) ⊎ (e ≡ f)
+cuts P [] b [] d e f is p q = inr (cc)
+cuts P [] b (x ∷ c) d e f is p q = let same : x ≡ e = cc in inl (inl (subst P same q.0))
+cuts P (x ∷ a) b [] d e f is p q = let same : x ≡ f = cc in inl (inr (subst P same p.0))
 cuts P (x ∷ a) b (y ∷ c) d e f is p q = let rest : a ++ e ∷ b ≡ c ++ f ∷ d = cc in cuts P a b c d e f rest p.1 q.1
 
 pub one_shape_fault : OneShapeFault
@@ -118,17 +101,13 @@ one_shape_fault mode w rom list f g s t = by_cuts (cuts (GoodShape mode w rom li
 
     together : ShapeFaultAt mode w rom list s.entry g.word g.why → g.addr ≡ s.entry.addr → g.key ≡ s.entry.key → f ≡ g
     together fault addr key =
-        let same = same_items Shape (rom_word rom) s.entry.addr ShapeWhy (ShapePlaceKeeps mode w rom list s.entry) shape_number f.word g.word f.why g.why s.fault fault in
-        let o = same_order Shape (rom_word rom) s.entry.addr ShapeWhy (ShapePlaceKeeps mode w rom list s.entry) shape_number f.word g.word f.why g.why s.fault fault in
-        let why : f.why ≡ g.why = sym (shape_rule_of-number f.why) ∙ ap shape_rule_of o ∙ shape_rule_of-number g.why in
-        let addr_is : f.addr ≡ g.addr = s.addr ∙ sym addr in
-        let key_is : f.key ≡ g.key = s.key ∙ sym key in
-        λ x. record { addr = addr_is x; key = key_is x; word = same.place x; why = why x }
+        let one = one_place Shape (rom_word rom) s.entry.addr ShapeWhy (ShapePlaceKeeps mode w rom list s.entry) shape_number shape_rule_of shape_rule_of-number f.word g.word f.why g.why s.fault fault in
+        λ x. record { addr = (s.addr ∙ sym addr) x; key = (s.key ∙ sym key) x; word = one.0 x; why = one.1 x }
 
-    by_cuts : Cuts (GoodShape mode w rom list) s.entry t.entry → f ≡ g
-    by_cuts (Earlier good) = absurd (no_good s.entry f.word f.why s.fault good)
-    by_cuts (Later good) = absurd (no_good t.entry g.word g.why t.fault good)
-    by_cuts (Together same) =
+    by_cuts : (GoodShape mode w rom list s.entry ⊎ GoodShape mode w rom list t.entry) ⊎ (s.entry ≡ t.entry) → f ≡ g
+    by_cuts (inl (inl good)) = absurd (no_good s.entry f.word f.why s.fault good)
+    by_cuts (inl (inr good)) = absurd (no_good t.entry g.word g.why t.fault good)
+    by_cuts (inr same) =
         together
         (subst (λ (e : Entry). ShapeFaultAt mode w rom list e g.word g.why) (sym same) t.fault)
         (t.addr ∙ ap (λ (e : Entry). e.addr) (sym same))

@@ -18,9 +18,6 @@ pub record Walked {Why : Type 0} (c : Context) (word : Source) (first : ℕ) (ke
   pub knows : cursor.known ≡ known_before c items
   pub sound : IsSoundCursor cursor
 
-pub seen_known : (c : Context) (earlier : List Item) (i : Item) (known : Known) → known ≡ known_before c earlier → seen_at c earlier i ≡ seen_by c.machine c.list c.kind known i
-seen_known c earlier i known is = ap (λ (k : Known). seen_by c.machine c.list c.kind k i) (sym is)
-
 module _ (Why : Type 0) (order : Why → ℕ) (missing odd : Why) (Keeps : Seen → Why → Type 0) (kind : Kind) (list : List Entry) (scale : Key) (word : Source) (first : ℕ) where
   abbrev machine : Machine
   machine = word.machine
@@ -64,45 +61,32 @@ module _ (Why : Type 0) (order : Why → ℕ) (missing odd : Why) (Keeps : Seen 
     seen = seen_by machine list kind cursor.known item
 
     same : seen_at context k.items item ≡ seen
-    same = seen_known context k.items item cursor.known k.knows
+    same = ap (λ (known : Known). seen_by machine list kind known item) (sym k.knows)
 
     kept_here : (why : Why) → Keeps seen why → keeps k.items cursor.at why
     kept_here why h = subst (CellKept k.items cursor.at why) (sym is) (subst (λ x. Keeps x why) (sym same) h)
 
-    pub broken : (es : List Entry) (why : Why) → es ≡ list → BreaksFirst order Keeps (seen_by machine es kind cursor.known item) why → FaultAt order kind word first keeps cursor.at why
-    broken es why es_are breaks =
-        let b = subst (λ (l : List Entry). BreaksFirst order Keeps (seen_by machine l kind cursor.known item) why) es_are breaks in
-        search (rules, k.kept)
-
-    seen_found : (s : Seen) → s ≡ seen → IsFound context word k.items cursor.at (found.Seen s)
-    seen_found s s_is = subst (λ x. IsFound context word k.items cursor.at (found.Seen x)) (sym s_is) (refl, is, sym same)
-
     pub found_broken : (es : List Entry) (why : Why) (s : Seen) → es ≡ list → BreaksFirst order Keeps (seen_by machine es kind cursor.known item) why → s ≡ seen_by machine es kind cursor.known item
         → FaultFound order context word first keeps cursor.at why cursor.known (found.Seen s)
-    unfolding broken
     found_broken es why s es_are breaks s_is =
-        record { fault = broken es why es_are breaks; known = k.knows; stands = seen_found s (s_is ∙ ap (λ (l : List Entry). seen_by machine l kind cursor.known item) es_are) }
-
-    kept_by : (es : List Entry) (step : Step) → es ≡ list → KeepsAll Keeps kind (seen_by machine es kind cursor.known item) step → KeepsAll Keeps kind seen step
-    kept_by es step es_are h = subst (λ (l : List Entry). KeepsAll Keeps kind (seen_by machine l kind cursor.known item) step) es_are h
-
-    known_on : (after : Known) → after ≡ seen.after → after ≡ known_before context (item ∷ k.items)
-    known_on after e = e ∙ ap (λ (x : Seen). x.after) (sym same)
+        let b = subst (λ (l : List Entry). BreaksFirst order Keeps (seen_by machine l kind cursor.known item) why) es_are breaks in
+        record { fault = search (rules, k.kept); known = k.knows; stands = subst (λ x. IsFound context word k.items cursor.at (found.Seen x)) (sym (s_is ∙ ap (λ (l : List Entry). seen_by machine l kind cursor.known item) es_are)) (refl, is, sym same) }
 
     pub onward : (es : List Entry) (step : Step) (next : Cursor) → es ≡ list → step ≡ Onward next → KeepsAll Keeps kind (seen_by machine es kind cursor.known item) step → Walked context word first keeps next
     onward es step next es_are step_is keeps_all =
-        let h = kept_by es step es_are keeps_all in
+        let h = subst (λ (l : List Entry). KeepsAll Keeps kind (seen_by machine l kind cursor.known item) step) es_are keeps_all in
         let on = leads_on kind seen step next step_is h.leads in
         record {
           items = item ∷ k.items;
           leads = (k.leads, is, on.0);
           kept = (k.kept, λ why. kept_here why (h.kept why));
-          knows = known_on next.known on.1;
+          knows = on.1 ∙ ap (λ (x : Seen). x.after) (sym same);
           sound = subst IsSoundStep step_is h.sound;
         }
 
     pub done : (es : List Entry) (step : Step) (known : Known) → es ≡ list → step ≡ Last known → KeepsAll Keeps kind (seen_by machine es kind cursor.known item) step → WalksTo context word first keeps known
     done es step known es_are step_is keeps_all =
-        let h = kept_by es step es_are keeps_all in
+        let h = subst (λ (l : List Entry). KeepsAll Keeps kind (seen_by machine l kind cursor.known item) step) es_are keeps_all in
         let end = ends_at kind seen step known step_is h.leads in
-        search (all_kept kind word first Why keeps k.items item k.leads is end.0 (k.kept, λ why. kept_here why (h.kept why)), item, is, end.0, known_on known end.1)
+        let knows : known ≡ known_before context (item ∷ k.items) = end.1 ∙ ap (λ (x : Seen). x.after) (sym same) in
+        search (all_kept kind word first Why keeps k.items item k.leads is end.0 (k.kept, λ why. kept_here why (h.kept why)), item, is, end.0, knows)

@@ -1,22 +1,19 @@
 -- Runs: they go on, they are determined, and what is recorded only grows.
-use Rattle.dvg_check.proofs.Common.{Machine, List, zero, arith, subst, sym, suc, ap, refl, Bool, true, false, nat_lt, length, max, ◌≡◌, ◌+◌, ◌≤◌, ◌∷◌, ◌++◌, ◌∙◌, ℕ, [], cell_at, Status, Reached, Running, Halted, Fault, State, Stroke, after_call, after_return, after_instruction, lit_by, after_cell, next_status, after_fetch, Memory, word_at, Cell, Missing, Odd, Holds, Format, Instr, Labs, Halt, Jsrl, Rtsl, Jmpl, state_of, Counts, Stretch, Mode, Bound, Exact, append_assoc, length-append, fetches, Draws, all_append, all_map}
+use Rattle.dvg_check.proofs.Common.{Machine, List, zero, arith, subst, sym, suc, ap, refl, nat_lt, length, max, ◌≡◌, ◌+◌, ◌≤◌, ◌++◌, ◌∙◌, ℕ, [], cell_at, Status, Reached, Running, Halted, State, Stroke, lit_by, after_cell, next_status, after_fetch, Memory, word_at, Cell, Holds, state_of, Counts, Stretch, Mode, append_assoc, length-append, fetches, Draws, all_append, all_map}
 use Rattle.dvg_words.specs.Generator.{Step}
 
 -- ---- runs
 
 pub reached_on : (m : Memory) (i j : ℕ) (a b c : Status) → Reached m i a b → Reached m j b c → Reached m (i + j) a c
 reached_on m zero j a b c r q =
-    let e : j ≡ 0 + j = omega arith in
-    subst (λ n. Reached m n a c) e (subst (λ x. Reached m j x c) (sym r) q)
+    grind (arith)
 reached_on m (suc i) j a b c r q =
     let e : suc (i + j) ≡ suc i + j = omega arith in
     let on : Reached m (suc (i + j)) a c = (r.0, r.1, reached_on m i j r.0 b c r.2 q) in
     subst (λ n. Reached m n a c) e on
 
 same_step : (m : Memory) (a b c : Status) → Step m a b → Step m a c → b ≡ c
-same_step m (Running s) b c p q = sym p ∙ q
-same_step m (Halted s) b c p q = absurd p
-same_step m (Fault s) b c p q = absurd p
+same_step m a b c p q = grind (arith)
 
 -- a state that a run to a halt passes leads to that halt
 pub rest_of : (m : Memory) (i k : ℕ) (a b : Status) (h : State) → Reached m i a b → Reached m k a (Halted h) → (j : ℕ) × (i + j ≡ k) × Reached m j b (Halted h)
@@ -46,62 +43,40 @@ grows_on s t u a b =
       stored = omega (arith, a.stored, b.stored);
     }
 
-stays : (s : State) → Grows s s
-stays s = record { words = []; fetched = refl; strokes = []; drew = refl; stored = omega arith }
+stays : (s t : State) → t.fetched ≡ s.fetched → t.strokes ≡ s.strokes → s.max_stack ≤ t.max_stack → Grows s t
+stays s t fetched drew stored = record { words = []; fetched = fetched; strokes = []; drew = drew; stored = stored }
 
-grows_call : (room : Bool) (to : ℕ) (s : State) → Grows s (state_of (after_call room to s))
-grows_call true to s = record { words = []; fetched = refl; strokes = []; drew = refl; stored = omega arith }
-grows_call false to s = stays s
-
-grows_back : (rs : List ℕ) (s : State) → Grows s (state_of (after_return rs s))
-grows_back [] s = stays s
-grows_back (r ∷ rs) s = record { words = []; fetched = refl; strokes = []; drew = refl; stored = omega arith }
-
-grows_perform : (a : Machine) (i : Instr) (format : Format) (s : State) → Grows s (state_of (after_instruction a i format s))
-grows_perform a (Draws d) format s = record { words = []; fetched = refl; strokes = lit_by d.bright _; drew = refl; stored = omega arith }
-grows_perform a (Labs x y g) format s = record { words = []; fetched = refl; strokes = []; drew = refl; stored = omega arith }
-grows_perform a Halt format s = stays s
-grows_perform a (Jsrl to) format s = grows_call (nat_lt (length s.return_stack) 4) to s
-grows_perform a Rtsl format s = grows_back s.return_stack s
-grows_perform a (Jmpl to) format s = record { words = []; fetched = refl; strokes = []; drew = refl; stored = omega arith }
-
-grows_act : (a : Machine) (f : Cell) (s : State) → Grows s (state_of (after_cell a f s))
-grows_act a Missing s = stays s
-grows_act a Odd s = stays s
-grows_act a (Holds format i) s = grows_perform a i format s
+grows_cell : (a : Machine) (cell : Cell) (s : State) → Grows s (state_of (after_cell a cell s))
+grows_cell a (Holds format (Draws d)) s = record { words = []; fetched = refl; strokes = lit_by d.bright _; drew = refl; stored = omega arith }
+grows_cell a cell s = grind (arith, stays, nat_lt)
 
 grows_next : (m : Memory) (s : State) → Grows s (state_of (next_status m s))
 unfolding next_status
 grows_next m s =
     let f : Grows s (after_fetch m s) = record { words = fetches ((word_at m).word s.pc) s.pc; fetched = refl; strokes = []; drew = refl; stored = omega arith } in
-    grows_on s (after_fetch m s) _ f (grows_act m.rom.machine (cell_at (word_at m) s.pc) (after_fetch m s))
+    grows_on s (after_fetch m s) _ f (grows_cell m.rom.machine (cell_at (word_at m) s.pc) (after_fetch m s))
 
 grows_step : (m : Memory) (a b : Status) → Step m a b → Grows (state_of a) (state_of b)
 grows_step m (Running s) b p = subst (λ x. Grows s (state_of x)) p (grows_next m s)
-grows_step m (Halted s) b p = absurd p
-grows_step m (Fault s) b p = absurd p
+grows_step m a b p = absurd p
 
 pub grows : (m : Memory) (n : ℕ) (a b : Status) → Reached m n a b → Grows (state_of a) (state_of b)
-grows m zero a b r = subst (λ x. Grows (state_of a) (state_of x)) r (stays (state_of a))
+grows m zero a b r = subst (λ x. Grows (state_of a) (state_of x)) r (stays (state_of a) (state_of a) refl refl (omega arith))
 grows m (suc n) a b r = grows_on (state_of a) (state_of r.0) (state_of b) (grows_step m a r.0 r.1) (grows m n r.0 b r.2)
 
 -- ---- stretches of a run
 
 pub counts_same : (mode : Mode) (a b : ℕ) → a ≡ b → Counts mode a b
-counts_same Bound a b e = omega (arith, e)
-counts_same Exact a b e = e
+counts_same mode a b e = grind (arith)
 
 pub counts_le : (mode : Mode) (a b : ℕ) → Counts mode a b → a ≤ b
-counts_le Bound a b h = h
-counts_le Exact a b h = omega (arith, h)
+counts_le mode a b h = grind (arith)
 
 pub counts_sum : (mode : Mode) (x y z a b c : ℕ) → x + y ≡ z → Counts mode x a → Counts mode y b → Counts mode (a + b) c → Counts mode z c
-counts_sum Bound x y z a b c e h k l = omega (arith, e, h, k, l)
-counts_sum Exact x y z a b c e h k l = omega (arith, e, h, k, l)
+counts_sum mode x y z a b c e h k l = grind (arith)
 
 pub counts_max : (mode : Mode) (s t u a b c : ℕ) → Counts mode t (max s a) → Counts mode u (max t b) → Counts mode (max a b) c → Counts mode u (max s c)
-counts_max Bound s t u a b c h k l = omega (arith, h, k, l)
-counts_max Exact s t u a b c h k l = omega (arith, h, k, l)
+counts_max mode s t u a b c h k l = grind (arith)
 
 pub stretch_on : (mode : Mode) (m : Memory) (F : ℕ → Type 0) (P : Stroke → Type 0) (a b c d1 d2 d : ℕ) (s t u : State) → Counts mode (a + b) c → Counts mode (max d1 d2) d → Stretch mode m F P a d1 s t → Stretch mode m F P b d2 t u → Stretch mode m F P c d s u
 stretch_on mode m F P a b c d1 d2 d s t u le deep p q =

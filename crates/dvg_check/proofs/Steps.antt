@@ -1,15 +1,12 @@
 -- One item: what stands at a place, and what a draw or a LABS does.
-use Rattle.dvg_check.proofs.Common.{Source, Machine, arith, Option, Some, ap, sym, List, length, nat_le, nat_lt, ◌≡◌, ◌+◌, ◌-◌, ◌<◌, ◌∷◌, ◌++◌, ◌∙◌, ℕ, ⊎_elim, cases_lt, nat_tests, AllByRecursion, shift, displacement, labs_place, cell_of_format, cell_of_words, format_of, cell_at, word_count, places, State, next_status, after_instruction, after_cell, after_fetch, Memory, InRom, IsMemory, word_at, Point, Holds, Format, Instr, Labs, Halt, Jsrl, Rtsl, Jmpl, End, Rel, Abs, Lost, shift_shift, PlaceFits, ScaleFits, place_moved_by, Context, place_before, callee, scale_before, place_past, word_of, Item, Kind, Shape, Frame, Effect, slice_get, fetches, InFrame, Draws, effect_of, draw_effect, IsDrawOrLabs, Past, OneItem}
-use Rattle.std.proofs.lemmas.Option.{slice_get_past}
+use Rattle.dvg_check.proofs.Common.{Source, Machine, arith, Some, ap, sym, List, nat_le, nat_lt, ◌≡◌, ◌+◌, ◌∷◌, ◌++◌, ◌∙◌, ℕ, nat_tests, AllByRecursion, shift, displacement, labs_place, cell_of_format, cell_of_words, format_of, cell_at, word_count, places, State, next_status, after_instruction, after_cell, after_fetch, Memory, InRom, IsMemory, word_at, Point, Holds, Format, Instr, Labs, End, Rel, Abs, Lost, shift_shift, PlaceFits, ScaleFits, place_moved_by, Context, place_before, callee, scale_before, place_past, word_of, Item, Kind, Shape, Frame, Effect, slice_get, fetches, InFrame, Draws, effect_of, draw_effect, IsDrawOrLabs, Past, OneItem}
+use Rattle.std.proofs.lemmas.Option.{slice_get_within}
 
 -- ---- what stands at a place
 
-fetches_of : (machine : Machine) (a b : Option ℕ) (format : Format) (i : Instr) (p : ℕ) → cell_of_words machine a b ≡ Holds format i → fetches a p ≡ places format p
-fetches_of machine a b format i p e = grind (arith, places, format_of)
-
 pub fetches_there : (get : Source) (p : ℕ) (format : Format) (i : Instr) → cell_at get p ≡ Holds format i → fetches (get.word p) p ≡ places format p
 unfolding cell_at
-fetches_there get p format i e = fetches_of get.machine (get.word p) (get.word (p + 1)) format i p e
+fetches_there get p format i e = grind (arith, places, format_of)
 
 -- what has all words of another on the same machine has its instructions
 record Within (get all : Source) (Ok : ℕ → Type 0) : Type 0 where
@@ -17,31 +14,22 @@ record Within (get all : Source) (Ok : ℕ → Type 0) : Type 0 where
   same : (p x : ℕ) → get.word p ≡ Some x → all.word p ≡ Some x
   ok : (p x : ℕ) → get.word p ≡ Some x → Ok p
 
-cell_up : (get all : Source) (Ok : ℕ → Type 0) (p : ℕ) (format : Format) (i : Instr) → Within get all Ok → cell_at get p ≡ Holds format i → cell_at all p ≡ Holds format i
-unfolding cell_at
-cell_up get all Ok p format i h e = grind (arith, cell_of_words, format_of)
-
-cell_ok : (get all : Source) (Ok : ℕ → Type 0) (p : ℕ) (format : Format) (i : Instr) → Within get all Ok → cell_at get p ≡ Holds format i → AllByRecursion Ok (places format p)
-unfolding cell_at
-cell_ok get all Ok p format i h e = grind (arith, fetches_there, format_of, cell_of_format, places)
-
 -- ---- the two parts of the memory
 
 abbrev pub IsOwn : Kind → Memory → ℕ → Type 0
 IsOwn Shape m p = InRom m.rom.map p
 IsOwn Frame m p = InFrame m.frame p
 
-within_slice : (l : List ℕ) (k x : ℕ) → slice_get l k ≡ Some x → k < length l
-within_slice l k x e = ⊎_elim (λ lt. lt) (λ le. let n = slice_get_past l k le in cc) (cases_lt k (length l))
-
 within : (kind : Kind) (m : Memory) → IsMemory m → Within (word_of kind m) (word_at m) (IsOwn kind m)
-within kind m mem = grind (arith, nat_le, slice_get, nat_tests, nat_lt, within_slice)
+within kind m mem = grind (arith, nat_le, slice_get, nat_tests, nat_lt, slice_get_within)
 
 pub stands : (kind : Kind) (m : Memory) (p : ℕ) (format : Format) (i : Instr) → IsMemory m → cell_at (word_of kind m) p ≡ Holds format i → cell_at (word_at m) p ≡ Holds format i
-stands kind m p format i mem e = cell_up (word_of kind m) (word_at m) (IsOwn kind m) p format i (within kind m mem) e
+unfolding cell_at
+stands kind m p format i mem e = let h = within kind m mem in grind (arith, cell_of_words, format_of)
 
 pub own : (kind : Kind) (m : Memory) (p : ℕ) (format : Format) (i : Instr) → IsMemory m → cell_at (word_of kind m) p ≡ Holds format i → AllByRecursion (IsOwn kind m) (places format p)
-own kind m p format i mem e = cell_ok (word_of kind m) (word_at m) (IsOwn kind m) p format i (within kind m mem) e
+unfolding cell_at
+own kind m p format i mem e = let h = within kind m mem in grind (arith, fetches_there, format_of, cell_of_format, places)
 
 -- ---- the step
 
@@ -62,17 +50,18 @@ effect c earlier i = effect_of c.machine i (scale_before c earlier) (callee c ea
 
 -- ---- the law on one item
 
-item_step : (m : Memory) (c : Context) (earlier : List Item) (at : ℕ) (format : Format) (instr : Instr) (base : Point) (s : State) → c.machine ≡ m.rom.machine → cell_at (word_at m) at ≡ Holds format instr → IsDrawOrLabs instr → s.pc ≡ at → PlaceFits (place_before c earlier) base s.place → ScaleFits (scale_before c earlier) s.scale → (t : State) × Past m base (record { at = at; format = format; instr = instr }) (place_before c (record { at = at; format = format; instr = instr } ∷ earlier)) (scale_before c (record { at = at; format = format; instr = instr } ∷ earlier)) s t
-item_step m c earlier at format (Draws d) base s same e k pc place scale = grind (arith, (places format s.pc), (next_there m s format (Draws d) (ap (cell_at (word_at m)) pc ∙ e)), (cell_at (word_at m)), (word_at m), (word_count format), (place_past (draw_effect c.machine d (scale_before c earlier)) (place_before c earlier)), (scale_before c earlier), (place_before c earlier), shift, displacement, place_moved_by, fits_moved, places)
+item_step :
+    (m : Memory) (c : Context) (earlier : List Item) (at : ℕ) (format : Format) (instr : Instr) (base : Point) (s : State) → c.machine ≡ m.rom.machine → cell_at (word_at m) at ≡ Holds format instr → IsDrawOrLabs instr
+    → s.pc ≡ at → PlaceFits (place_before c earlier) base s.place → ScaleFits (scale_before c earlier) s.scale
+    → (t : State) × Past m base (record { at = at; format = format; instr = instr }) (place_before c (record { at = at; format = format; instr = instr } ∷ earlier)) (scale_before c (record { at = at; format = format; instr = instr } ∷ earlier)) s t
+item_step m c earlier at format (Draws d) base s same e k pc place scale =
+    grind (arith, (places format s.pc), (next_there m s format (Draws d) (ap (cell_at (word_at m)) pc ∙ e)), (cell_at (word_at m)), (word_at m), (word_count format), (place_past (draw_effect c.machine d (scale_before c earlier)) (place_before c earlier)), (scale_before c earlier), (place_before c earlier), shift, displacement, place_moved_by, fits_moved, places)
 item_step m c earlier at format (Labs x y g) base s same e k pc place scale =
     let i : Item = record { at = at; format = format; instr = Labs x y g } in (
       record s { pc = s.pc + word_count format; place = labs_place m.rom.machine x y; scale = g; fetched = places format s.pc ++ s.fetched },
       search (next_there m s format (Labs x y g) (ap (cell_at (word_at m)) pc ∙ e), ap (λ p. p + word_count format) pc, ap (λ (k : Machine). labs_place k x y) (sym same), ap (λ p. places format p ++ s.fetched) pc),
     )
-item_step m c earlier at format Halt base s same e k pc place scale = absurd k
-item_step m c earlier at format (Jsrl to) base s same e k pc place scale = absurd k
-item_step m c earlier at format Rtsl base s same e k pc place scale = absurd k
-item_step m c earlier at format (Jmpl to) base s same e k pc place scale = absurd k
+item_step m c earlier at format instr base s same e k pc place scale = absurd k
 
 pub one_item : OneItem
 one_item m c first earlier i base s mem same lead e kind pc place scale = grind (arith, item_step, stands)

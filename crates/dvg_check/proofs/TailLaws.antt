@@ -1,27 +1,18 @@
 -- A weaker claim of a good shape is good, and so is an item before a good tail.
-use Rattle.dvg_check.proofs.Common.{Machine, arith, List, Option, None, Some, refl, sym, ap, subst, inl, inr, max, pos, ⊎_elim, ◌≡◌, ◌⊎◌, ◌+◌, ◌≤◌, ◌∷◌, ◌∙◌, ℕ, [], ints, cell_at, word_count, Rom, rom_word, Window, Point, Cell, Holds, Missing, Odd, End, Rel, Abs, Lost, Entry, Key, LitBox, Empty, Span, LeadsTo, next_address, Context, known_before, place_past, callee_words, depth_under, target, PlaceKnown, ScaleKnown, LitInWindow, LitInBox, InBox, IsInside, seen_at, Item, Shape, Known, LitExtent, Effect, Seen, Counts, AtLast, AsClaimed, CellKeeps, ShapeKeeps, ShapePlaceKeeps, GoodShape, Mode, Bound, Exact, ShapeWhy, rules, Nothing, Between, Anywhere, item_same, too_long, seen_by, ClaimsLess, known_at_end, claimed, place_over, known_over, first_seen, MayStandAt, MayStandFirst, IsBehind, last_item, after_item}
-use Rattle.dvg_items.specs.declared.known.Effect.TheVariants.{Sets, Loses, Moves}
+use Rattle.dvg_check.proofs.Common.{ℤ, shift, moved, InWindow, Machine, arith, List, None, Some, refl, sym, ap, subst, inl, inr, max, pos, ⊎_elim, ◌≡◌, ◌⊎◌, ◌≤◌, ◌∷◌, ◌∙◌, ℕ, [], ints, cell_at, word_count, Rom, rom_word, Window, Point, Cell, Holds, Missing, Odd, End, Rel, Abs, Lost, Entry, Key, LitBox, Empty, Span, LeadsTo, next_address, Context, known_before, place_past, callee_words, depth_under, target, PlaceKnown, ScaleKnown, LitInWindow, LitInBox, InBox, IsInside, seen_at, Item, Shape, Known, LitExtent, Effect, Seen, CellKeeps, ShapeKeeps, ShapePlaceKeeps, GoodShape, Mode, Bound, Exact, ShapeWhy, rules, Nothing, Between, Anywhere, item_same, too_long, seen_by, ClaimsLess, known_at_end, claimed, place_over, known_over, first_seen, MayStandAt, MayStandFirst, IsBehind, last_item, after_item}
+use Rattle.dvg_items.specs.declared.known.Effect.TheVariants.{Moves}
 use Rattle.dvg_items.proofs.PlaceLaw.{moves_on}
+use Rattle.dvg_check.specs.Private.Tails.{BoxInWindow}
 use Rattle.dvg_check.specs.declared.fault.ShapeWhy.TheVariants as shape
 use Rattle.dvg_check.proofs.Runs.{counts_le}
 
 -- ---- rules of a weaker claim
-
-at_last : (o : Option ℕ) (P Q : Type 0) → (P → Q) → AtLast o P → AtLast o Q
-at_last o P Q f h = grind (arith)
 
 -- what is good in the one mode is good in the other
 abbrev pub Weakens : Mode → Mode → Type 0
 Weakens mode Bound = Unit {0}
 Weakens Exact Exact = Unit {0}
 Weakens Bound Exact = ⊥
-
-same_mode : (mode : Mode) → Weakens mode mode
-same_mode Bound = tt
-same_mode Exact = tt
-
-as_claimed : (mode to : Mode) (n a b : ℕ) → Weakens mode to → Counts mode a b → AsClaimed mode n a → AsClaimed to n b
-as_claimed mode to n a b weakens le h = grind (arith)
 
 -- what keeps all rules there keeps all of others, whatever stands at the place
 cell_keeps : (K L : Item → ShapeWhy → Type 0) (p : ℕ) (cell : Cell) → ((i : Item) → ((why : ShapeWhy) → K i why) → (why : ShapeWhy) → L i why) → ((why : ShapeWhy) → CellKeeps shape.Unmapped shape.Odd K p cell why) → (why : ShapeWhy) → CellKeeps shape.Unmapped shape.Odd L p cell why
@@ -34,31 +25,18 @@ in_more Empty whole p inside h = absurd h
 in_more (Span a b c d) Empty p inside h = inside
 in_more (Span a b c d) (Span e f g k) p inside h = search (rules)
 
--- what has no corners has them in every box and in every window
-nothing_in_box : (box : LitBox) (place : End) → LitInBox box Nothing place
-nothing_in_box box place = grind (arith)
-
-nothing_in_window : (w : Window) (place : End) → LitInWindow w Nothing place
-nothing_in_window w place = grind (arith)
-
 pub lit_in_more : (part whole : LitBox) (lit : LitExtent) (place : End) → IsInside part whole → LitInBox part lit place → LitInBox whole lit place
-lit_in_more part whole lit place inside h = grind (arith, nothing_in_box, in_more)
+lit_in_more part whole lit place inside h = grind (arith, in_more)
 
 less_keeps : (mode to : Mode) (w : Window) (e strong : Entry) (v : Seen) → Weakens mode to → ClaimsLess mode e strong → ((why : ShapeWhy) → ShapeKeeps mode w strong v why) → (why : ShapeWhy) → ShapeKeeps to w e v why
-less_keeps mode to w e strong v weakens c h shape.Unmapped = tt
-less_keeps mode to w e strong v weakens c h shape.Odd = tt
-less_keeps mode to w e strong v weakens c h shape.HaltInShape = h shape.HaltInShape
-less_keeps mode to w e strong v weakens c h shape.BeamUnknown = h shape.BeamUnknown
-less_keeps mode to w e strong v weakens c h shape.ScaleUnknown = h shape.ScaleUnknown
-less_keeps mode to w e strong v weakens c h shape.OffScreen = h shape.OffScreen
-less_keeps mode to w e strong v weakens c h shape.NoEntry = h shape.NoEntry
 less_keeps mode to w e strong v weakens c h shape.TooDeep = let le : depth_under v.item.instr v.callee ≤ strong.depth = h shape.TooDeep in omega (arith, le, counts_le mode strong.depth e.depth c.depth)
 less_keeps mode to w e strong v weakens c h shape.TooManyWords = let le : v.after.words ≤ strong.words = h shape.TooManyWords in omega (arith, le, counts_le mode strong.words e.words c.words)
-less_keeps mode to w e strong v weakens c h shape.EndDiffers = at_last (next_address Shape v.item) (v.after.place ≡ strong.stop) (v.after.place ≡ e.stop) (λ is. is ∙ sym c.stop) (h shape.EndDiffers)
-less_keeps mode to w e strong v weakens c h shape.ScaleDiffers = at_last (next_address Shape v.item) (v.after.scale ≡ strong.scale) (v.after.scale ≡ e.scale) (λ is. is ∙ sym c.scale) (h shape.ScaleDiffers)
+less_keeps mode to w e strong v weakens c h shape.EndDiffers = let end = h shape.EndDiffers in grind (arith, c.stop)
+less_keeps mode to w e strong v weakens c h shape.ScaleDiffers = let end = h shape.ScaleDiffers in grind (arith, c.scale)
 less_keeps mode to w e strong v weakens c h shape.BoxTooSmall = lit_in_more strong.lit e.lit v.extent v.place c.lit (h shape.BoxTooSmall)
-less_keeps mode to w e strong v weakens c h shape.WordsDiffer = at_last (next_address Shape v.item) (AsClaimed mode v.after.words strong.words) (AsClaimed to v.after.words e.words) (as_claimed mode to v.after.words strong.words e.words weakens c.words) (h shape.WordsDiffer)
-less_keeps mode to w e strong v weakens c h shape.DepthDiffers = at_last (next_address Shape v.item) (AsClaimed mode v.after.depth strong.depth) (AsClaimed to v.after.depth e.depth) (as_claimed mode to v.after.depth strong.depth e.depth weakens c.depth) (h shape.DepthDiffers)
+less_keeps mode to w e strong v weakens c h shape.WordsDiffer = let words = h shape.WordsDiffer in grind (arith, c.words)
+less_keeps mode to w e strong v weakens c h shape.DepthDiffers = let depth = h shape.DepthDiffers in grind (arith, c.depth)
+less_keeps mode to w e strong v weakens c h why = h why
 
 -- what an item of a shape keeps of a claim
 abbrev Kept : Machine → Mode → Window → List Entry → Entry → Key → List Item → Item → ShapeWhy → Type 0
@@ -67,16 +45,12 @@ Kept a mode w list e key earlier i = ShapeKeeps mode w e (seen_at (record { kind
 -- a weaker claim of a good shape is good
 pub good_less : (mode to : Mode) (w : Window) (rom : Rom) (list : List Entry) (e strong : Entry) → Weakens mode to → ClaimsLess mode e strong → GoodShape mode w rom list strong → GoodShape to w rom list e
 good_less mode to w rom list e strong weakens c good earlier p lead why =
-    cell_keeps (Kept rom.machine mode w list strong strong.key earlier) (Kept rom.machine to w list e e.key earlier) p (cell_at (rom_word rom) p) on (good earlier p there) why
-  where
-    there : LeadsTo Shape (rom_word rom) strong.addr earlier p
-    there = subst (λ (a : ℕ). LeadsTo Shape (rom_word rom) a earlier p) c.addr lead
-
-    on : (i : Item) → ((x : ShapeWhy) → Kept rom.machine mode w list strong strong.key earlier i x) → (x : ShapeWhy) → Kept rom.machine to w list e e.key earlier i x
-    on i h = less_keeps mode to w e strong (seen_at (record { kind = Shape; machine = rom.machine; list = list; scale = e.key }) earlier i) weakens c (λ x. subst (λ (k : Key). Kept rom.machine mode w list strong k earlier i x) (sym c.key) (h x))
+    cell_keeps (Kept rom.machine mode w list strong strong.key earlier) (Kept rom.machine to w list e e.key earlier) p (cell_at (rom_word rom) p)
+    (λ i h. less_keeps mode to w e strong (seen_at (record { kind = Shape; machine = rom.machine; list = list; scale = e.key }) earlier i) weakens c (λ x. subst (λ (k : Key). Kept rom.machine mode w list strong k earlier i x) (sym c.key) (h x)))
+    (good earlier p (subst (λ (a : ℕ). LeadsTo Shape (rom_word rom) a earlier p) c.addr lead)) why
 
 pub weaker_claim : (mode : Mode) (w : Window) (rom : Rom) (list : List Entry) (e strong : Entry) → ClaimsLess mode e strong → GoodShape mode w rom list strong → GoodShape mode w rom list e
-weaker_claim mode w rom list e strong c good = good_less mode mode w rom list e strong (same_mode mode) c good
+weaker_claim mode w rom list e strong c good = good_less mode mode w rom list e strong (grind (arith)) c good
 
 -- ---- rules behind what is known
 
@@ -86,43 +60,30 @@ record MayLight (w : Window) (whole : LitBox) (lit : LitExtent) (place : End) : 
   shown : LitInWindow w lit place
   boxed : LitInBox whole lit place
 
+-- a point in a tail's box, from where the tail stands
+window_over : (w : Window) (l r d t : ℤ) (first second p : Point) → BoxInWindow w (moved (Span l r d t) first) → InBox (Span l r d t) (shift second p) → InWindow w (shift (shift first second) p)
+window_over w l r d t first second p m h = record { left = omega (arith, ints, m.0.left, h.left); right = omega (arith, ints, m.1.right, h.right); bottom = omega (arith, ints, m.0.bottom, h.bottom); top = omega (arith, ints, m.1.top, h.top) }
+
+box_over : (whole : LitBox) (l r d t : ℤ) (first second p : Point) → IsInside (moved (Span l r d t) first) whole → InBox (Span l r d t) (shift second p) → InBox whole (shift (shift first second) p)
+box_over Empty l r d t first second p m h = absurd m
+box_over (Span l' r' d' t') l r d t first second p m h = record { left = omega (arith, ints, m.0, h.left); right = omega (arith, ints, m.1, h.right); bottom = omega (arith, ints, m.2, h.bottom); top = omega (arith, ints, m.3, h.top) }
+
 -- what is lit at a relative place in a tail's box lies, from where the tail stands, where it may
 lit_over : (w : Window) (whole box : LitBox) (lit : LitExtent) (place second : End) → MayStandAt w whole box place → PlaceKnown lit second → ScaleKnown lit → LitInWindow w lit second → LitInBox box lit second → MayLight w whole lit (place_over place second)
-lit_over w whole box Nothing place second m known scale shown boxed = record { known = tt; shown = nothing_in_window w (place_over place second); boxed = nothing_in_box whole (place_over place second) }
+lit_over w whole box Nothing place second m known scale shown boxed = record { known = tt; shown = grind (arith); boxed = grind (arith) }
 lit_over w whole box Anywhere place second m known scale shown boxed = absurd scale
 lit_over w whole box (Between a b) place Lost m known scale shown boxed = absurd (known refl)
 lit_over w whole box (Between a b) place (Abs x y) m known scale shown boxed = record { known = known; shown = shown; boxed = tt }
 lit_over w whole Empty (Between a b) place (Rel x y) m known scale shown boxed = absurd boxed.0
 lit_over w whole (Span l r d t) (Between a b) Lost (Rel x y) m known scale shown boxed = absurd m
 lit_over w whole (Span l r d t) (Between a b) (Abs u v) (Rel x y) m known scale shown boxed =
-    record {
-      known = λ is. cc;
-      shown = (
-        record { left = omega (arith, ints, m.0.left, boxed.0.left); right = omega (arith, ints, m.1.right, boxed.0.right); bottom = omega (arith, ints, m.0.bottom, boxed.0.bottom); top = omega (arith, ints, m.1.top, boxed.0.top) },
-        (record { left = omega (arith, ints, m.0.left, boxed.1.0.left); right = omega (arith, ints, m.1.right, boxed.1.0.right); bottom = omega (arith, ints, m.0.bottom, boxed.1.0.bottom); top = omega (arith, ints, m.1.top, boxed.1.0.top) }, tt),
-      );
-      boxed = tt;
-    }
-lit_over w Empty (Span l r d t) (Between a b) (Rel u v) (Rel x y) m known scale shown boxed = absurd m
-lit_over w (Span l' r' d' t') (Span l r d t) (Between a b) (Rel u v) (Rel x y) m known scale shown boxed =
-    record {
-      known = λ is. cc;
-      shown = tt;
-      boxed = (
-        record { left = omega (arith, ints, m.0, boxed.0.left); right = omega (arith, ints, m.1, boxed.0.right); bottom = omega (arith, ints, m.2, boxed.0.bottom); top = omega (arith, ints, m.3, boxed.0.top) },
-        (record { left = omega (arith, ints, m.0, boxed.1.0.left); right = omega (arith, ints, m.1, boxed.1.0.right); bottom = omega (arith, ints, m.2, boxed.1.0.bottom); top = omega (arith, ints, m.3, boxed.1.0.top) }, tt),
-      );
-    }
+    record { known = λ is. cc; shown = (window_over w l r d t (record { x = u; y = v }) (record { x = x; y = y }) a m boxed.0, (window_over w l r d t (record { x = u; y = v }) (record { x = x; y = y }) b m boxed.1.0, tt)); boxed = tt }
+lit_over w whole (Span l r d t) (Between a b) (Rel u v) (Rel x y) m known scale shown boxed =
+    record { known = λ is. cc; shown = tt; boxed = (box_over whole l r d t (record { x = u; y = v }) (record { x = x; y = y }) a m boxed.0, (box_over whole l r d t (record { x = u; y = v }) (record { x = x; y = y }) b m boxed.1.0, tt)) }
 
 -- the rules of a tail's item, seen from where the tail stands
 abbrev pub seen_over : Known → Seen → Seen
 seen_over first v = record { item = v.item; place = place_over first.place v.place; extent = v.extent; callee = v.callee; after = known_over first v.after }
-
-sum_as_claimed : (mode : Mode) (n a b : ℕ) → AsClaimed mode n a → AsClaimed mode (n + b) (a + b)
-sum_as_claimed mode n a b h = grind (arith)
-
-max_as_claimed : (mode : Mode) (n a b : ℕ) → AsClaimed mode n a → AsClaimed mode (max n b) (max a b)
-max_as_claimed mode n a b h = grind (arith, max)
 
 over_keeps : (mode : Mode) (w : Window) (addr : ℕ) (key : Key) (box : LitBox) (first : Known) (tail : Entry) (v : Seen) → MayStandAt w box tail.lit first.place → ((why : ShapeWhy) → ShapeKeeps mode w tail v why) → (why : ShapeWhy) → ShapeKeeps mode w (claimed addr key box (known_over first (known_at_end tail))) (seen_over first v) why
 over_keeps mode w addr key box first tail v m h = keeps
@@ -131,37 +92,27 @@ over_keeps mode w addr key box first tail v m h = keeps
     lit = lit_over w box tail.lit v.extent first.place v.place m (h shape.BeamUnknown) (h shape.ScaleUnknown) (h shape.OffScreen) (h shape.BoxTooSmall)
 
     keeps : (why : ShapeWhy) → ShapeKeeps mode w (claimed addr key box (known_over first (known_at_end tail))) (seen_over first v) why
-    keeps shape.Unmapped = tt
-    keeps shape.Odd = tt
-    keeps shape.HaltInShape = h shape.HaltInShape
     keeps shape.BeamUnknown = lit.known
-    keeps shape.ScaleUnknown = h shape.ScaleUnknown
     keeps shape.OffScreen = lit.shown
-    keeps shape.NoEntry = h shape.NoEntry
     keeps shape.TooDeep = let le : depth_under v.item.instr v.callee ≤ tail.depth = h shape.TooDeep in omega (arith, le)
     keeps shape.TooManyWords = let le : v.after.words ≤ tail.words = h shape.TooManyWords in omega (arith, le)
-    keeps shape.EndDiffers = at_last (next_address Shape v.item) (v.after.place ≡ tail.stop) _ (ap (place_over first.place)) (h shape.EndDiffers)
-    keeps shape.ScaleDiffers = h shape.ScaleDiffers
+    keeps shape.EndDiffers = let end = h shape.EndDiffers in grind (arith)
     keeps shape.BoxTooSmall = lit.boxed
-    keeps shape.WordsDiffer = at_last (next_address Shape v.item) (AsClaimed mode v.after.words tail.words) _ (sum_as_claimed mode v.after.words tail.words first.words) (h shape.WordsDiffer)
-    keeps shape.DepthDiffers = at_last (next_address Shape v.item) (AsClaimed mode v.after.depth tail.depth) _ (max_as_claimed mode v.after.depth tail.depth first.depth) (h shape.DepthDiffers)
+    keeps shape.WordsDiffer = let words = h shape.WordsDiffer in grind (arith)
+    keeps shape.DepthDiffers = let depth = h shape.DepthDiffers in grind (arith, max)
+    keeps why = h why
 
 -- ---- what is known behind what is known
 
 effect_over : (f : Effect) (place second : End) → place_past f (place_over place second) ≡ place_over place (place_past f second)
-effect_over (Sets p) place second = refl
-effect_over Loses place second = refl
 effect_over (Moves d) place (Rel x y) = sym (moves_on place (record { x = x; y = y }) d)
-effect_over (Moves d) place (Abs x y) = refl
-effect_over (Moves d) place Lost = refl
+effect_over f place second = refl
 
 pub seen_by_over : (a : Machine) (list : List Entry) (first second : Known) (i : Item) → seen_by a list Shape (known_over first second) i ≡ seen_over first (seen_by a list Shape second i)
 seen_by_over a list first second i = grind (arith, effect_over, word_count, callee_words, max, depth_under, target)
 
 over_origin : (place : End) → place ≡ place_over place (Rel (pos 0) (pos 0))
-over_origin (Rel x y) = grind (arith, pos)
-over_origin (Abs x y) = grind (arith, pos)
-over_origin Lost = refl
+over_origin place = grind (arith, pos)
 
 -- nothing is added where the second part has no item
 pub over_none : (first : Known) (key : Key) → first.scale ≡ key → first ≡ known_over first (record { place = Rel (pos 0) (pos 0); scale = key; words = 0; depth = 0 })
@@ -194,31 +145,17 @@ module _ (rom : Rom) (list : List Entry) (key : Key) (i : Item) (tail : Entry) (
 
   split : (earlier : List Item) (p : ℕ) → LeadsTo Shape (rom_word rom) i.at earlier p → Place earlier p
   split [] p lead = inl (refl, lead)
-  split (j ∷ earlier) p lead = ⊎_elim at_first further (split earlier j.at lead.0)
-    where
-      at_first : (earlier ≡ []) × (j.at ≡ i.at) → Place (j ∷ earlier) p
-      at_first h = grind (arith, (item_same j i h.1 (sym lead.1 ∙ ap (cell_at (rom_word rom)) h.1 ∙ is)), (cell_at (rom_word rom)), (rom_word rom), (next_address Shape), (known_before whole), (over_none past tail.key (sym scale)))
-
-      further : Split earlier j.at → Place (j ∷ earlier) p
-      further s =
-          inr (record {
-            rest = j ∷ s.rest;
-            leads = (s.leads, lead.1, lead.2);
-            knows = ap (λ (v : Seen). v.after) (knows_on earlier s.rest j s.knows);
-          })
+  split (j ∷ earlier) p lead =
+      ⊎_elim
+      (λ (h : (earlier ≡ []) × (j.at ≡ i.at)). grind (arith, (item_same j i h.1 (sym lead.1 ∙ ap (cell_at (rom_word rom)) h.1 ∙ is)), (cell_at (rom_word rom)), (rom_word rom), (next_address Shape), (known_before whole), (over_none past tail.key (sym scale))))
+      (λ (s : Split earlier j.at). inr (record { rest = j ∷ s.rest; leads = (s.leads, lead.1, lead.2); knows = ap (λ (v : Seen). v.after) (knows_on earlier s.rest j s.knows) }))
+      (split earlier j.at lead.0)
 
 -- ---- the laws
 
-known_first : (lit : LitExtent) → PlaceKnown lit (Rel (pos 0) (pos 0))
-known_first Nothing = tt
-known_first (Between a b) = λ is. cc
-known_first Anywhere = λ is. cc
-
-at_end : (o : Option ℕ) (P : Known → Type 0) (here end : Known) → (o ≡ None → end ≡ here) → P here → AtLast o (P end)
-at_end o P here end is h = grind (arith)
-
-first_keeps : (mode : Mode) (w : Window) (rom : Rom) (list : List Entry) (key : Key) (box : LitBox) (i : Item) (end : Known) → MayStandFirst rom list key box i → (first_seen rom.machine list key i).after.words ≤ end.words → (first_seen rom.machine list key i).after.depth ≤ end.depth → (next_address Shape i ≡ None → end ≡ (first_seen rom.machine list key i).after) → (why : ShapeWhy) → Kept rom.machine mode w list (claimed i.at key box end) key [] i why
-first_keeps mode w rom list key box i end m words depth ends = grind (arith, next_address, at_end, known_first)
+first_keeps : (mode : Mode) (w : Window) (rom : Rom) (list : List Entry) (key : Key) (box : LitBox) (i : Item) (end : Known) → MayStandFirst rom list key box i
+    → (first_seen rom.machine list key i).after.words ≤ end.words → (first_seen rom.machine list key i).after.depth ≤ end.depth → (next_address Shape i ≡ None → end ≡ (first_seen rom.machine list key i).after) → (why : ShapeWhy) → Kept rom.machine mode w list (claimed i.at key box end) key [] i why
+first_keeps mode w rom list key box i end m words depth ends = grind (arith, next_address)
 
 -- what the first item keeps, its place keeps
 first_place_keeps : (mode : Mode) (w : Window) (rom : Rom) (list : List Entry) (e : Entry) (i : Item) → cell_at (rom_word rom) i.at ≡ Holds i.format i.instr → ((why : ShapeWhy) → ShapeKeeps mode w e (first_seen rom.machine list e.key i) why) → (earlier : List Item) (p : ℕ) → earlier ≡ [] → p ≡ i.at → (why : ShapeWhy) → ShapePlaceKeeps mode w rom list e earlier p why
@@ -231,19 +168,15 @@ first_place_keeps mode w rom list e i is h earlier p none at why =
 pub item_before_tail : (mode : Mode) (w : Window) (rom : Rom) (list : List Entry) (key : Key) (box : LitBox) (i : Item) (tail : Entry) → MayStandFirst rom list key box i → IsBehind w rom.machine list key box i tail → GoodShape mode w rom list tail → GoodShape mode w rom list (after_item rom.machine list key box i tail)
 item_before_tail mode w rom list key box i tail m b good earlier p lead why = ⊎_elim at_first further (split rom list key i tail m.there b.next b.scale earlier p lead)
   where
-    no_last : next_address Shape i ≡ None → known_over (first_seen rom.machine list key i).after (known_at_end tail) ≡ (first_seen rom.machine list key i).after
-    no_last none = let no : Some tail.addr ≡ None = sym b.next ∙ none in cc no
-
     at_first : (earlier ≡ []) × (p ≡ i.at) → ShapePlaceKeeps mode w rom list (after_item rom.machine list key box i tail) earlier p why
-    at_first h = first_place_keeps mode w rom list (after_item rom.machine list key box i tail) i m.there (first_keeps mode w rom list key box i (known_over (first_seen rom.machine list key i).after (known_at_end tail)) m (omega arith) (omega arith) no_last) earlier p h.0 h.1 why
+    at_first h = first_place_keeps mode w rom list (after_item rom.machine list key box i tail) i m.there (first_keeps mode w rom list key box i (known_over (first_seen rom.machine list key i).after (known_at_end tail)) m (omega arith) (omega arith) (λ none. let no : Some tail.addr ≡ None = sym b.next ∙ none in cc no)) earlier p h.0 h.1 why
 
     further : Split rom list key i tail m.there b.next b.scale earlier p → ShapePlaceKeeps mode w rom list (after_item rom.machine list key box i tail) earlier p why
-    further s = cell_keeps (Kept rom.machine mode w list tail tail.key s.rest) (Kept rom.machine mode w list (after_item rom.machine list key box i tail) key earlier) p (cell_at (rom_word rom) p) on (good s.rest p s.leads) why
-      where
-        on : (j : Item) → ((x : ShapeWhy) → Kept rom.machine mode w list tail tail.key s.rest j x) → (x : ShapeWhy) → Kept rom.machine mode w list (after_item rom.machine list key box i tail) key earlier j x
-        on j h x =
-            subst (λ (v : Seen). ShapeKeeps mode w (after_item rom.machine list key box i tail) v x) (sym (knows_on rom list key i tail m.there b.next b.scale earlier s.rest j s.knows))
-            (over_keeps mode w i.at key box (first_seen rom.machine list key i).after tail (seen_at (record { kind = Shape; machine = rom.machine; list = list; scale = tail.key }) s.rest j) b.lit h x)
+    further s =
+        cell_keeps (Kept rom.machine mode w list tail tail.key s.rest) (Kept rom.machine mode w list (after_item rom.machine list key box i tail) key earlier) p (cell_at (rom_word rom) p)
+        (λ j h x. subst (λ (v : Seen). ShapeKeeps mode w (after_item rom.machine list key box i tail) v x) (sym (knows_on rom list key i tail m.there b.next b.scale earlier s.rest j s.knows))
+        (over_keeps mode w i.at key box (first_seen rom.machine list key i).after tail (seen_at (record { kind = Shape; machine = rom.machine; list = list; scale = tail.key }) s.rest j) b.lit h x))
+        (good s.rest p s.leads) why
 
 -- an item that ends a shape is good alone
 pub last_item_good : (mode : Mode) (w : Window) (rom : Rom) (list : List Entry) (key : Key) (box : LitBox) (i : Item) → MayStandFirst rom list key box i → next_address Shape i ≡ None → GoodShape mode w rom list (last_item rom.machine list key box i)

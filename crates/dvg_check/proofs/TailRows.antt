@@ -1,5 +1,5 @@
 -- What is kept by a pass, and the entries that it shows to be good.
-use Rattle.dvg_check.proofs.Common.{arith, List, Option, None, Some, [], ◌∷◌, ◌⊎◌, zero, suc, length, take, get_or, refl, sym, subst, ◌≡◌, ◌<◌, ◌≤◌, ◌∙◌, ℕ, ⊎_elim, AllByRecursion, Entry, Key, replicate, get_or_default, IsClaim, IsSomeCertificate, listed_claim, AllKept, IsKept, Kept}
+use Rattle.dvg_check.proofs.Common.{arith, List, Option, None, Some, ◌∷◌, ◌⊎◌, zero, suc, length, take, get_or, refl, sym, subst, ◌≡◌, ◌<◌, ◌≤◌, ◌∙◌, ℕ, ⊎_elim, AllByRecursion, Entry, Key, replicate, get_or_default, IsClaim, IsSomeCertificate, listed_claim, AllKept, IsKept, Kept}
 
 none_at : {T : Type 0} (n k : ℕ) → get_or {A = Option (Kept T)} (replicate n None) k None ≡ None
 none_at zero k = refl
@@ -20,7 +20,5 @@ claim_at l k d c lt = listed_claim l (get_or l k d) c (k, lt, get_or_default l k
 
 -- what holds of each of the first entries
 pub all_take : (P : Entry → Type 0) (l : List Entry) (n : ℕ) → n ≤ length l → ((k : ℕ) (past : Entry) → k < n → P (get_or l k past)) → AllByRecursion P (take n l)
-all_take P [] zero le h = tt
-all_take P [] (suc n) le h = absurd (omega arith)
-all_take P (x ∷ l) zero le h = tt
 all_take P (x ∷ l) (suc n) le h = (h 0 x (omega arith), all_take P l n (omega (arith, le)) (λ k past lt. h (suc k) past (omega (arith, lt))))
+all_take P l n le h = grind (arith)

@@ -27,6 +27,7 @@ module _ (w : Window) (rom : Rom) (list : List Entry) (key : Key) (i : Item) (fi
       behind : IsBehind w rom.machine list key whole.lit i (entry_of next first.scale tail)
       behind = record { next = goes; scale = ap (λ (k : Known). k.scale) is; lit = subst (λ (k : Known). MayStandAt w whole.lit tail.lit k.place) is lit }
 
-  pub before_some : (next : ℕ) (tail : Tail) (o : Option Tail) → next_address Shape i ≡ Some next → IsTail w rom list next first.scale tail → IfSome o (λ whole. end_of whole ≡ known_over (end_of first) (end_of tail)) → IfSome o (λ whole. IsInside first.lit whole.lit) → IfSome o (λ whole. MayStandAt w whole.lit tail.lit first.stop) → IfSome o (λ whole. (n : ℕ) → IsSmall n tail → IsSmall (n + 1) whole) → next ≤ ADDRESS_END + 2 → IfSome o (IsTail w rom list i.at key)
+  pub before_some : (next : ℕ) (tail : Tail) (o : Option Tail) → next_address Shape i ≡ Some next → IsTail w rom list next first.scale tail → IfSome o (λ whole. end_of whole ≡ known_over (end_of first) (end_of tail)) → IfSome o (λ whole. IsInside first.lit whole.lit)
+      → IfSome o (λ whole. MayStandAt w whole.lit tail.lit first.stop) → IfSome o (λ whole. (n : ℕ) → IsSmall n tail → IsSmall (n + 1) whole) → next ≤ ADDRESS_END + 2 → IfSome o (IsTail w rom list i.at key)
   before_some next tail None goes t value inside lit small near = tt
   before_some next tail (Some whole) goes t value inside lit small near = grind (arith, (before next tail whole goes t value inside lit (small (ADDRESS_END + 2 - next) t.small) near))

@@ -9,10 +9,10 @@ pub use Rattle.dvg_words.proofs.Common.{◌≡◌, ℕ, refl, arith, ints, zero,
 unfoldable pub use Rattle.dvg_words.proofs.Common.{instruction_of, cell_at, next_status, displacement}
 pub use Rattle.dvg_circuit.specs.Counters.{IsShown, bit, Counters, counts, counters_after, ending_ones, let_through, pulse, pulses, stepped, passed}
 pub use Rattle.dvg_circuit.specs.Circuit.{Run, step, run_after, begin, LitDraw, Reads, past, places, decoded, performed, act}
-pub use Rattle.dvg_circuit.specs.Laws.{signed, moved, twelve_bits, IsBetween, NoneBeyondEnds, CounterIsPlace, AllDecoded, RoundedHalfUp}
-pub use Rattle.dvg_circuit.specs.Following.{IsSamePlace, IsDrawnAs, AreStored, Agrees, AgreesWith, CircuitFollows, IsAmong, DrawnOnStroke, IsOnStroke}
+pub use Rattle.dvg_circuit.specs.Laws.{signed, moved, twelve_bits, IsBetween, CounterIsPlace, RoundedHalfUp}
+pub use Rattle.dvg_circuit.specs.Following.{IsSamePlace, IsDrawnAs, AreStored, Agrees, AgreesWith, CircuitFollows, IsAmong, DrawnOnStroke}
 pub use Rattle.dvg_words.specs.Generator.{Stroke, Running, Halted, Fault, places as generator_places, fetches, after_instruction, start}
-pub use Rattle.dvg_words.specs.Decoding.{word_count, format_of, cell_holding, long_cell, cell_of_words, opcode, target_of, vctr_draw, svec_draw, labs_of}
+pub use Rattle.dvg_words.specs.Decoding.{word_count, format_of, cell_holding, long_cell, cell_of_words, opcode, labs_of}
 pub use Rattle.dvg_words.specs.Memory.{IsMemory, fetched_at}
 pub use Rattle.dvg_circuit.specs.Premises.{IsRead, ReadsNow, ReadsAs}
 pub use Rattle.dvg_words.specs.declared.machine.Machine.TheVariants.{Board}

@@ -1,7 +1,7 @@
 -- The circuit follows the generator, instruction by instruction.
-use Rattle.dvg_circuit.proofs.Common.{false, ◌≡◌, ℕ, zero, suc, ◌+◌, ◌-◌, ◌%◌, ◌<◌, ◌≤◌, List, [], ◌∷◌, ◌++◌, length, reverse, Option, Some, None, nat_le, refl, ap, sym, subst, ◌∙◌, arith, pos, negsuc, ◌*ℤ◌, slice_set, AllByRecursion, AllZip, cases_lt, nat_tests, Board, Format, Short, Long, Instr, signed_field, word_count, format_of, instruction_of, cell_holding, long_cell, cell_of_words, cell_at, Memory, IsMemory, fetched_at, State, Stroke, Status, Running, Halted, Fault, Reached, generator_places, fetches, after_instruction, after_cell, next_status, start, Counters, LitDraw, Reads, Run, past, places, decoded, performed, act, step, run_after, begin, IsRead, ReadsNow, ReadsAs, IsSamePlace, IsDrawnAs, AreStored, Agrees, AgreesWith, CircuitFollows}
+use Rattle.dvg_circuit.proofs.Common.{false, ◌≡◌, ℕ, zero, suc, ◌+◌, ◌%◌, ◌<◌, ◌≤◌, List, [], ◌∷◌, ◌++◌, length, reverse, Option, Some, None, nat_le, refl, ap, sym, subst, ◌∙◌, arith, pos, negsuc, ◌*ℤ◌, slice_set, AllByRecursion, AllZip, cases_lt, nat_tests, Board, Format, Short, Long, Instr, signed_field, word_count, format_of, instruction_of, cell_holding, long_cell, cell_of_words, cell_at, Memory, IsMemory, fetched_at, State, Status, Running, Halted, Fault, Reached, generator_places, fetches, after_instruction, after_cell, next_status, start, Reads, Run, past, places, decoded, performed, act, step, run_after, begin, IsRead, ReadsNow, ReadsAs, IsSamePlace, AreStored, Agrees, AgreesWith, CircuitFollows}
 use Rattle.std.proofs.lemmas.List.{append-nil, reverse-append, get_or-set_same, get_or-set_other, length-set}
-use Rattle.dvg_circuit.proofs.Moves.{beam_moved, drawn_as}
+use Rattle.dvg_circuit.proofs.Moves.{pair, beam_moved, drawn_as}
 use Rattle.dvg_circuit.proofs.Reading.{IsRight, right, low_word}
 
 -- ---- stored places
@@ -19,11 +19,8 @@ all_append P (x ∷ xs) ys a b = (a.0, all_append P xs ys a.1 b)
 
 -- ---- words fetched, and draws lit
 
-next_same : (f : Format) (p q : ℕ) → p ≡ q → q + word_count f < 4096 → past f p ≡ q + word_count f
-next_same f p q e low = omega (arith, e, low)
-
 fetched_more : (f : Format) (p q : ℕ) (xs ys : List ℕ) → p ≡ q → q + word_count f < 4096 → xs ≡ reverse ys → xs ++ places f p ≡ reverse (generator_places f q ++ ys)
-fetched_more f p q xs ys e low same = grind (arith, reverse, next_same, reverse-append)
+fetched_more f p q xs ys e low same = grind (arith, reverse, reverse-append)
 
 pub all_reversed : {A : Type 0} (P : A → Type 0) (xs : List A) → AllByRecursion P xs → AllByRecursion P (reverse xs)
 all_reversed P [] h = tt
@@ -39,17 +36,11 @@ zip_push R [] (k ∷ ys) x y all one = absurd all
 zip_push R (k ∷ xs) [] x y all one = absurd all
 zip_push R (k ∷ xs) (l ∷ ys) x y all one = (all.0, zip_push R xs ys x y all.1 one)
 
-unlit : (strokes : List Stroke) (lit : List LitDraw) → AllZip IsDrawnAs (reverse strokes) lit → AllZip IsDrawnAs (reverse strokes) (lit ++ [])
-unlit strokes lit h = subst (AllZip IsDrawnAs (reverse strokes)) (sym (append-nil lit)) h
-
 -- ---- each instruction
 
 -- the generator's state once an instruction is fetched
 abbrev fetched_state : Format → State → State
 fetched_state f s = record s { fetched = generator_places f s.pc ++ s.fetched }
-
-pair : ℕ → ℕ → Counters
-pair x y = record { x = x; y = y }
 
 labs_same : (x y : ℕ) → x < 4096 → y < 4096 → IsSamePlace (record { x = pos 1024 *ℤ signed_field x; y = pos 1024 *ℤ signed_field y }) (record { x = x; y = y })
 unfolding pair
@@ -58,7 +49,7 @@ labs_same x y a b = grind (arith, pair, nat_le, nat_tests, pos, negsuc, cases_lt
 agree_instr : (base : ℕ) (i : Instr) (f : Format) (s : State) (r : Run)
     → IsRight f i → r.circuit.halted ≡ false → Agrees base s r → s.pc + word_count f < 4096
     → AgreesWith base (after_instruction Board i f (fetched_state f s)) (performed i f r)
-agree_instr base i f s r fits going h low = grind (arith, next_same, beam_moved, fetched_more, unlit, reverse-append, zip_push, reverse, drawn_as, labs_same, nat_tests, get_or-set_same, stays_stored, length-set)
+agree_instr base i f s r fits going h low = grind (arith, beam_moved, fetched_more, append-nil, reverse-append, zip_push, reverse, drawn_as, labs_same, nat_tests, get_or-set_same, stays_stored, length-set)
 
 -- ---- an instruction that is fetched
 
@@ -73,7 +64,7 @@ agree_long : (m : Memory) (base first : ℕ) (second : Option ℕ) (reads : Read
     → AgreesWith base (after_cell Board (long_cell Board first second) (fetched_state Long s)) (performed (decoded first (reads (past Short r.circuit.pc))) Long r)
 agree_long m base first None reads s r mem e is seen going h low = tt
 agree_long m base first (Some second) reads s r mem e is seen going h low =
-    let behind : past Short r.circuit.pc ≡ s.pc + 1 = next_same Short r.circuit.pc s.pc h.pc low in
+    let behind : past Short r.circuit.pc ≡ s.pc + 1 = omega (arith, h.pc, low) in
     let heard : reads (past Short r.circuit.pc) ≡ second = seen second (ap (fetched_at m) behind ∙ e) in
     subst (λ (k : ℕ). AgreesWith base (after_cell Board (long_cell Board first (Some second)) (fetched_state Long s)) (performed (decoded first k) Long r)) (sym heard)
     (agree_holding base _ Long first second s r refl is going h (let room = low_word m (s.pc + 1) second mem e in omega (arith, room)))

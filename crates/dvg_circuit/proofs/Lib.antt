@@ -3,10 +3,7 @@ pub mod Multipliers
 pub mod Ones
 pub mod Rounding
 pub mod Places
-pub mod Example
 pub mod Moves
 pub mod Reading
 pub mod Following
-pub mod Writing
 pub mod Showing
-pub mod ClippedExample

@@ -1,13 +1,16 @@
 -- A draw moves the generator's beam and the circuit's counters alike, and the counters pass places between its ends.
-use Rattle.dvg_circuit.proofs.Common.{◌≡◌, ℕ, ◌*◌, ◌≤◌, refl, ap, subst, ◌∙◌, arith, ℤ, pos, negsuc, ◌+ℤ◌, ◌*ℤ◌, nat_abs, cases_lt, ints, DrawFields, Point, Board, shift, axis_move, displacement, effective_scale, Counters, counts, counters_after, signed, moved, twelve_bits, IsBetween, IsSamePlace, IsAmong, IsDrawnAs, DrawnOnStroke}
+use Rattle.dvg_circuit.proofs.Common.{◌≡◌, ℕ, ◌≤◌, refl, ap, arith, ℤ, pos, negsuc, ◌+ℤ◌, ◌*ℤ◌, nat_abs, cases_lt, ints, DrawFields, Point, Board, shift, axis_move, displacement, effective_scale, Counters, counts, counters_after, signed, moved, twelve_bits, IsSamePlace, IsAmong, IsDrawnAs, DrawnOnStroke}
 use Rattle.dvg_words.proofs.Machines.{board_moves}
 use Rattle.dvg_circuit.proofs.Rounding.{rounded_half_up, more_pulses}
 use Rattle.dvg_circuit.proofs.Places.{counter_is_place}
 
 -- ---- how far
 
-pub board_move : (size : ℤ) (local global : ℕ) → nat_abs size ≤ 1023 → axis_move Board size local global ≡ pos 1024 *ℤ moved size (counts (effective_scale local global))
-board_move size local global small = grind (arith, board_moves, rounded_half_up, cases_lt, ints)
+moved_to : (at from size : ℤ) (local global : ℕ) → at ≡ pos 1024 *ℤ from → nat_abs size ≤ 1023
+    → at +ℤ axis_move Board size local global ≡ pos 1024 *ℤ (from +ℤ moved size (counts (effective_scale local global)))
+moved_to at from size local global e small =
+    let move : axis_move Board size local global ≡ pos 1024 *ℤ moved size (counts (effective_scale local global)) = grind (arith, board_moves, rounded_half_up, cases_lt, ints) in
+    omega (arith, ints, e, move)
 
 -- the sizes have ten bits
 pub record AreSizes (d : DrawFields) : Type 0 where
@@ -17,14 +20,8 @@ pub record AreSizes (d : DrawFields) : Type 0 where
 the_point : ℤ → ℤ → Point
 the_point x y = record { x = x; y = y }
 
-pair : ℕ → ℕ → Counters
+unfoldable pub pair : ℕ → ℕ → Counters
 pair x y = record { x = x; y = y }
-
-scaled_sum : (a b : ℤ) → pos 1024 *ℤ a +ℤ pos 1024 *ℤ b ≡ pos 1024 *ℤ (a +ℤ b)
-scaled_sum a b = omega (arith, ints)
-
-moved_to : (from size move : ℤ) (n : ℕ) → move ≡ pos 1024 *ℤ moved size n → pos 1024 *ℤ from +ℤ move ≡ pos 1024 *ℤ (from +ℤ moved size n)
-moved_to from size move n e = ap (λ k. pos 1024 *ℤ from +ℤ k) e ∙ scaled_sum from (moved size n)
 
 -- the counters after some counts hold the twelve bits of where the places without bounds are then
 pub counted : (x y : ℤ) (d : DrawFields) (n : ℕ) (c : Counters) → c ≡ record { x = twelve_bits x; y = twelve_bits y }
@@ -40,25 +37,16 @@ beam_moved d g p c small h =
     record {
       x = h.x +ℤ moved d.dx n;
       y = h.y +ℤ moved d.dy n;
-      place =
-          ap (λ (q : Point). shift q (displacement Board d g)) h.place
-          ∙ ap (λ k. the_point k (pos 1024 *ℤ h.y +ℤ axis_move Board d.dy d.lscale g)) (moved_to h.x d.dx _ n (board_move d.dx d.lscale g small.x))
-          ∙ ap (λ k. the_point (pos 1024 *ℤ (h.x +ℤ moved d.dx n)) k) (moved_to h.y d.dy _ n (board_move d.dy d.lscale g small.y));
+      place = grind (arith, the_point, (moved_to p.x h.x d.dx d.lscale g (ap (λ (q : Point). q.x) h.place) small.x), (moved_to p.y h.y d.dy d.lscale g (ap (λ (q : Point). q.y) h.place) small.y));
       counters = counted h.x h.y d n c h.counters;
     }
 
 -- ---- between the ends
 
-among_signed : (from size : ℤ) (some all : ℕ) → some ≤ all
-    → IsAmong (pos 1024 *ℤ from) (pos 1024 *ℤ (from +ℤ signed size all)) (pos 1024 *ℤ (from +ℤ signed size some))
-among_signed from (pos m) some all le low high a b = (omega (arith, ints, le, a.0, a.1, b.0, b.1), omega (arith, ints, le, a.0, a.1, b.0, b.1))
-among_signed from (negsuc m) some all le low high a b = (omega (arith, ints, le, a.0, a.1, b.0, b.1), omega (arith, ints, le, a.0, a.1, b.0, b.1))
-
-pub among : (from size : ℤ) (n all : ℕ) → n ≤ all → IsAmong (pos 1024 *ℤ from) (pos 1024 *ℤ (from +ℤ moved size all)) (pos 1024 *ℤ (from +ℤ moved size n))
-among from size n all le = among_signed from size _ _ (more_pulses (nat_abs size) n all le)
-
-pub same_among : (a b c d p : ℤ) → a ≡ c → b ≡ d → IsAmong c d p → IsAmong a b p
-same_among a b c d p e f h low high g k = h low high (subst (IsBetween low high) e g) (subst (IsBetween low high) f k)
+pub among : (a b from size : ℤ) (some all : ℕ) → a ≡ pos 1024 *ℤ from → b ≡ pos 1024 *ℤ (from +ℤ signed size all) → some ≤ all
+    → IsAmong a b (pos 1024 *ℤ (from +ℤ signed size some))
+among a b from (pos m) some all e f le low high g k = (omega (arith, ints, e, f, le, g.0, k.0), omega (arith, ints, e, f, le, g.1, k.1))
+among a b from (negsuc m) some all e f le low high g k = (omega (arith, ints, e, f, le, g.0, k.0), omega (arith, ints, e, f, le, g.1, k.1))
 
 -- the stroke of a draw
 pub drawn_as : (d : DrawFields) (g : ℕ) (p : Point) (c : Counters) (small : AreSizes d) (h : IsSamePlace p c)
@@ -73,6 +61,6 @@ drawn_on_stroke stroke l h n le =
     record {
       place = record { x = pos 1024 *ℤ x; y = pos 1024 *ℤ y };
       same = record { x = x; y = y; place = refl; counters = counted h.from.x h.from.y l.draw n l.from h.from.counters };
-      across = same_among _ _ _ _ _ (ap (λ (p : Point). p.x) h.from.place) (ap (λ (p : Point). p.x) h.to) (among h.from.x l.draw.dx n l.counts le);
-      up = same_among _ _ _ _ _ (ap (λ (p : Point). p.y) h.from.place) (ap (λ (p : Point). p.y) h.to) (among h.from.y l.draw.dy n l.counts le);
+      across = among _ _ _ l.draw.dx _ _ (ap (λ (p : Point). p.x) h.from.place) (ap (λ (p : Point). p.x) h.to) (more_pulses (nat_abs l.draw.dx) n l.counts le);
+      up = among _ _ _ l.draw.dy _ _ (ap (λ (p : Point). p.y) h.from.place) (ap (λ (p : Point). p.y) h.to) (more_pulses (nat_abs l.draw.dy) n l.counts le);
     }

@@ -1,28 +1,15 @@
 -- The answer to a frame, and what an accepted line says of it, over plain values.
-use Rattle.dvg_cmd.proofs.Common.{◌≡◌, ℕ, List, ◌++◌, length, Option, Result, Ok, IfOk, OnOk, IfSome, Appends, words_of, IsFrameLength, Board, Safe, CountsAtHalt, SafeOnCircuit, CountsOnCircuit, Yes, FrameRefusal, Detail, Behind, IsBehind, IsReadTo, RunFault, arith, behind_text, frame_outcome_behind, MOST_FRAME_READ, FrameAnswer, Judged, FrameOutcome, Judging, ReadsFrame, AnswersFrame, frame_outcome_of, frame_line, started}
-use Rattle.dvg_check.specs.declared.verdict.Refusal.TheVariants as refusal
-use Rattle.dvg_make.specs.declared.fault.EntryFault.TheVariants as entry
-use Rattle.dvg_make.specs.declared.judging.FrameRefusal.TheVariants as frame
-use Rattle.dvg_spelling.specs.Outcomes.{refusal_outcome_of}
+use Rattle.dvg_cmd.proofs.Common.{◌≡◌, ℕ, List, ◌++◌, length, Option, Result, Ok, IfOk, OnOk, IfSome, Appends, words_of, IsFrameLength, Board, Safe, CountsAtHalt, SafeOnCircuit, CountsOnCircuit}
+use Rattle.dvg_cmd.proofs.Common.{Yes, FrameRefusal, Detail, Behind, IsBehind, IsReadTo, RunFault, arith, behind_text, frame_outcome_behind, MOST_FRAME_READ, FrameAnswer, Judged, FrameOutcome, Judging, ReadsFrame, AnswersFrame, frame_outcome_of, frame_line, started}
 use Rattle.dvg_spelling.specs.declared.outcome.FrameOutcome.TheVariants as outcome
-use Rattle.dvg_cmd.specs.declared.detail.Behind.TheVariants as behind
 use Rattle.dvg_cmd.specs.SafeFrames.{ReportsFrameAccepted}
 
--- ---- a refusal is not accepted
-
-refused : (r : FrameRefusal) → refusal_outcome_of r ≡ outcome.Accepted → ⊥
-refused r h = grind (arith)
-
--- ---- what holds of the bytes that were judged holds of all that the reader held
-
+-- what holds of the bytes that were judged holds of all that the reader held
 of_all : (P : List ℕ → Type 0) (reader : Option (List ℕ)) (start : Option ℕ) (bytes : List ℕ) → ReadsFrame reader start bytes → IsFrameLength (length bytes) → P bytes
     → IfSome reader (λ held. P (started start held))
 of_all P reader start bytes reads long holds = grind (arith)
 
 module _ (j : Judging) (start : Option ℕ) (reader left : Option (List ℕ)) where
-  judged_yes : (v : Result Yes FrameRefusal) (y : Yes) → Judged v ≡ Judged (Ok y) → v ≡ Ok y
-  judged_yes v y is = cc
-
   -- what a judge says of bytes that were read is an answer to all that the reader held
   pub answers_judged : (v : Result Yes FrameRefusal) (bytes slice : List ℕ) → IsReadTo MOST_FRAME_READ reader left → ReadsFrame reader start bytes → slice ≡ bytes → j.is_verdict slice v
       → IfOk v (λ yes. IsFrameLength (length slice))
@@ -31,18 +18,15 @@ module _ (j : Judging) (start : Option ℕ) (reader left : Option (List ℕ)) wh
       → (j.rom.machine ≡ Board → IfOk v (λ yes. SafeOnCircuit (record { frame = words_of slice; rom = j.rom }) j.window yes.words yes.depth))
       → (j.rom.machine ≡ Board → j.is_exact → IfOk v (λ yes. CountsOnCircuit (record { frame = words_of slice; rom = j.rom }) yes.words yes.depth))
       → AnswersFrame j start reader left (Judged v)
-  answers_judged v bytes slice read reads same verdict long safe exact circuit circuit_exact = grind (arith, words_of, judged_yes, of_all)
+  answers_judged v bytes slice read reads same verdict long safe exact circuit circuit_exact = grind (arith, words_of, of_all)
 
 -- ---- what an accepted line says
 
-line_accepted : (what : Behind) (line : FrameOutcome) → frame_outcome_behind what line ≡ outcome.Accepted → line ≡ outcome.Accepted
-line_accepted what line is = grind (arith)
-
-accepted_yes : (answer : FrameAnswer) → frame_outcome_of answer ≡ outcome.Accepted → (y : Yes) × (answer ≡ Judged (Ok y))
-accepted_yes answer is = grind (arith, refused)
+accepted_yes : (what : Behind) (answer : FrameAnswer) → frame_outcome_behind what (frame_outcome_of answer) ≡ outcome.Accepted → (y : Yes) × (answer ≡ Judged (Ok y))
+accepted_yes what answer is = grind (arith)
 
 -- what holds of each accepted answer holds of the line that was written, with what the detail asks for behind it
 module _ (detail : Detail) (what : Behind) (asked : IsBehind detail what) (name : List ℕ) (answer : FrameAnswer) (old new : Option (List ℕ)) where
   pub frame_accepted : (r : Result FrameOutcome RunFault) → IfOk r (λ end. end ≡ frame_outcome_behind what (frame_outcome_of answer)) → OnOk r (Appends old new (frame_line name answer ++ behind_text what)) → r ≡ Ok outcome.Accepted
       → (P : Yes → Type 0) → ((y : Yes) → answer ≡ Judged (Ok y) → P y) → ReportsFrameAccepted detail name old new P
-  frame_accepted r end_is text is h4 holds = grind (arith, accepted_yes, line_accepted)
+  frame_accepted r end_is text is h4 holds = grind (arith, accepted_yes)

@@ -1,15 +1,16 @@
 -- What a run of the maker for frames answers, over plain values.
-use Rattle.dvg_cmd.proofs.Common.{◌≡◌, ◌<◌, ℕ, List, [], ◌∷◌, length, Option, None, Some, refl, ap, ◌∙◌, subst, arith, Result, IfErr, Appends, Machine, AppendsPrefix, Rom, IsRomLength, rom_on, words_of, MemoryMap, IsMap, Window, Key, of_each, AreFrames, MakesForFrames, FramesFaultMeans, ArePrefixes, rules, common_steps, IsErrAnd, text_of, WritesMade, WritesMadePrefix, Entry, AreAllPlaces, FramesMade, FramesRefuse, HasCause, EntryFault, told_fault, RefusesInputs, RefusesMemory, FramesRunFault, AreRead, AreInputImages, RefusesLengths}
+use Rattle.dvg_cmd.proofs.Common.{true, ◌++◌, count_after, FailedAfter, blames_frames_rom, ComparesFor, IsPrefix, ◌≡◌, ◌<◌, ℕ, List, [], ◌∷◌, length, Option, None, Some, refl, ap, ◌∙◌, subst, arith, Result, IfErr, Machine, AppendsPrefix, Rom, IsRomLength}
+use Rattle.dvg_cmd.proofs.Common.{rom_on, words_of, MemoryMap, IsMap, Window, Key, of_each, AreFrames, MakesForFrames, FramesFaultMeans, ArePrefixes, rules, common_steps, IsErrAnd, text_of, WritesMadePrefix, Entry, AreAllPlaces, FramesMade, FramesRefuse, HasCause, EntryFault, told_fault, RefusesInputs, RefusesMemory, FramesRunFault, AreRead, AreInputImages, RefusesLengths}
 use Rattle.dvg_survey.specs.declared.places.EntryPlaces.{EntryPlaces}
 use Rattle.dvg_make.specs.declared.fault.EntryFault.TheVariants as entry
 use Rattle.dvg_make.specs.declared.fault.FrameCall.{FrameCall}
 use Rattle.dvg_make.specs.declared.fault.FramesFault.{FramesFault}
-use Rattle.dvg_make.specs.declared.fault.MakeFault.TheVariants as making
 use Rattle.dvg_spelling.specs.declared.fault.MakeRunFault.TheVariants as maker
 use Rattle.dvg_spelling.specs.declared.fault.FramesRunFault.TheVariants as fault
 use Rattle.dvg_cmd.specs.Placing.{PlacesFor}
-use Rattle.dvg_cmd.proofs.Whole.{held_bytes, held_told}
-use Rattle.dvg_cmd.proofs.MakerRuns.{whole_length, whole_image}
+use Rattle.dvg_diff.specs.Comparing.{IsComparison}
+use Rattle.dvg_diff.specs.declared.comparing.Comparison.{Comparison}
+use Rattle.dvg_cmd.proofs.Whole.{held_bytes, held_told, whole_length, whole_image}
 use Rattle.dvg_cmd.proofs.SeveralFrames.{held_each, each_held, each_same, first_wrong}
 
 -- what holds of the fault that is told holds of the answer
@@ -17,11 +18,9 @@ pub told_err : {A : Type 0} (r : Result A FramesRunFault) (f : FramesRunFault) (
 told_err r f P is h = grind (arith)
 
 -- where there are readers, that memory was out says nothing
-pub memory_refused : (machine : Machine) (rom : Option (List ℕ)) (map : MemoryMap) (roots : List (ℕ × Key)) (readers : List (Option (List ℕ))) → 0 < length readers → RefusesMemory machine rom map roots readers
-memory_refused machine rom map roots readers some = grind (arith)
-
-some_readers : (readers : List (Option (List ℕ))) (frames : List (List ℕ)) → ArePrefixes readers frames → 0 < length frames → 0 < length readers
-some_readers readers frames h some = grind (arith, rules, common_steps)
+memory_refused : (machine : Machine) (rom : Option (List ℕ)) (map : MemoryMap) (roots : List (ℕ × Key)) (readers : List (Option (List ℕ))) (frames : List (List ℕ)) → ArePrefixes readers frames → 0 < length frames
+    → RefusesMemory machine rom map roots readers
+memory_refused machine rom map roots readers frames h some = grind (arith, rules, common_steps)
 
 -- what was read of a ROM of the right length
 module _ {rom : Option (List ℕ)} {readers : List (Option (List ℕ))} {rb : List ℕ} {frames : List (List ℕ)} (read : AreRead rom readers rb frames) (machine : Machine) (map : MemoryMap) (is : IsMap map) (image : Rom)
@@ -36,7 +35,7 @@ module _ {rom : Option (List ℕ)} {readers : List (Option (List ℕ))} {rb : Li
       }
 
   pub lengths_refused : (roots : List (ℕ × Key)) (f : FramesRunFault) → RefusesLengths frames f → FramesFaultMeans machine rom map roots readers f
-  lengths_refused roots f wrong = grind (arith, (held_bytes rom rb), (held_each readers frames), (held_told rom rb), (each_held readers frames read.frame_prefixes), (whole_length map is rom rb read.rom_prefix h.0), first_wrong, memory_refused, some_readers)
+  lengths_refused roots f wrong = grind (arith, (held_bytes rom rb), (held_each readers frames), (held_told rom rb), (each_held readers frames read.frame_prefixes), (whole_length map is rom rb read.rom_prefix h.0), first_wrong, memory_refused)
 
 -- the images of all that readers held
 module _ {machine : Machine} {rom : Option (List ℕ)} {map : MemoryMap} {readers : List (Option (List ℕ))} {image : Rom} {words : List (List ℕ)} (images : AreInputImages machine rom map readers image words) where
@@ -56,6 +55,11 @@ module _ {machine : Machine} {rom : Option (List ℕ)} {map : MemoryMap} {reader
       → PlacesFor machine w rom map roots readers places
   places_made roots w list places made are = search (list, on_all (λ x ws. FramesMade x roots ws list) made, subst (λ x. AreAllPlaces w x list list places) images.rom_is are)
 
+  pub compared : (is : IsMap map) (other : Option (List ℕ)) (other_image : Rom) (ob : List ℕ) → IsPrefix 4097 other ob → IsRomLength map (length ob) × (other_image ≡ rom_on machine map ob) → (roots : List (ℕ × Key)) (c : Comparison) → IsComparison image other_image roots words c
+      → ComparesFor machine rom other map roots readers c
+  compared is other other_image ob read h roots c comparison =
+      search (held_told other ob, whole_length map is other ob read h.0, on_all (λ x ws. IsComparison x (rom_on machine map (held_bytes other ob)) roots ws c) (subst (λ x. IsComparison image x roots words c) (whole_image machine map is other ob other_image read h) comparison))
+
   module _ (roots : List (ℕ × Key)) where
     told_memory : (rs : List (Option (List ℕ))) → RefusesInputs machine rom map roots rs (record { call = None; why = entry.Memory }) → RefusesMemory machine rom map roots rs
     told_memory [] refuses = refuses
@@ -72,11 +76,13 @@ module _ {machine : Machine} {rom : Option (List ℕ)} {map : MemoryMap} {reader
     pub frames_refused : (f : FramesFault) → FramesRefuse image roots words f → HasCause image roots words f → FramesFaultMeans machine rom map roots readers (told_fault f.call f.why)
     frames_refused f refuses told = told_at f.call f.why (images.all, on_all (λ x ws. FramesRefuse x roots ws f) refuses, on_all (λ x ws. HasCause x roots ws f) told)
 
+-- which ROM's reader failed
+pub rom_failed : {A : Type 0} (r : Result A FramesRunFault) (f : FramesRunFault) → IsErrAnd r (λ x. x ≡ f) → f ≡ fault.Plain maker.ReadRom → (olds news after : List ℕ) → news ≡ olds
+    → (old new : ℕ) → new ≡ count_after true old → FailedAfter (blames_frames_rom r) (olds ++ old ∷ after) (news ++ new ∷ after)
+rom_failed r f e is olds news after same old new failed = grind (arith)
+
 -- ---- what is written
 
 module _ (IsMade : List Entry → Type 0) (map own : MemoryMap) (list : List Entry) (old new : Option (List ℕ)) (made : IsMade list) (same : own ≡ map) where
-  pub writes : Appends old new (text_of own list) → WritesMade IsMade map old new
-  writes written = record { list = list; made = made; written = subst (λ m. Appends old new (text_of m list)) same written }
-
   pub writes_prefix : AppendsPrefix old new (text_of own list) → WritesMadePrefix IsMade map old new
   writes_prefix written = record { list = list; made = made; written = subst (λ m. AppendsPrefix old new (text_of m list)) same written }

@@ -1,10 +1,8 @@
 pub mod Common
 pub mod Pieces
-pub mod Limits
 pub mod Whole
 pub mod Reporting
 pub mod SeveralFrames
-pub mod MakerRuns
 pub mod FramesRuns
 pub mod RootsRuns
 pub mod Framing
@@ -12,7 +10,5 @@ pub mod Reported
 pub mod Answers
 pub mod SeveralLines
 pub mod Naming
-pub mod Starting
 pub mod LineByLine
 pub mod ReachingLines
-pub mod ComparisonRuns

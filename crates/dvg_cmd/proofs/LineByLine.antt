@@ -1,10 +1,17 @@
 -- Lines that are sent one after another, over plain values.
-use Rattle.dvg_cmd.proofs.Common.{◌≡◌, ℕ, ◌+◌, ◌<◌, List, [], ◌∷◌, ◌++◌, length, drop, get_or, Option, refl, sym, ap, ◌∙◌, subst, arith, append-nil, append_assoc, Result, OnErr, Appends, AppendsPrefix, TakesOneWrite, of_each, joined, rules, common_steps, drop-cons}
+use Rattle.dvg_cmd.proofs.Common.{take, length-append, take-append-le, Appends-trans, TakeOneWriteEach, take-append-add, ◌≡◌, ℕ, ◌+◌, ◌<◌, List, [], ◌∷◌, ◌++◌, length, drop, get_or, Option, refl, sym, ap, ◌∙◌, subst, arith, append-nil, append_assoc, Result, OnErr, Appends, AppendsPrefix, TakesOneWrite, of_each, joined, rules, common_steps, drop-cons}
 use Rattle.dvg_cmd.specs.Private.Sent.{Sent}
-use Rattle.dvg_cmd.proofs.SeveralLines.{joined_on, sent_part, prefix_more, one_write_on}
 
 pub on_err : {A E P : Type 0} (r : Result A E) → P → OnErr r P
 on_err r p = grind (arith)
+
+pub joined_on : (texts more : List (List ℕ)) → joined (texts ++ more) ≡ joined texts ++ joined more
+joined_on [] more = refl
+joined_on (text ∷ texts) more = ap (λ (t : List ℕ). text ++ t) (joined_on texts more) ∙ sym (append_assoc text (joined texts) (joined more))
+
+pub one_write_on : (texts more : List (List ℕ)) (old mid new : ℕ) → TakeOneWriteEach texts old mid → TakeOneWriteEach more mid new → TakeOneWriteEach (texts ++ more) old new
+one_write_on [] more old mid new h one = subst (λ n. TakeOneWriteEach more n new) h one
+one_write_on (text ∷ texts) more old mid new h one = (h.0, h.1, one_write_on texts more h.0 mid new h.2 one)
 
 -- two runs of lines, one after the other
 module _ (lines more : List (List ℕ)) (old mid new : Option (List ℕ)) (writes writes_mid writes_after : ℕ) (h : Sent lines old mid writes writes_mid) where
@@ -12,10 +19,13 @@ module _ (lines more : List (List ℕ)) (old mid new : Option (List ℕ)) (write
   both_sent k = grind (arith, rules, common_steps, (joined_on lines more), (joined lines), (joined more), (one_write_on lines more writes writes_mid writes_after h.one_write k.one_write), joined_on, joined, one_write_on)
 
   pub both_cut : AppendsPrefix mid new (joined more) → AppendsPrefix old new (joined (lines ++ more))
-  both_cut k = sent_part old mid new (joined (lines ++ more)) (joined lines) (joined more) (joined_on lines more) h.written k
+  both_cut k =
+      let both : take (length (joined lines) + k.0) (joined (lines ++ more)) ≡ joined lines ++ take k.0 (joined more) = ap (take (length (joined lines) + k.0)) (joined_on lines more) ∙ take-append-add (joined lines) (joined more) k.0 in
+      let size : length (joined (lines ++ more)) ≡ length (joined lines) + length (joined more) = ap length (joined_on lines more) ∙ length-append (joined lines) (joined more) in
+      (length (joined lines) + k.0, omega (arith, size, k.1), subst (λ t. Appends old new t) (sym both) (Appends-trans old mid new (joined lines) (take k.0 (joined more)) h.written k.2))
 
 pub first_cut : (lines more : List (List ℕ)) (old new : Option (List ℕ)) → AppendsPrefix old new (joined lines) → AppendsPrefix old new (joined (lines ++ more))
-first_cut lines more old new h = subst (AppendsPrefix old new) (sym (joined_on lines more)) (prefix_more old new (joined lines) (joined more) h)
+first_cut lines more old new h = subst (AppendsPrefix old new) (sym (joined_on lines more)) (grind (arith, length-append, take-append-le))
 
 module _ (all : List (List ℕ)) (old : Option (List ℕ)) (writes : ℕ) where
   -- of all lines these are left, and those before them were sent
@@ -31,9 +41,6 @@ module _ (all : List (List ℕ)) (old : Option (List ℕ)) (writes : ℕ) where
     first : joined (line ∷ []) ≡ piece
     first = append-nil line ∙ sym is
 
-    whole_on : (h.done ++ line ∷ []) ++ rest ≡ all
-    whole_on = append_assoc h.done (line ∷ []) rest ∙ ap (λ ls. h.done ++ ls) (sym next) ∙ h.whole
-
     pub one_sent : 0 < length line → (writes_after : ℕ) → Appends mid new piece → (0 < length piece → TakesOneWrite piece writes_mid writes_after) → SentTo rest new writes_after
     one_sent some writes_after written one =
         record {
@@ -44,7 +51,7 @@ module _ (all : List (List ℕ)) (old : Option (List ℕ)) (writes : ℕ) where
                 written = subst (Appends mid new) (sym first) written;
                 one_write = (writes_after, subst (λ t. TakesOneWrite t writes_mid writes_after) is (one (subst (λ t. 0 < length t) (sym is) some)), refl);
               });
-          whole = whole_on;
+          whole = append_assoc h.done (line ∷ []) rest ∙ ap (λ ls. h.done ++ ls) (sym next) ∙ h.whole;
         }
 
     pub one_cut : AppendsPrefix mid new piece → AppendsPrefix old new (joined all)

@@ -7,12 +7,9 @@ abbrev pub lines_from : List (String Global) → List Bool → ℕ → List (Lis
 lines_from names reaching n = reaching_lines (of_each (λ name. string_bytes name) (drop n names)) (drop n reaching)
 
 passed : (names : List (String Global)) (reaching : List Bool) (n : ℕ) → n < length reaching → get_or reaching n false ≡ false → lines_from names reaching n ≡ lines_from names reaching (suc n)
-passed names [] n lt is = absurd (omega (arith, lt))
-passed [] (b ∷ reaching) zero lt is = refl
-passed [] (b ∷ reaching) (suc n) lt is = refl
-passed (m ∷ names) (true ∷ reaching) zero lt is = cc
-passed (m ∷ names) (false ∷ reaching) zero lt is = refl
+passed names (b ∷ reaching) zero lt is = grind (arith, of_each)
 passed (m ∷ names) (b ∷ reaching) (suc n) lt is = passed names reaching n (omega (arith, lt)) is
+passed names reaching n lt is = grind (arith)
 
 no_answers : (names : List (List ℕ)) → reaching_lines names [] ≡ []
 no_answers [] = refl

@@ -1,5 +1,6 @@
 -- The verdict on what was read is the one on all, and what is reported of it, over plain values.
-use Rattle.dvg_cmd.proofs.Common.{Option, List, [], None, Some, subst, ◌≡◌, ℕ, Result, IfOk, IfSome, Ok, Err, Machine, Board, words_of, rom_on, Window, Certificate, CertFault, Safe, CountsAtHalt, SafeOnCircuit, CountsOnCircuit, InRange, RomVerdict, Mode, Refusal, Yes, IsPrefix, Judges, ReadsText, arith, Memory, Spells, PrefixRefusal, RangeRefusal, JudgesRom, SafeRead, CountsRead, SafeCircuitRead, CountsCircuitRead}
+use Rattle.dvg_cmd.proofs.Common.{Option, List, [], None, Some, subst, ◌≡◌, ℕ, Result, IfOk, IfSome, Ok, Err, Machine, Board, words_of, rom_on, Window, Certificate, CertFault, Safe}
+use Rattle.dvg_cmd.proofs.Common.{CountsAtHalt, SafeOnCircuit, CountsOnCircuit, InRange, RomVerdict, Mode, Refusal, Yes, IsPrefix, Judges, ReadsText, arith, Memory, Spells, PrefixRefusal, RangeRefusal, JudgesRom, SafeRead, CountsRead, SafeCircuitRead, CountsCircuitRead}
 use Rattle.dvg_verdict.proofs.OneVerdict.{out_of_range}
 use Rattle.dvg_verdict.specs.Verdict.{CertVerdict, VerdictOn}
 use Rattle.dvg_check.specs.declared.verdict.Refusal.TheVariants as refusal
@@ -11,13 +12,15 @@ of_cert : (machine : Machine) (mode : Mode) (w : Window) (rb cb fb : List ℕ) (
 of_cert machine mode w rb cb fb budget v h = grind (arith)
 
 -- what holds of the memory that was read holds of all
-over : (machine : Machine) (P : Yes → Memory → Type 0) (mode : Mode) (w : Window) (budget : ℕ) (v : Result Yes Refusal) (rb fb : List ℕ) (c : Certificate) (cert left : Option (List ℕ)) → InRange fb budget → ReadsText cert left (Ok c) → RomVerdict machine mode w rb c (words_of fb) budget v → IfOk v (λ yes. P yes (record { frame = words_of fb; rom = rom_on machine c.map rb }))
+over : (machine : Machine) (P : Yes → Memory → Type 0) (mode : Mode) (w : Window) (budget : ℕ) (v : Result Yes Refusal) (rb fb : List ℕ) (c : Certificate) (cert left : Option (List ℕ)) → InRange fb budget → ReadsText cert left (Ok c)
+    → RomVerdict machine mode w rb c (words_of fb) budget v → IfOk v (λ yes. P yes (record { frame = words_of fb; rom = rom_on machine c.map rb }))
     → (rom frame_held : Option (List ℕ)) → IsPrefix 4097 rom rb → IsPrefix 2049 frame_held fb → IfOk v (λ yes. IfSome rom (λ r. IfSome cert (λ t. IfSome frame_held (λ f. (d : Certificate) × Spells d t × P yes (record { frame = words_of f; rom = rom_on machine d.map r })))))
 over machine P mode w budget (Err r) rb fb c cert left range text h holds rom frame_held rom_read frame_read = tt
 over machine P mode w budget (Ok y) rb fb c cert left range text h holds None frame_held rom_read frame_read = tt
 over machine P mode w budget (Ok y) rb fb c None left range text h holds (Some r) frame_held rom_read frame_read = tt
 over machine P mode w budget (Ok y) rb fb c (Some t) left range text h holds (Some r) None rom_read frame_read = tt
-over machine P mode w budget (Ok y) rb fb c (Some t) left range text h holds (Some r) (Some f) rom_read frame_read = grind (arith, (rom_same rb r (prefix_of_held 4097 (Some r) rb rom_read) c.map text.is.0.map_is h.0), (prefix_of_held 4097 (Some r) rb rom_read), (frame_same budget fb f (prefix_of_held 2049 (Some f) fb frame_read) range.frame_length), (prefix_of_held 2049 (Some f) fb frame_read), (text_of_held (Some t) left (Ok c) text), (words_of f), rom_on, words_of, (rom_on machine c.map rb))
+over machine P mode w budget (Ok y) rb fb c (Some t) left range text h holds (Some r) (Some f) rom_read frame_read =
+    grind (arith, (rom_same rb r (prefix_of_held 4097 (Some r) rb rom_read) c.map text.is.0.map_is h.0), (prefix_of_held 4097 (Some r) rb rom_read), (frame_same budget fb f (prefix_of_held 2049 (Some f) fb frame_read) range.frame_length), (prefix_of_held 2049 (Some f) fb frame_read), (text_of_held (Some t) left (Ok c) text), (words_of f), rom_on, words_of, (rom_on machine c.map rb))
 
 module _ (machine : Machine) (mode : Mode) (w : Window) (budget : ℕ) (rb fb : List ℕ) (rom frame_held : Option (List ℕ)) (rom_read : IsPrefix 4097 rom rb) (frame_read : IsPrefix 2049 frame_held fb) where
   frame_prefix : PrefixOf 2049 fb (held_bytes frame_held fb)

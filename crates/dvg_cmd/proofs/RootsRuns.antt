@@ -1,5 +1,5 @@
 -- What a run of the maker for frames answers where there are none, over plain values.
-use Rattle.dvg_cmd.proofs.Common.{◌≡◌, ℕ, List, [], Option, None, subst, Machine, rom_on, words_of, MemoryMap, Key, of_each, MakesForFrames, FramesFaultMeans, arith, Entry, FramesMade, make_fault_of, EntryFault, MakeRunFault, Makes, WritesMade, WritesMadePrefix, MakeFaultMeans, EachHeld, RefusesInputs}
+use Rattle.dvg_cmd.proofs.Common.{◌≡◌, ℕ, List, [], Option, None, subst, Machine, rom_on, words_of, MemoryMap, Key, of_each, MakesForFrames, FramesFaultMeans, arith, Entry, FramesMade, make_fault_of, EntryFault, MakeRunFault, Makes, WritesMade, WritesMadePrefix, MakeFaultMeans, RefusesInputs}
 use Rattle.dvg_make.specs.declared.fault.EntryFault.TheVariants.{Memory}
 use Rattle.dvg_make.specs.declared.fault.MakeFault.TheVariants as making
 use Rattle.dvg_make.proofs.Collecting.{as_make_fault}
@@ -7,15 +7,12 @@ use Rattle.dvg_make.proofs.Finishing.{made_roots}
 use Rattle.dvg_spelling.specs.declared.fault.FramesRunFault.TheVariants as fault
 use Rattle.dvg_spelling.specs.declared.fault.MakeRunFault.TheVariants as maker
 
-no_frames : (frames : List (List ℕ)) → EachHeld [] frames → frames ≡ []
-no_frames frames h = grind (arith)
-
 module _ (machine : Machine) (rom : Option (List ℕ)) (map : MemoryMap) (roots : List (ℕ × Key)) where
   -- what is made for no frames is what is made for the roots
   roots_made : (list : List Entry) → MakesForFrames machine rom map roots [] list → Makes machine rom map roots list
   roots_made list made =
       let all = made.0 in
-      let none : all.frame_bytes ≡ [] = no_frames all.frame_bytes all.frames_held in
+      let none : all.frame_bytes ≡ [] = grind (arith) in
       search (all.rom_held, made_roots (rom_on machine map all.rom_bytes) roots list (subst (λ l. FramesMade (rom_on machine map all.rom_bytes) roots (of_each words_of l) list) none made.1))
 
   pub roots_written : (old new : Option (List ℕ)) → WritesMade (MakesForFrames machine rom map roots []) map old new → WritesMade (Makes machine rom map roots) map old new
@@ -26,7 +23,7 @@ module _ (machine : Machine) (rom : Option (List ℕ)) (map : MemoryMap) (roots 
 
   -- and what is refused for no frames is refused for the roots
   roots_refused : (why : EntryFault) → RefusesInputs machine rom map roots [] (record { call = None; why = why }) → MakeFaultMeans machine rom map roots (maker.Make (make_fault_of why))
-  roots_refused why h = grind (arith, no_frames, as_make_fault, rom_on, of_each, words_of)
+  roots_refused why h = grind (arith, as_make_fault, rom_on, of_each, words_of)
 
   pub roots_fault : (f : MakeRunFault) → FramesFaultMeans machine rom map roots [] (fault.Plain f) → MakeFaultMeans machine rom map roots f
   roots_fault maker.RomLength h = h

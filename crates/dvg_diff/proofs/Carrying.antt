@@ -1,5 +1,5 @@
 -- What is made and judged over one ROM, over another whose shapes read the same.
-use Rattle.dvg_diff.proofs.Common.{◌≡◌, ℕ, ◌∙◌, ◌↔◌, List, [], ◌∷◌, Result, Contains, refl, sym, subst, inl, inr, ⊎_elim, arith, AllByRecursion, Contains-append_left, Contains-append_right, Window, Rom, rom_word, cell_at, Cell, Entry, Key, later, Item, Shape, LeadsTo, shape_context, seen_at, CellKeeps, ShapeKeeps, ShapePlaceKeeps, GoodShape, Good, Exact, AllBefore, EachItem, MadeEntry, Needs, IsAskedFor, FramesMade, FrameMade, FrameRefused, Unstraight, Deep, TooManyWords, TooManyEntries, Memory, IsTouched, ReachesTouched, SameList, SameVerdict, NoneRefused}
+use Rattle.dvg_diff.proofs.Common.{◌≡◌, ℕ, ◌∙◌, List, [], ◌∷◌, Result, Contains, refl, sym, subst, inl, inr, ⊎_elim, arith, AllByRecursion, Contains-append_left, Contains-append_right, Window, Rom, rom_word, cell_at, Cell, Entry, Key, later, Item, Shape, LeadsTo, shape_context, seen_at, CellKeeps, ShapeKeeps, ShapePlaceKeeps, GoodShape, Good, Exact, AllBefore, EachItem, MadeEntry, Needs, FramesMade, FrameMade, IsTouched, ReachesTouched, SameList}
 use Rattle.dvg_check.specs.declared.fault.Mode.{Mode}
 use Rattle.dvg_check.specs.declared.fault.ShapeWhy.{ShapeWhy}
 use Rattle.dvg_check.specs.declared.fault.ShapeWhy.TheVariants as shape
@@ -8,11 +8,7 @@ use Rattle.dvg_check.specs.declared.fault.ShapeFault.{ShapeFault}
 use Rattle.dvg_check.specs.Verdict.{PartsVerdict}
 use Rattle.dvg_check.specs.declared.verdict.Yes.{Yes}
 use Rattle.dvg_check.specs.declared.verdict.Refusal.{Refusal}
-use Rattle.dvg_check.specs.declared.verdict.Refusal.TheVariants as refusal
 use Rattle.dvg_make.specs.Judging.{ByMade}
-use Rattle.dvg_make.specs.declared.judging.FrameRefusal.TheVariants.{Make}
-use Rattle.dvg_make.specs.declared.fault.EntryFault.{EntryFault}
-use Rattle.dvg_make.proofs.Collecting.{made_all}
 use Rattle.dvg_make.proofs.OneFrame.{one_frames_made}
 use Rattle.dvg_diff.proofs.Same.{with_words, alike_is, cell_there, forth, back, untouched_back}
 
@@ -73,10 +69,8 @@ module _ (rom : Rom) (others : List ℕ) (list : List Entry) (untouched : Reache
 
   fault_there : (mode : Mode) (w : Window) (f : ShapeFault) → FirstShapeFault mode w rom list f → FirstShapeFault mode w other list f
   fault_there mode w f h =
-      let listed : Contains list h.entry =
-      subst (λ (es : List Entry). Contains es h.entry) (sym h.order_is) (Contains-append_right h.before (h.entry ∷ h.after) h.entry (0, omega arith, refl)) in
-      let among : (e : Entry) → Contains h.before e → Contains list e =
-      λ e c. subst (λ (es : List Entry). Contains es e) (sym h.order_is) (Contains-append_left h.before (h.entry ∷ h.after) e c) in
+      let listed : Contains list h.entry = subst (λ (es : List Entry). Contains es h.entry) (sym h.order_is) (Contains-append_right h.before (h.entry ∷ h.after) h.entry (0, omega arith, refl)) in
+      let among = λ (e : Entry) (c : Contains h.before e). subst (λ (es : List Entry). Contains es e) (sym h.order_is) (Contains-append_left h.before (h.entry ∷ h.after) e c) in
       let lead = h.fault.leads in
       record {
         before = h.before;
@@ -118,33 +112,9 @@ module _ (rom : Rom) (others : List ℕ) (list : List Entry) (untouched : Reache
       let same : by.list ≡ list = one_frames_made rom [] (words ∷ []) by.list list by.made made in
       search (list, made_there [] (words ∷ []) made, verdict_there w words budget answer (subst (λ (es : List Entry). PartsVerdict Exact w rom es words budget answer) same by.verdict))
 
--- ---- the laws
+-- ---- the law
 
 pub same_list : SameList
 same_list rom other roots frames list u =
     subst (λ (o : Rom). (ReachesTouched rom o list → ⊥) → FramesMade o roots frames list) (alike_is rom other u.alike)
     (λ h. made_there rom other.words list h roots frames u.made) u.untouched
-
-pub same_verdict : SameVerdict
-same_verdict rom other words list u w budget answer =
-    subst (λ (o : Rom). (ReachesTouched rom o list → ⊥) → ByMade rom words w budget answer ↔ ByMade o words w budget answer) (alike_is rom other u.alike)
-    (λ h. (
-      judged_there rom other.words list h words u.made w budget answer,
-      judged_there (with_words rom other.words) rom.words list (list_untouched_back rom other.words list h) words (made_there rom other.words list h [] (words ∷ []) u.made) w budget answer,
-    ))
-    u.untouched
-
-pub none_refused : NoneRefused
-none_refused rom other words list u w budget at why refused = by_cause why refused
-  where
-    made : FrameMade other words list
-    made = same_list rom other [] (words ∷ []) list u
-
-    by_cause : (why : EntryFault) → FrameRefused other words w budget (Make at why) → ⊥
-    by_cause (Unstraight word) r = r.0 list made
-    by_cause Deep r = r.0 list made
-    by_cause TooManyWords r = r.0 list made
-    by_cause TooManyEntries r =
-        let long = r.0 list (made_all other (IsAskedFor other.machine [] (words ∷ []) list) list made) made.rooted in
-        omega (arith, long, made.certificate.few)
-    by_cause Memory r = r

@@ -10,7 +10,7 @@ pub use Rattle.dvg_diff.specs.Touched.{IsTouched, ReachesTouched, AreAlike, take
 pub use Rattle.dvg_items.specs.declared.item.Kind.TheVariants.{Shape, Frame}
 pub use Rattle.dvg_make.specs.declared.fault.EntryFault.TheVariants.{Unstraight, Deep, TooManyWords, TooManyEntries, Memory}
 pub use Rattle.dvg_items.specs.declared.item.Item.{Item}
-pub use Rattle.dvg_diff.specs.Laws.{SameList, SameVerdict, NoneRefused, SameRuns}
+pub use Rattle.dvg_diff.specs.Laws.{SameList}
 pub use Rattle.dvg_cert.specs.declared.entry.Entry.{Entry}
 pub use Rattle.dvg_words.specs.declared.instruction.Format.{Format}
 pub use Rattle.dvg_diff.specs.Comparing.{FrameReaches, EachReaches}

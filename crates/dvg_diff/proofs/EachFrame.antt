@@ -1,15 +1,11 @@
 -- Frame after frame, and a want of memory.
-use Rattle.dvg_diff.proofs.Common.{◌≡◌, ℕ, suc, ◌+◌, ◌<◌, ◌++◌, List, [], ◌∷◌, length, take, get_or, Bool, None, refl, sym, subst, arith, rules, common_steps, take-suc, Rom, Key, start, Shape, FramesRefuse, HasCause, Memory, FrameReaches, EachReaches}
+use Rattle.dvg_diff.proofs.Common.{◌≡◌, ℕ, ◌+◌, ◌<◌, ◌++◌, List, [], ◌∷◌, length, take, get_or, Bool, None, refl, sym, subst, arith, rules, common_steps, take-suc, Rom, Key, start, Shape, HasCause, Memory, FrameReaches, EachReaches}
 use Rattle.dvg_cert.specs.declared.entry.Key.TheVariants.{Any}
 use Rattle.dvg_make.specs.declared.account.EntryCause.TheVariants as cause
 use Rattle.dvg_make.specs.declared.fault.FramesFault.{FramesFault}
 
-module _ (rom : Rom) (roots : List (ℕ × Key)) (frames : List (List ℕ)) (f : FramesFault) (is : f ≡ record { call = None; why = Memory }) where
-  pub memory_refuses : FramesRefuse rom roots frames f
-  memory_refuses = subst (FramesRefuse rom roots frames) (sym is) (record { list = tt; root = tt; frame = tt })
-
-  pub memory_told : HasCause rom roots frames f
-  memory_told = subst (HasCause rom roots frames) (sym is) (record { chain = []; at = 0; before = start Shape Any; cause = cause.Memory; why_is = refl; told = tt })
+pub memory_told : (rom : Rom) (roots : List (ℕ × Key)) (frames : List (List ℕ)) (f : FramesFault) → f ≡ record { call = None; why = Memory } → HasCause rom roots frames f
+memory_told rom roots frames f is = subst (HasCause rom roots frames) (sym is) (record { chain = []; at = 0; before = start Shape Any; cause = cause.Memory; why_is = refl; told = tt })
 
 module _ (rom other : Rom) where
   one_more : (frames : List (List ℕ)) (reaching : List Bool) (words : List ℕ) (reaches : Bool) → EachReaches rom other frames reaching → FrameReaches rom other words reaches

@@ -1,16 +1,15 @@
 -- The runs of a good frame over two ROMs whose shapes read the same.
-use Rattle.dvg_diff.proofs.Common.{◌≡◌, ℕ, zero, suc, ◌+◌, ◌<◌, ◌∙◌, ◌⊎◌, ◌↔◌, ◌++◌, List, [], ◌∷◌, nat_lt, Some, Bool, Contains, refl, sym, subst, inl, inr, ⊎_elim, arith, rules, nat_tests, AllByRecursion, Window, Source, Rom, IsMemory, rom_word, frame_word, word_at, word_count, cell_at, State, Status, Running, Halted, Fault, Reached, next_status, after_call, after_return, after_instruction, places, Cell, Odd, Holds, Format, Short, Long, Instr, Entry, Key, Item, Shape, Frame, LeadsTo, address_after, target, scale_before, shape_context, frame_context, seen_at, listed_at, GoodFrame, CellKeeps, ShapeKeeps, FrameKeeps, Exact, HasEntry, FrameMade, FrameAsksFor, ReachesTouched, SameRuns}
+use Rattle.dvg_diff.proofs.Common.{◌≡◌, ℕ, zero, suc, ◌+◌, ◌<◌, ◌∙◌, ◌⊎◌, ◌++◌, List, [], ◌∷◌, nat_lt, Some, Contains, refl, sym, subst, inl, inr, ⊎_elim, arith, nat_tests, AllByRecursion, Window, Source, Rom, IsMemory, rom_word, frame_word, word_at, word_count, cell_at, State, Status, Running, Halted, Fault, Reached, after_instruction, places, Cell, Holds, Format, Short, Long, Instr, Entry, Key, Item, Shape, Frame, LeadsTo, address_after, target, scale_before, shape_context, frame_context, seen_at, listed_at, GoodFrame, CellKeeps, ShapeKeeps, FrameKeeps, Exact, HasEntry, FrameMade, FrameAsksFor, ReachesTouched}
 use Rattle.dvg_words.specs.declared.beam.Point.{Point}
 use Rattle.dvg_words.specs.Memory.{Memory}
 use Rattle.dvg_words.specs.Generator.{start}
 use Rattle.dvg_words.specs.declared.instruction.Instr.TheVariants.{Draw as Draws, Labs, Halt, Jsrl, Rtsl, Jmpl}
-use Rattle.dvg_check.specs.declared.fault.FrameWhy.{FrameWhy}
 use Rattle.dvg_check.specs.declared.fault.ShapeWhy.TheVariants as shape
 use Rattle.dvg_check.specs.declared.fault.FrameWhy.TheVariants as frame
 use Rattle.dvg_check.proofs.Steps.{stands, next_there}
 use Rattle.dvg_check.proofs.Onward.{long_there}
-use Rattle.dvg_diff.proofs.Same.{with_words, alike_is, cell_there}
-use Rattle.dvg_diff.proofs.Carrying.{each_untouched, list_untouched_back, made_there}
+use Rattle.dvg_diff.proofs.Same.{with_words, cell_there}
+use Rattle.dvg_diff.proofs.Carrying.{each_untouched}
 
 -- ---- an instruction stands at a place that keeps the first two rules
 
@@ -25,9 +24,6 @@ instruction_at missing odd keeps p cell k l = grind (arith)
 one_word : (get : Source) (p to : ℕ) (format : Format) → cell_at get p ≡ Holds format (Jsrl to) → word_count format ≡ 1
 one_word get p to Short is = refl
 one_word get p to Long is = absurd (long_there get p (Jsrl to) is)
-
-goes_forward : (p to : ℕ) (format : Format) → p < to → address_after Frame p format (Jmpl to) ≡ Some to
-goes_forward p to format lt = grind (arith, nat_lt, nat_tests)
 
 module _ (rom : Rom) (others : List ℕ) (words : List ℕ) (list : List Entry) (untouched : ReachesTouched rom (with_words rom others) list → ⊥) (made : FrameMade rom words list)
     (mem : IsMemory (record { frame = words; rom = rom })) (mem_there : IsMemory (record { frame = words; rom = with_words rom others }))
@@ -56,10 +52,9 @@ module _ (rom : Rom) (others : List ℕ) (words : List ℕ) (list : List Entry) 
   abbrev Leads : ℕ → Format → Instr → Type 0
   Leads p format (Draws d) = IsOn (p + word_count format)
   Leads p format (Labs x y gscale) = IsOn (p + word_count format)
-  Leads p format Halt = Unit {0}
   Leads p format (Jsrl to) = IsOn to × IsOn (p + 1)
-  Leads p format Rtsl = Unit {0}
   Leads p format (Jmpl to) = IsOn to
+  Leads p format other = Unit {0}
 
   record StandsAlike (p : ℕ) : Type 0 where
     format : Format
@@ -93,20 +88,13 @@ module _ (rom : Rom) (others : List ℕ) (words : List ℕ) (list : List Entry) 
     shape_leads format Rtsl is = tt
     shape_leads format (Jmpl to) is = shape_call format (Jmpl to) to is refl
 
-    shape_item : Instruction (cell_at (rom_word rom) p)
-    shape_item =
-        let keeps = (made.each o.entry o.listed).keeps o.earlier p o.leads in
-        instruction_at shape.Unmapped shape.Odd (λ i. ShapeKeeps Exact w o.entry (seen_at (shape_context rom.machine list o.entry) o.earlier i)) p (cell_at (rom_word rom) p)
-        (keeps shape.Unmapped w (λ (e : shape.Unmapped ≡ shape.OffScreen). cc e)) (keeps shape.Odd w (λ (e : shape.Odd ≡ shape.OffScreen). cc e))
-
-    cell_same : cell_at (rom_word rom) p ≡ cell_at (rom_word (with_words rom others)) p
-    cell_same = cell_there rom others o.entry.addr (each_untouched rom others list untouched o.entry o.listed) o.earlier p o.leads
-
-    shape_by : Instruction (cell_at (rom_word rom) p) → StandsAlike p
-    shape_by i = search (stands Shape here p i.format i.instr mem i.is, stands Shape there p i.format i.instr mem_there (sym cell_same ∙ i.is), shape_leads i.format i.instr i.is)
-
     shape_stands : StandsAlike p
-    shape_stands = shape_by shape_item
+    shape_stands =
+        let keeps = (made.each o.entry o.listed).keeps o.earlier p o.leads in
+        let i = instruction_at shape.Unmapped shape.Odd (λ i. ShapeKeeps Exact w o.entry (seen_at (shape_context rom.machine list o.entry) o.earlier i)) p (cell_at (rom_word rom) p)
+        (keeps shape.Unmapped w (λ (e : shape.Unmapped ≡ shape.OffScreen). cc e)) (keeps shape.Odd w (λ (e : shape.Odd ≡ shape.OffScreen). cc e)) in
+        let same = cell_there rom others o.entry.addr (each_untouched rom others list untouched o.entry o.listed) o.earlier p o.leads in
+        search (stands Shape here p i.format i.instr mem i.is, stands Shape there p i.format i.instr mem_there (sym same ∙ i.is), shape_leads i.format i.instr i.is)
 
   module _ (p : ℕ) (o : OnFrame p) where
     frame_next : (format : Format) (instr : Instr) (to : ℕ) → cell_at (frame_word rom.machine words) p ≡ Holds format instr → address_after Frame p format instr ≡ Some to → IsOn to
@@ -119,12 +107,6 @@ module _ (rom : Rom) (others : List ℕ) (words : List ℕ) (list : List Entry) 
         record { earlier = o.earlier; item = record { at = p; format = format; instr = Jsrl to }; leads = o.leads; stands = is; target_is = refl; scale_is = refl } in
         at_entry to scale (made.rooted to scale (inr (words, (0, omega arith, refl), asks)))
 
-    abbrev Keeps : FrameWhy → Cell → Type 0
-    Keeps why cell = CellKeeps frame.Unmapped frame.Odd (λ i. FrameKeeps w budget (seen_at (frame_context rom.machine list) o.earlier i)) p cell why
-
-    forward : (format : Format) (to : ℕ) → cell_at (frame_word rom.machine words) p ≡ Holds format (Jmpl to) → p < to
-    forward format to is = subst (Keeps frame.BackJump) is (good.keeps o.earlier p o.leads frame.BackJump)
-
     frame_leads : (format : Format) (instr : Instr) → cell_at (frame_word rom.machine words) p ≡ Holds format instr → Leads p format instr
     frame_leads format (Draws d) is = frame_next format (Draws d) _ is refl
     frame_leads format (Labs x y gscale) is = frame_next format (Labs x y gscale) _ is refl
@@ -134,7 +116,10 @@ module _ (rom : Rom) (others : List ℕ) (words : List ℕ) (list : List Entry) 
       subst (λ (n : ℕ). IsOn (p + n)) (one_word (frame_word rom.machine words) p to format is) (frame_next format (Jsrl to) _ is refl),
     )
     frame_leads format Rtsl is = tt
-    frame_leads format (Jmpl to) is = frame_next format (Jmpl to) to is (goes_forward p to format (forward format to is))
+    frame_leads format (Jmpl to) is =
+        let keeps = good.keeps o.earlier p o.leads frame.BackJump in
+        let forward : p < to = grind (arith, is, keeps) in
+        frame_next format (Jmpl to) to is (grind (arith, nat_tests, forward))
 
     frame_stands : StandsAlike p
     frame_stands =
@@ -150,54 +135,20 @@ module _ (rom : Rom) (others : List ℕ) (words : List ℕ) (list : List Entry) 
   -- the next word and all return places are places of items
   abbrev OnStatus : Status → Type 0
   OnStatus (Running s) = IsOn s.pc × AllByRecursion IsOn s.return_stack
-  OnStatus (Halted s) = Unit {0}
-  OnStatus (Fault s) = Unit {0}
-
-  on_call : (b : Bool) (to : ℕ) (s : State) → IsOn to → IsOn (s.pc + 1) → AllByRecursion IsOn s.return_stack → OnStatus (after_call b to s)
-  on_call b to s h k all = grind (arith)
-
-  on_return : (stack : List ℕ) (s : State) → AllByRecursion IsOn stack → OnStatus (after_return stack s)
-  on_return stack s all = grind (arith)
+  OnStatus other = Unit {0}
 
   on_after : (format : Format) (instr : Instr) (s : State) → Leads s.pc format instr → AllByRecursion IsOn s.return_stack → OnStatus (after_instruction rom.machine instr format s)
-  on_after format instr s l all = grind (arith, on_call, nat_lt, on_return)
-
-  module _ (s : State) (on : OnStatus (Running s)) where
-    next_alike : next_status here s ≡ next_status there s
-    next_alike =
-        let st = stand_alike s.pc on.0 in
-        next_there here s st.format st.instr st.is_here ∙ sym (next_there there s st.format st.instr st.is_there)
-
-    next_on : OnStatus (next_status here s)
-    next_on =
-        let st = stand_alike s.pc on.0 in
-        subst OnStatus (sym (next_there here s st.format st.instr st.is_here))
-        (on_after st.format st.instr (record s { fetched = places st.format s.pc ++ s.fetched }) st.leads on.1)
+  on_after format instr s l all = grind (arith, nat_lt)
 
   run_there : (steps : ℕ) (from to : Status) → OnStatus from → Reached here steps from to → Reached there steps from to
   run_there zero from to on r = r
   run_there (suc n) (Running s) to on r =
-      (r.0, sym (next_alike s on) ∙ r.1, run_there n r.0 to (subst OnStatus r.1 (next_on s on)) r.2)
+      let st = stand_alike s.pc on.0 in
+      let now = sym (next_there here s st.format st.instr st.is_here) ∙ r.1 in
+      let more = subst OnStatus now (on_after st.format st.instr (record s { fetched = places st.format s.pc ++ s.fetched }) st.leads on.1) in
+      (r.0, next_there there s st.format st.instr st.is_there ∙ now, run_there n r.0 to more r.2)
   run_there (suc n) (Halted s) to on r = absurd r.1
   run_there (suc n) (Fault s) to on r = absurd r.1
 
   pub runs_there : (place : Point) (scale steps : ℕ) (s : Status) → Reached here steps (Running (start place scale)) s → Reached there steps (Running (start place scale)) s
   runs_there place scale steps s = run_there steps (Running (start place scale)) s (inr (record { earlier = []; leads = refl }), tt)
-
--- ---- the law
-
-abbrev Same : List ℕ → List Entry → Point → ℕ → ℕ → Status → Rom → Rom → Type 0
-Same words list place scale steps s a b =
-    (ReachesTouched a b list → ⊥) → IsMemory (record { frame = words; rom = b })
-    → Reached (record { frame = words; rom = a }) steps (Running (start place scale)) s ↔ Reached (record { frame = words; rom = b }) steps (Running (start place scale)) s
-
-pub same_runs : SameRuns
-same_runs rom other words list u mem mem_other w budget count depth good place scale steps s =
-    subst (Same words list place scale steps s rom) (alike_is rom other u.alike) alike u.untouched mem_other
-  where
-    alike : Same words list place scale steps s rom (with_words rom other.words)
-    alike h k = (
-      runs_there rom other.words words list h u.made mem k w budget count depth good place scale steps s,
-      runs_there (with_words rom other.words) rom.words words list (list_untouched_back rom other.words list h)
-          (made_there rom other.words list h [] (words ∷ []) u.made) k mem w budget count depth good place scale steps s,
-    )

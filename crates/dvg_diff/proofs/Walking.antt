@@ -1,5 +1,5 @@
 -- A walk over a shape up to the first word that differs.
-use Rattle.dvg_diff.proofs.Common.{◌≡◌, ℕ, ◌+◌, ◌<◌, ◌∙◌, ◌++◌, length, List, [], ◌∷◌, Option, Some, None, Contains, IfSome, IfNone, take, get_or, suc, refl, sym, ap, subst, inl, inr, ⊎_elim, arith, rules, common_steps, cases_lt, take-suc, Rom, rom_word, cell_at, Holds, Format, Instr, Entry, Item, Shape, LeadsTo, AtEachOf, next_address, everywhere, same_lead, shorter, DiffersAt, taken_at, ReadsDiffering, IsTouched, TouchedEntry, AreTouched}
+use Rattle.dvg_diff.proofs.Common.{◌≡◌, ℕ, ◌+◌, ◌<◌, ◌∙◌, ◌++◌, length, List, [], ◌∷◌, Option, Some, None, Contains, IfNone, take, get_or, sym, ap, subst, inl, inr, ⊎_elim, arith, rules, common_steps, cases_lt, take-suc, Rom, rom_word, cell_at, Holds, Format, Instr, Entry, Item, Shape, LeadsTo, AtEachOf, next_address, everywhere, same_lead, shorter, DiffersAt, taken_at, ReadsDiffering, IsTouched, TouchedEntry, AreTouched}
 use Rattle.dvg_items.proofs.Leading.{here_same}
 
 module _ (rom other : Rom) where
@@ -17,16 +17,7 @@ module _ (rom other : Rom) where
       pub leads : LeadsTo Shape (rom_word rom) addr items at
       pub none : AtEachOf (λ earlier p. TakesNone p) items
 
-    pub starts : Passed addr
-    starts = record { items = []; leads = refl; none = tt }
-
     module _ (at : ℕ) (passed : Passed at) where
-      pub finds : (p : ℕ) → TakesDiffering at p → ReadsDiffering rom other addr p
-      finds p t = record { reads = record { earlier = passed.items; at = at; leads = passed.leads; taken = t.0 }; differs = t.1 }
-
-      pub found : (o : Option ℕ) → IfSome o (TakesDiffering at) → IfSome o (ReadsDiffering rom other addr)
-      found o h = grind (arith)
-
       module _ (none : TakesNone at) where
         pub goes_on : (format : Format) (instr : Instr) (next : ℕ) → cell_at (rom_word rom) at ≡ Holds format instr → next_address Shape (record { at = at; format = format; instr = instr }) ≡ Some next → Passed next
         goes_on format instr next is goes =
@@ -62,11 +53,8 @@ module _ (rom other : Rom) where
               (cases_lt (length passed.items) (length earlier)))
               (cases_lt (length earlier) (length passed.items))
 
-          pub stops : IsTouched rom other addr → ⊥
-          stops t = let r = t.1.reads in takes_none r.earlier r.at r.leads t.0 r.taken t.1.differs
-
       pub none_left : ((format : Format) (instr : Instr) → cell_at (rom_word rom) at ≡ Holds format instr → ⊥) → (o : Option ℕ) → IfNone o (TakesNone at) → IfNone o (IsTouched rom other addr → ⊥)
-      none_left nothing None h = stops h nothing
+      none_left nothing None h = λ t. let r = t.1.reads in takes_none h nothing r.earlier r.at r.leads t.0 r.taken t.1.differs
       none_left nothing (Some p) h = tt
 
   -- ---- the touched ones, from one entry to the next

@@ -1,7 +1,6 @@
 pub mod Common
 pub mod Points
 pub mod PlaceLaw
-pub mod TotalLaws
 pub mod LeastBoxes
 pub mod Reached
 pub mod Near

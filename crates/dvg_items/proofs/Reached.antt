@@ -22,14 +22,10 @@ module _ (step : ℕ) where
   place_more m n Lost le h = tt
 
   pub effect_more : (m n : ℕ) (e : Effect) → m ≤ n → IsReachedEffect step m e → IsReachedEffect step n e
-  effect_more m n (Sets p) le h = reached_more m n p le h
-  effect_more m n Loses le h = tt
-  effect_more m n (Moves d) le h = reached_more m n d le h
+  effect_more m n e le h = grind (arith, (λ (p : Point). reached_more m n p le))
 
   pub extent_more : (m n : ℕ) (lit : LitExtent) → m ≤ n → IsReachedExtent step m lit → IsReachedExtent step n lit
-  extent_more m n Nothing le h = tt
-  extent_more m n (Between a b) le h = (reached_more m n a le h.0, reached_more m n b le h.1)
-  extent_more m n Anywhere le h = tt
+  extent_more m n lit le h = grind (arith, (λ (p : Point). reached_more m n p le))
 
   pub box_more : (m n : ℕ) (box : LitBox) → m ≤ n → IsReachedBox step m box → IsReachedBox step n box
   box_more m n Empty le h = tt

@@ -1,16 +1,11 @@
 -- What is known of labels when one more is looked at.
-use Rattle.dvg_labels.proofs.Common.{◌≡◌, ◌≢◌, ℕ, suc, ◌+◌, ◌<◌, ◌≤◌, List, [], ◌∷◌, ◌++◌, length, map, take, drop, get_or, Option, Some, None, true, false, refl, sym, ap, subst, append_assoc, arith, rules, common_steps, Contains, All, take_all, take-append-drop, Named, named_of, Label, may_name, Names, IsNearest, StandsAt, StandsAtTwo, IsFound, IsAddress}
+use Rattle.dvg_labels.proofs.Common.{◌≡◌, ◌≢◌, ℕ, ◌+◌, ◌<◌, ◌≤◌, List, [], ◌∷◌, ◌++◌, length, map, take, drop, get_or, Option, Some, None, true, false, refl, sym, subst, append_assoc, arith, rules, common_steps, Contains, All, take-append-drop, Named, named_of, Label, may_name, Names, IsNearest, StandsAt, StandsAtTwo, IsFound, IsAddress}
 use Rattle.std.proofs.lemmas.List.Elements.{All-push, All-append, All-cons, Contains-append_right}
+use Rattle.std.proofs.lemmas.List.{map-append}
 use Rattle.std.proofs.Math.Seq.{take-suc}
 use Rattle.std.specs.Option.{ok_or}
 use Rattle.dvg_labels.specs.declared.labels.Nearest.{Nearest}
 use Rattle.dvg_labels.specs.declared.fault.Unnamed.TheVariants.{Unknown}
-
-not_both : {b : _} → b ≡ true → b ≡ false → ⊥
-not_both {b = b} t f = grind (arith, t, f)
-
-pub not_true : false ≡ true → ⊥
-not_true e = not_both e refl
 
 weaken : {X : Type 0} (P Q : X → Type 0) (xs : List X) → ((x : X) → P x → Q x) → All P xs → All Q xs
 weaken P Q xs f h k d lt = f (get_or xs k d) (h k d lt)
@@ -26,9 +21,6 @@ module _ (labels : List Named) (l : Named) (name : List ℕ) where
   pub first_found : l.name ≡ name → IsFound labels name None → StandsAt (labels ++ l ∷ []) name l.addr
   first_found is h = grind (arith, rules, common_steps, (last_there is), weaken, last_there)
 
-  pub same_found : (addr : ℕ) → addr ≡ l.addr → StandsAt labels name addr → StandsAt (labels ++ l ∷ []) name addr
-  same_found addr same h = grind (arith, rules, common_steps)
-
   pub two_found : (addr : ℕ) → l.name ≡ name → addr ≢ l.addr → StandsAt labels name addr → StandsAtTwo (labels ++ l ∷ []) name
   two_found addr is ne h = grind (arith, rules, common_steps, (last_there is), last_there)
 
@@ -38,16 +30,13 @@ module _ (labels : List Named) (l : Named) (at : ℕ) where
 
   pub keep_best : (best : Option Nearest) → may_name at l.addr ≡ false → IsNearest labels at best → IsNearest (labels ++ l ∷ []) at best
   keep_best None off h = All-push (λ (o : Named). may_name at o.addr ≡ false) labels l h off
-  keep_best (Some n) off h = on_end n h (λ on. absurd (not_both on off))
+  keep_best (Some n) off h = on_end n h (λ on. grind (arith, on, off))
 
   pub keep_nearer : (n : Nearest) (d : ℕ) → at ≡ l.addr + d → n.distance ≤ d → Names labels at n.name.now n.distance → Names (labels ++ l ∷ []) at n.name.now n.distance
   keep_nearer n d near le h = on_end n h (λ on. omega (arith, near, le, h.near))
 
   at_end : (d : ℕ) → may_name at l.addr ≡ true → at ≡ l.addr + d → All (λ (o : Named). may_name at o.addr ≡ true → o.addr < l.addr) labels → Names (labels ++ l ∷ []) at l.name d
   at_end d may near below = grind (arith)
-
-  pub take_first : (d : ℕ) → may_name at l.addr ≡ true → at ≡ l.addr + d → IsNearest labels at None → Names (labels ++ l ∷ []) at l.name d
-  take_first d may near h = at_end d may near (weaken (λ (o : Named). may_name at o.addr ≡ false) (λ (o : Named). may_name at o.addr ≡ true → o.addr < l.addr) labels (λ o off on. absurd (not_both on off)) h)
 
   pub take_nearer : (n : Nearest) (d : ℕ) → may_name at l.addr ≡ true → at ≡ l.addr + d → d < n.distance → Names labels at n.name.now n.distance → Names (labels ++ l ∷ []) at l.name d
   take_nearer n d may near lt h =
@@ -60,19 +49,12 @@ module _ (labels : List Named) (l : Named) (at : ℕ) where
       (weaken (λ (o : Named). may_name at o.addr ≡ true → o.addr ≤ h.addr) P h.after (λ o f on. omega (arith, f on, higher)) h.behind))))
 
 -- one more label, as a name and an address
-map_append : (xs ys : List Label) → map named_of (xs ++ ys) ≡ map named_of xs ++ map named_of ys
-map_append [] ys = refl
-map_append (x ∷ xs) ys = ap (λ l. named_of x ∷ l) (map_append xs ys)
-
 pub one_more : (xs : List Label) (i : ℕ) (x : Label) → x ≡ get_or xs i x → i < length xs → map named_of (take (i + 1) xs) ≡ map named_of (take i xs) ++ named_of x ∷ []
-one_more xs i x is lt = grind (arith, rules, common_steps, take-suc, map_append)
+one_more xs i x is lt = grind (arith, rules, common_steps, take-suc, map-append)
 
 -- what is known of the first labels of a list, of all
 pub two_of_all : (xs : List Label) (n : ℕ) (name : List ℕ) → StandsAtTwo (map named_of (take n xs)) name → StandsAtTwo (map named_of xs) name
-two_of_all xs n name h = grind (arith, rules, common_steps, (map named_of (take n xs)), (map named_of (drop n xs)), (map named_of xs), (map_append (take n xs) (drop n xs)), (map named_of), (take-append-drop n xs), map, map_append, take-append-drop)
-
-pub found_in_all : (xs : List Label) (n : ℕ) (name : List ℕ) (found : Option ℕ) → length xs ≤ n → IsFound (map named_of (take n xs)) name found → IsFound (map named_of xs) name found
-found_in_all xs n name found le h = subst (λ ls. IsFound (map named_of ls) name found) (take_all n xs le) h
+two_of_all xs n name h = grind (arith, rules, common_steps, (map named_of (take n xs)), (map named_of (drop n xs)), (map named_of xs), (map-append named_of (take n xs) (drop n xs)), (map named_of), (take-append-drop n xs), map, take-append-drop)
 
 pub address_of_found : (labels : List Named) (name : List ℕ) (found : Option ℕ) → IsFound labels name found → IsAddress labels name (ok_or found Unknown)
 address_of_found labels name found h = grind (arith)

@@ -1,5 +1,5 @@
 -- How lists are cut at the first element that passes a test.
-use Rattle.dvg_labels.proofs.Common.{◌≡◌, ℕ, suc, zero, ◌+◌, ◌<◌, ◌≤◌, Bool, true, false, not, cond, List, [], ◌∷◌, length, take, drop, refl, ap, ◌∙◌, sym, subst, arith, one-add, slice_split, position_or_len, onto_first, filter, words, is_blank, has_bytes, first_of}
+use Rattle.dvg_labels.proofs.Common.{◌≡◌, ℕ, suc, zero, ◌+◌, ◌<◌, Bool, true, false, not, cond, List, [], ◌∷◌, length, take, drop, refl, ap, ◌∙◌, sym, subst, arith, one-add, slice_split, position_or_len, onto_first, filter, words, is_blank, has_bytes, first_of}
 
 -- the parts behind the first one, by what is left behind it
 abbrev pub parts_behind : {X : Type 0} → (X → Bool) → List X → List (List X)
@@ -23,16 +23,6 @@ behind_suc p (suc n) (x ∷ xs) lt = behind_suc p n xs (omega (arith, lt))
 -- behind a first part that ends before the list does come the parts of what stands behind its end
 pub cut_at : {X : Type 0} (p : X → Bool) (n : ℕ) (xs : List X) → n ≡ position_or_len p xs → n < length xs → slice_split p xs ≡ take n xs ∷ slice_split p (drop (n + 1) xs)
 cut_at p n xs is lt = grind (arith, cut_first, behind_suc)
-
-all_taken : {X : Type 0} (p : X → Bool) (n : ℕ) (xs : List X) → length xs ≤ n → take n xs ∷ parts_behind p (drop n xs) ≡ xs ∷ []
-all_taken p zero [] le = refl
-all_taken p (suc n) [] le = refl
-all_taken p zero (x ∷ xs) le = absurd (omega (arith, le))
-all_taken p (suc n) (x ∷ xs) le = ap (onto_first x) (all_taken p n xs (omega (arith, le)))
-
--- a list where nothing passes is the one part
-pub uncut : {X : Type 0} (p : X → Bool) (n : ℕ) (xs : List X) → n ≡ position_or_len p xs → length xs ≤ n → slice_split p xs ≡ xs ∷ []
-uncut p n xs is le = cut_first p xs ∙ subst (λ k. take k xs ∷ parts_behind p (drop k xs) ≡ xs ∷ []) is (all_taken p n xs le)
 
 -- blanks before a word are passed over
 skip_step : (x : ℕ) (xs : List ℕ) (b : Bool) (n : ℕ) → words (drop n xs) ≡ words xs → is_blank x ≡ b

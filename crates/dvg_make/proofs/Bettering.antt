@@ -1,13 +1,13 @@
 -- For what an entry of any list claims of a shape there is a made entry that claims all of it, and counts and lights no more.
-use Rattle.dvg_make.proofs.Common.{◌≡◌, ◌≢◌, ℕ, zero, suc, ◌+◌, ◌<◌, ◌≤◌, List, [], ◌∷◌, ◌++◌, Option, Some, None, refl, sym, ap, ◌∙◌, subst, arith, ⊎_elim, ints, Contains, option_or, screen, cell_at, Rom, rom_word, Point, Cell, Missing, Odd, Holds, Format, Instr, entry_at, Entry, Key, LitBox, Empty, Span, at_holds, next_address, LeadsTo, Context, shape_context, target, callee_at, callee, callee_words, scale_before, place_before, words_before, depth_before, depth_under, known_before, InBox, IsInside, relative_corners, extent, seen_at, HasCallee, Item, Shape, listed_at, all_append, word_count-some, ShapeKeeps, CellKeeps, Bound, ShapeWhy, lit_points, HoldsAll, IsLeast, HasEntry, MadeEntry, IsMade, AllMade, keyed_context, entry_of, AllFine, Extends, KnowsMore, rules, Contains-append_cases, clamps, named_entry, all_map, Loosens, LoosensPlace, Refines, Covers, Upholds}
+use Rattle.dvg_make.proofs.Common.{◌≡◌, ◌≢◌, ℕ, zero, suc, ◌<◌, ◌≤◌, List, [], ◌∷◌, ◌++◌, Option, Some, None, refl, sym, ap, ◌∙◌, subst, arith, ⊎_elim, ints, Contains, option_or, screen, cell_at, Rom, rom_word, Point, Cell, Missing, Odd, Holds, Format, Instr, entry_at, Entry, Key, LitBox, Empty, Span, at_holds, next_address, LeadsTo, Context, shape_context, target, callee_at, callee, callee_words, scale_before, place_before, words_before, depth_before, depth_under, known_before, InBox, IsInside, relative_corners, extent, seen_at, HasCallee, Item, Shape, listed_at, all_append, word_count-some, ShapeKeeps, CellKeeps, Bound, ShapeWhy, lit_points, HoldsAll, IsLeast, HasEntry, MadeEntry, IsMade, AllMade, keyed_context, entry_of, AllFine, Extends, KnowsMore, rules, Contains-append_cases, clamps, named_entry, all_map, Loosens, LoosensPlace, Refines, Covers, Upholds}
 use Rattle.std.specs.Int.{int_min, int_max}
 use Rattle.dvg_check.specs.declared.fault.ShapeWhy.TheVariants as shape
 use Rattle.dvg_make.proofs.Matching.{Gathered, gathered_same, exact_named, entry_at-append}
-use Rattle.dvg_make.proofs.Ends.{at_last, made_ends, ends_made}
+use Rattle.dvg_make.proofs.Ends.{at_last, made_ends, ends_made, Stops, Stands, stops}
 use Rattle.dvg_make.proofs.Onward.{matched_fine}
 use Rattle.dvg_make.proofs.Growing.{fine_grows, same_made}
 use Rattle.dvg_make.proofs.Knowing.{IsOrdered, CalleeRefines, more_after, LightsLess, lights_less}
-use Rattle.dvg_make.proofs.Merging.{extends_more, is_made_grows, same_found, extends_second, all_merged}
+use Rattle.dvg_make.proofs.Merging.{only_listed, extends_more, is_made_grows, same_found, extends_second, all_merged}
 
 -- ---- least boxes
 
@@ -20,8 +20,7 @@ inside_widened Empty p q h = absurd h
 inside_widened (Span a b c d) p q h = search (rules, clamps)
 
 at_widened : (box : LitBox) (p : Point) → InBox (widened box p) p
-at_widened Empty p = record { left = omega (arith, ints); right = omega (arith, ints); bottom = omega (arith, ints); top = omega (arith, ints) }
-at_widened (Span a b c d) p = record { left = omega (arith, ints, clamps); right = omega (arith, ints, clamps); bottom = omega (arith, ints, clamps); top = omega (arith, ints, clamps) }
+at_widened box p = grind (arith, ints, clamps)
 
 widened_inside : (box other : LitBox) (p : Point) → IsInside box other → InBox other p → IsInside (widened box p) other
 widened_inside box other p h i = grind (arith, clamps)
@@ -73,7 +72,7 @@ module _ (rom : Rom) (list : List Entry) (up : Upholds rom list) where
     rule : (earlier : List Item) (i : Item) → LeadsTo Shape (rom_word rom) e.addr earlier i.at → cell_at (rom_word rom) i.at ≡ Holds i.format i.instr → (why : ShapeWhy) → why ≢ shape.OffScreen → ShapeKeeps Bound screen e (seen_at c earlier i) why
     rule earlier i lead is why not = subst (λ cell. Kept earlier i.at cell why) is ((up e listed).1 earlier i.at lead why screen not)
 
-    here : (items : List Item) (p : ℕ) → LeadsTo Shape (rom_word rom) e.addr items p → (format : Format) × (instr : Instr) × (cell_at (rom_word rom) p ≡ Holds format instr)
+    here : Stands rom e.addr
     here items p lead = by_cell (cell_at (rom_word rom) p) refl
       where
         by_cell : (cell : Cell) → cell_at (rom_word rom) p ≡ cell → (format : Format) × (instr : Instr) × (cell_at (rom_word rom) p ≡ Holds format instr)
@@ -130,19 +129,17 @@ module _ (rom : Rom) (list : List Entry) (up : Upholds rom list) where
           search (fine_grows rom.machine a b key ext items t.fine, subst (λ (g : Gathered). KnowsMore (known_before c items) g.known) same t.knows, subst (λ (g : Gathered). HoldsAll e.lit g.lit) same t.holds)
 
       -- the call's entries, of which the made one refines the other
-      ready_call : (made : List Entry) (earlier : List Item) (i : Item) (to : ℕ) → target Shape i.instr ≡ Some to → Tracked made earlier → (call : Call list to (scale_before c earlier) (scale_before (keyed_context rom.machine made key) earlier)) → (f : Entry) → entry_at made to (scale_before (keyed_context rom.machine made key) earlier) ≡ Some f → Refines f call.g → IsOrdered f.lit → Ready made earlier i
+      ready_call : (made : List Entry) (earlier : List Item) (i : Item) (to : ℕ) → target Shape i.instr ≡ Some to → Tracked made earlier → (call : Call list to (scale_before c earlier) (scale_before (keyed_context rom.machine made key) earlier)) → (f : Entry) → entry_at made to (scale_before (keyed_context rom.machine made key) earlier) ≡ Some f → Refines f call.g → IsOrdered f.lit
+          → Ready made earlier i
       ready_call made earlier i to t tracked call f is refines ordered =
           let scale : Key = scale_before (keyed_context rom.machine made key) earlier in
           let weak : callee c earlier i.instr ≡ Some call.g = ap (λ o. callee_at list o (scale_before c earlier)) t ∙ call.is in
           let strong : callee (keyed_context rom.machine made key) earlier i.instr ≡ Some f = ap (λ o. callee_at made o scale) t ∙ exact_named made to scale f is in
           record {
             tracked = tracked;
-            keyed = λ other q. (f, ap (λ o. entry_at made o scale) (same_some other to (sym q ∙ t)) ∙ is);
+            keyed = λ other q. (f, ap (λ o. entry_at made o scale) (let same : other ≡ to = cc (t, q) in same) ∙ is);
             refines = subst (λ o. CalleeRefines o (callee (keyed_context rom.machine made key) earlier i.instr)) (sym weak) (subst (λ o. CalleeRefines (Some call.g) o) (sym strong) (refines, ordered));
           }
-        where
-          same_some : (x y : ℕ) → Some x ≡ Some y → x ≡ y
-          same_some x y q = cc q
 
       ready_none : (made : List Entry) (earlier : List Item) (i : Item) → target Shape i.instr ≡ None → Tracked made earlier → Ready made earlier i
       ready_none made earlier i t tracked =
@@ -176,38 +173,17 @@ module _ (rom : Rom) (list : List Entry) (up : Upholds rom list) where
                 record {
                   made = both;
                   all = all;
-                  tracked = track_on both earlier i lead is (ready_call both earlier i to t tracked (record { g = call.g; is = call.is; listed = call.listed; covers = record { addr = call.covers.addr; key = subst (λ (z : Key). Loosens call.g.key z) scale call.covers.key } }) b.f (subst (λ (z : Key). entry_at both to z ≡ Some b.f) scale there) b.refines (made_ordered rom both b.f (all b.f (listed_at both to k b.f there).listed).made));
+                  tracked = track_on both earlier i lead is (ready_call both earlier i to t tracked (record { g = call.g; is = call.is; listed = call.listed; covers = record { addr = call.covers.addr; key = subst (λ (z : Key). Loosens call.g.key z) scale call.covers.key } }) b.f (subst (λ (z : Key). entry_at both to z ≡ Some b.f) scale there) b.refines
+                      (made_ordered rom both b.f (all b.f (listed_at both to k b.f there).listed).made));
                 }
 
-        record Ended : Type 0 where
-          items : List Item
-          i : Item
-          leads : LeadsTo Shape (rom_word rom) e.addr items i.at
-          is : cell_at (rom_word rom) i.at ≡ Holds i.format i.instr
-          last : next_address Shape i ≡ None
-          walked : Walked (i ∷ items)
+        walked : (items : List Item) (p : ℕ) → LeadsTo Shape (rom_word rom) e.addr items p → Walked items
+        walked [] p lead = record { made = []; all = λ x h. absurd (omega (arith, h.1)); tracked = record { fine = tt; knows = record { place = refl; scale = loose; words = omega arith; depth = omega arith }; holds = tt } }
+        walked (i ∷ earlier) p lead = walk_on earlier i lead.0 lead.1 (walked earlier i.at lead.0)
 
-        to_end : (n : ℕ) (items : List Item) (p : ℕ) → LeadsTo Shape (rom_word rom) e.addr items p → Walked items → e.words ≤ words_before c items + n → Ended
-        to_end zero items p lead w le =
-            let h = here items p lead in
-            let i : Item = record { at = p; format = h.0; instr = h.1 } in
-            let more : words_before c (i ∷ items) ≤ e.words = rule items i lead h.2 shape.TooManyWords (λ q. cc q) in
-            absurd (omega (arith, more, le, word_count-some h.0))
-        to_end (suc n) items p lead w le = by_next (next_address Shape i) refl (λ q l k. to_end n (i ∷ items) q l (walk_on items i lead h.2 w) k)
-          where
-            h : (format : Format) × (instr : Instr) × (cell_at (rom_word rom) p ≡ Holds format instr)
-            h = here items p lead
-
-            i : Item
-            i = record { at = p; format = h.0; instr = h.1 }
-
-            by_next : (o : Option ℕ) → next_address Shape i ≡ o → ((q : ℕ) → LeadsTo Shape (rom_word rom) e.addr (i ∷ items) q → e.words ≤ words_before c (i ∷ items) + n → Ended) → Ended
-            by_next None is more = record { items = items; i = i; leads = lead; is = h.2; last = is; walked = walk_on items i lead h.2 w }
-            by_next (Some q) is more = more q (lead, h.2, is) (omega (arith, le, word_count-some h.0))
-
-        module _ (h : Ended) where
+        module _ (h : Stops rom e.addr) (w : Walked (h.i ∷ h.items)) where
           abbrev made : List Entry
-          made = h.walked.made
+          made = w.made
 
           abbrev d : Context
           d = keyed_context rom.machine made key
@@ -219,54 +195,43 @@ module _ (rom : Rom) (list : List Entry) (up : Upholds rom list) where
           f = entry_of e.addr key (known_before d (h.i ∷ h.items)) box.0
 
           made_f : MadeEntry rom made f
-          made_f = ends_made rom made f (record { stops = record { items = h.items; i = h.i; leads = h.leads; is = h.is; last = h.last }; sums = record { known = refl; box = box.1 }; fine = h.walked.tracked.fine })
-
-          stop : place_before c (h.i ∷ h.items) ≡ e.stop
-          stop = at_last (next_address Shape h.i) _ h.last (rule h.items h.i h.leads h.is shape.EndDiffers (λ q. cc q))
-
-          left : scale_before c (h.i ∷ h.items) ≡ e.scale
-          left = at_last (next_address Shape h.i) _ h.last (rule h.items h.i h.leads h.is shape.ScaleDiffers (λ q. cc q))
-
-          many : words_before c (h.i ∷ h.items) ≤ e.words
-          many = rule h.items h.i h.leads h.is shape.TooManyWords (λ q. cc q)
-
-          deep : depth_before c (h.i ∷ h.items) ≤ e.depth
-          deep = let now : depth_under h.i.instr (callee c h.items h.i.instr) ≤ e.depth = rule h.items h.i h.leads h.is shape.TooDeep (λ q. cc q) in omega (arith, now, held_depth h.items h.i.at h.leads)
+          made_f = ends_made rom made f (record { stops = h; sums = record { known = refl; box = box.1 }; fine = w.tracked.fine })
 
           refines : Refines f e
           refines =
-              let k = h.walked.tracked.knows in
+              let k = w.tracked.knows in
+              let stop : place_before c (h.i ∷ h.items) ≡ e.stop = at_last (next_address Shape h.i) _ h.last (rule h.items h.i h.leads h.is shape.EndDiffers (λ q. cc q)) in
+              let left : scale_before c (h.i ∷ h.items) ≡ e.scale = at_last (next_address Shape h.i) _ h.last (rule h.items h.i h.leads h.is shape.ScaleDiffers (λ q. cc q)) in
+              let many : words_before c (h.i ∷ h.items) ≤ e.words = rule h.items h.i h.leads h.is shape.TooManyWords (λ q. cc q) in
+              let now : depth_under h.i.instr (callee c h.items h.i.instr) ≤ e.depth = rule h.items h.i h.leads h.is shape.TooDeep (λ q. cc q) in
+              let deep : depth_before c (h.i ∷ h.items) ≤ e.depth = omega (arith, now, held_depth h.items h.i.at h.leads) in
               record {
                 known = record { place = subst (λ z. LoosensPlace z f.stop) stop k.place; scale = subst (λ z. Loosens z f.scale) left k.scale; words = omega (arith, k.words, many); depth = omega (arith, k.depth, deep) };
-                lit = box.1.least e.lit h.walked.tracked.holds;
+                lit = box.1.least e.lit w.tracked.holds;
               }
-
-          is_made : IsMade rom made f
-          is_made = record { made = made_f; words = omega (arith, refines.known.words, (up e listed).0.words_high); depth = omega (arith, refines.known.depth, (up e listed).0.depth) }
-
-          one_listed : (x : Entry) → Contains (f ∷ []) x → f ≡ x
-          one_listed x (zero, lt, is) = is
-          one_listed x (suc k, lt, is) = absurd (omega (arith, lt))
 
           found_last : (o : Option Entry) → entry_at made e.addr key ≡ o → entry_at (made ++ f ∷ []) e.addr key ≡ Some f
           found_last None q = grind (arith, entry_at, f, at_holds, entry_at-append, option_or)
           found_last (Some x) q =
               let l = listed_at made e.addr key x q in
-              let same : x ≡ f = same_made rom made made x f (λ a k y z. z) (h.walked.all x l.listed).made made_f l.addr_is l.key_is in
+              let same : x ≡ f = same_made rom made made x f (λ a k y z. z) (w.all x l.listed).made made_f l.addr_is l.key_is in
               extends_more made (f ∷ []) e.addr key x q ∙ ap Some same
 
           finish : Better rom e.addr key e
           finish =
+              let is_made : IsMade rom made f = record { made = made_f; words = omega (arith, refines.known.words, (up e listed).0.words_high); depth = omega (arith, refines.known.depth, (up e listed).0.depth) } in
               record {
                 list = made ++ f ∷ [];
-                all = λ x m. ⊎_elim (λ a. is_made_grows rom made (made ++ f ∷ []) x (extends_more made (f ∷ [])) (h.walked.all x a)) (λ a. subst (IsMade rom (made ++ f ∷ [])) (one_listed x a) (is_made_grows rom made (made ++ f ∷ []) f (extends_more made (f ∷ [])) is_made)) (Contains-append_cases made (f ∷ []) x m);
+                all = λ x m. ⊎_elim (λ a. is_made_grows rom made (made ++ f ∷ []) x (extends_more made (f ∷ [])) (w.all x a)) (λ a. subst (IsMade rom (made ++ f ∷ [])) (only_listed f x a) (is_made_grows rom made (made ++ f ∷ []) f (extends_more made (f ∷ [])) is_made)) (Contains-append_cases made (f ∷ []) x m);
                 f = f;
                 found_it = found_last (entry_at made e.addr key) refl;
                 refines = refines;
               }
 
         better_here : Better rom e.addr key e
-        better_here = finish (to_end e.words [] e.addr refl (record { made = []; all = λ x h. absurd (omega (arith, h.1)); tracked = record { fine = tt; knows = record { place = refl; scale = loose; words = omega arith; depth = omega arith }; holds = tt } }) (omega arith))
+        better_here =
+            let s = stops rom c e.addr e.words here (λ earlier i lead is. rule earlier i lead is shape.TooManyWords (λ q. cc q)) in
+            finish s (walk_on s.items s.i s.leads s.is (walked s.items s.i.at s.leads))
 
   -- ---- every entry
 

@@ -1,6 +1,5 @@
 -- The cause of a refusal, told of roots and frames.
-use Rattle.dvg_make.proofs.Common.{◌≡◌, ℕ, List, [], ◌∷◌, Option, Some, refl, subst, slice_get, Rom, Key, EntryCause, HasCause, HasCallCause, EntryFault, FrameCall, shapes, arith, Blocked, MakeAccount, IsAccount, IsTold, HasRootCause, entry_fault, refusal_at, FramesFault, make_fault_of, blocked_fault, IsRefused}
-use Rattle.dvg_make.specs.declared.account.EntryCause.TheVariants as cause
+use Rattle.dvg_make.proofs.Common.{◌≡◌, ℕ, List, [], ◌∷◌, Option, Some, refl, subst, Rom, Key, HasCause, HasCallCause, EntryFault, FrameCall, shapes, arith, Blocked, MakeAccount, IsAccount, IsTold, HasRootCause, entry_fault, refusal_at, FramesFault, make_fault_of, blocked_fault, IsRefused}
 
 module _ (rom : Rom) (roots : List (ℕ × Key)) (frames : List (List ℕ)) where
   -- where the making stopped
@@ -21,20 +20,11 @@ pub root_cause : (rom : Rom) (roots : List (ℕ × Key)) (fault : FramesFault) �
 root_cause rom roots fault h = grind (arith, retold)
 
 -- of one frame
-first_frame : (words other : List ℕ) (i : ℕ) → slice_get (words ∷ []) i ≡ Some other → i ≡ 0
-first_frame words other i e = grind (arith)
-
 of_call : (rom : Rom) (words : List ℕ) (call : FrameCall) (why : EntryFault) → HasCause rom [] (words ∷ []) (record { call = Some call; why = why })
     → HasCause rom [] (words ∷ []) (record { call = Some (record { frame = 0; at = call.at }); why = why })
-of_call rom words call why h = retold rom [] (words ∷ []) (record { call = Some call; why = why }) (Some (record { frame = 0; at = call.at })) why refl h here
-  where
-    Told : FrameCall → Type 0
-    Told call = IsTold rom [] (words ∷ []) (Some call) h.chain h.at h.before h.cause
-
-    here : Told call → Told (record { frame = 0; at = call.at })
-    here t =
-        let first = first_frame words t.named.0 call.frame t.named.1 in
-        subst Told (λ j. record { frame = first j; at = call.at }) t
+of_call rom words call why h =
+    retold rom [] (words ∷ []) (record { call = Some call; why = why }) (Some (record { frame = 0; at = call.at })) why refl h
+    (λ t. subst (λ (n : ℕ). IsTold rom [] (words ∷ []) (Some (record { frame = n; at = call.at })) h.chain h.at h.before h.cause) (let first : call.frame ≡ 0 = grind (arith, t.named.1) in first) t)
 
 pub call_cause : (rom : Rom) (words : List ℕ) (call : Option FrameCall) (why : EntryFault) → HasCause rom [] (words ∷ []) (record { call = call; why = why }) → HasCallCause rom words (refusal_at call why)
 call_cause rom words call why h = grind (arith, of_call)

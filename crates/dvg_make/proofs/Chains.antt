@@ -1,5 +1,5 @@
 -- The shapes in the making, and the entries that every made list has for them.
-use Rattle.dvg_make.proofs.Common.{◌≡◌, ℕ, zero, suc, ◌+◌, ◌<◌, ◌≤◌, List, [], ◌∷◌, ◌++◌, length, Option, Some, None, refl, sym, ap, ◌∙◌, subst, arith, ◌⊎◌, inl, inr, ⊎_elim, length-append, Bool, true, false, if◌then◌else◌, Contains, Rom, rom_word, IsEntry, option_or, is_at, entry_at, Entry, Key, at_holds, LeadsTo, shape_context, scale_before, Item, Shape, Known, MOST_ENTRIES, MOST_WORDS, PartialEntry, MadeEntry, keyed_context, start, IsPartial, Extends, IsFinished, IsWaiting, IsMaking, ArePartial, Chain, Apart, IsPresent, IsCalled, IsAim, NoAim, IsDone, InProgress, listed_at, Contains-append_cases, NeverAt, IsTail, IsUnique, IsGiven}
+use Rattle.dvg_make.proofs.Common.{◌≡◌, ℕ, ◌+◌, ◌<◌, ◌≤◌, List, [], ◌∷◌, ◌++◌, length, Option, Some, None, refl, sym, ap, ◌∙◌, subst, arith, ◌⊎◌, inl, inr, ⊎_elim, length-append, Rom, rom_word, IsEntry, option_or, is_at, entry_at, Entry, Key, at_holds, LeadsTo, shape_context, scale_before, Item, Shape, Known, MOST_ENTRIES, MOST_WORDS, PartialEntry, MadeEntry, keyed_context, start, IsPartial, Extends, IsFinished, IsWaiting, IsMaking, ArePartial, Chain, Apart, IsPresent, IsCalled, IsAim, NoAim, IsDone, InProgress, listed_at, Contains-append_cases, NeverAt, IsTail, IsUnique, IsGiven}
 use Rattle.dvg_make.proofs.Matching.{entry_at-append}
 use Rattle.dvg_make.proofs.Ends.{callee_less, made_some}
 use Rattle.dvg_make.proofs.Linking.{are_grown, are_popped}
@@ -21,15 +21,14 @@ chain_push : (made : List Entry) (most n : ℕ) (stack : List PartialEntry) (w :
 chain_push made most n [] w f e lt h = (f, e, h, lt)
 chain_push made most n (v ∷ stack) w f e lt h = (h.0, h.1, h.2, chain_push made h.0.words n stack w f e lt h.3)
 
-record Popped (made : List Entry) (most : ℕ) (stack : List PartialEntry) (w : PartialEntry) (n : ℕ) : Type 0 where
+record Popped (made : List Entry) (most : ℕ) (stack : List PartialEntry) (w : PartialEntry) : Type 0 where
   f : Entry
   found_it : entry_at made w.addr w.key ≡ Some f
-  less : n < f.words
   chain : Chain made most stack f.words
 
-chain_pop : (made : List Entry) (most n : ℕ) (stack : List PartialEntry) (w : PartialEntry) → Chain made most (stack ++ w ∷ []) n → Popped made most stack w n
-chain_pop made most n [] w h = record { f = h.0; found_it = h.1; less = h.3; chain = h.2 }
-chain_pop made most n (v ∷ stack) w h = let p = chain_pop made h.0.words n stack w h.3 in record { f = p.f; found_it = p.found_it; less = p.less; chain = (h.0, h.1, h.2, p.chain) }
+chain_pop : (made : List Entry) (most n : ℕ) (stack : List PartialEntry) (w : PartialEntry) → Chain made most (stack ++ w ∷ []) n → Popped made most stack w
+chain_pop made most n [] w h = record { f = h.0; found_it = h.1; chain = h.2 }
+chain_pop made most n (v ∷ stack) w h = let p = chain_pop made h.0.words n stack w h.3 in record { f = p.f; found_it = p.found_it; chain = (h.0, h.1, h.2, p.chain) }
 
 -- a shape that is being made has more words
 chain_has : (made : List Entry) (most n : ℕ) (stack : List PartialEntry) (addr : ℕ) (key : Key) (g : Entry) → IsMaking stack addr key → Chain made most stack n → entry_at made addr key ≡ Some g → n < g.words
@@ -46,19 +45,21 @@ module _ (rom : Rom) (from : List Entry) (root : ℕ × Key) (done : List Entry)
       let p = chain_pop made (MOST_WORDS + 1) 0 stack partial f.1 in
       none made m.all f.0 (p.f, p.found_it)
 
-  -- the entry that the shape in the making calls for has fewer words, and more than none
-  record Callee (made : List Entry) (addr : ℕ) (key : Key) (most : ℕ) : Type 0 where
+  -- the entry that the shape in the making calls for: it has words, and fewer than those of the shapes
+  record Callee (made : List Entry) (addr : ℕ) (key : Key) (chain : List PartialEntry) : Type 0 where
     g : Entry
     there : entry_at made addr key ≡ Some g
     some : 0 < g.words
-    less : g.words < most
+    falls : Chain made (MOST_WORDS + 1) chain g.words
 
   module _ (new : PartialEntry) (addr : ℕ) (w : IsWaiting rom done partial new addr) where
     abbrev at_key : Key
     at_key = new.cursor.known.scale
 
-    callee : (made : List Entry) → (m : IsAim rom from root made) → (p : Popped made (MOST_WORDS + 1) stack partial 0) → Extends done made → Callee made addr at_key p.f.words
-    callee made m p ext =
+    callee : (made : List Entry) → IsAim rom from root made → Callee made addr at_key (stack ++ new ∷ [])
+    callee made m =
+        let f = h.forced made m in
+        let p = chain_pop made (MOST_WORDS + 1) 0 stack partial f.1 in
         let l = listed_at made partial.addr partial.key p.f p.found_it in
         let is = (m.all p.f l.listed).made in
         let addr_is : new.addr ≡ p.f.addr = w.same_addr ∙ sym l.addr_is in
@@ -67,31 +68,25 @@ module _ (rom : Rom) (from : List Entry) (root : ℕ × Key) (done : List Entry)
         let lead : LeadsTo Shape (rom_word rom) p.f.addr w.partial.items i.at = subst (λ x. LeadsTo Shape (rom_word rom) p.f.addr w.partial.items x) (sym w.at) (subst (λ x. LeadsTo Shape (rom_word rom) x w.partial.items new.cursor.at) addr_is w.partial.leads) in
         let g = is.keyed w.partial.items i lead w.stands addr w.target_is in
         let scale : scale_before (shape_context rom.machine made p.f) w.partial.items ≡ at_key =
-        ap (λ (x : Key). scale_before (keyed_context rom.machine made x) w.partial.items) (sym key_is) ∙ sym (scale_grows rom.machine done made new.key ext w.partial.items w.partial.knows.fine) ∙ sym (ap (λ (x : Known). x.scale) w.partial.knows.known_is)
+        ap (λ (x : Key). scale_before (keyed_context rom.machine made x) w.partial.items) (sym key_is) ∙ sym (scale_grows rom.machine done made new.key f.0 w.partial.items w.partial.knows.fine) ∙ sym (ap (λ (x : Known). x.scale) w.partial.knows.known_is)
         in
         let there : entry_at made addr at_key ≡ Some g.0 = subst (λ (x : Key). entry_at made addr x ≡ Some g.0) scale g.1 in
-        let gl = listed_at made addr at_key g.0 there in
-        let some = made_some rom made g.0 (m.all g.0 gl.listed).made in
-        record { g = g.0; there = there; some = omega (arith, some); less = callee_less rom made p.f is w.partial.items i lead w.stands addr g.0 w.target_is g.1 }
+        let some = made_some rom made g.0 (m.all g.0 (listed_at made addr at_key g.0 there).listed).made in
+        let less = callee_less rom made p.f is w.partial.items i lead w.stands addr g.0 w.target_is g.1 in
+        let found_new : entry_at made new.addr new.key ≡ Some p.f = subst (λ x. entry_at made x new.key ≡ Some p.f) (sym w.same_addr) (subst (λ x. entry_at made partial.addr x ≡ Some p.f) (sym w.same_key) p.found_it) in
+        record { g = g.0; there = there; some = omega (arith, some); falls = chain_push made (MOST_WORDS + 1) g.0.words stack new p.f found_new less p.chain }
 
     -- it is being made already
     pub none_deep : IsMaking (stack ++ new ∷ []) addr at_key → NoAim rom from root
     none_deep making made m =
-        let f = h.forced made m in
-        let p = chain_pop made (MOST_WORDS + 1) 0 stack partial f.1 in
-        let c = callee made m p f.0 in
-        let found_new : entry_at made new.addr new.key ≡ Some p.f = subst (λ x. entry_at made x new.key ≡ Some p.f) (sym w.same_addr) (subst (λ x. entry_at made partial.addr x ≡ Some p.f) (sym w.same_key) p.found_it) in
-        let ch : Chain made (MOST_WORDS + 1) (stack ++ new ∷ []) c.g.words = chain_push made (MOST_WORDS + 1) c.g.words stack new p.f found_new c.less p.chain in
-        let lt = chain_has made (MOST_WORDS + 1) c.g.words (stack ++ new ∷ []) addr at_key c.g making ch c.there in
+        let c = callee made m in
+        let lt = chain_has made (MOST_WORDS + 1) c.g.words (stack ++ new ∷ []) addr at_key c.g making c.falls c.there in
         omega (arith, lt)
 
     pub forced_begun : (made : List Entry) → IsAim rom from root made → Extends done made × Chain made (MOST_WORDS + 1) ((stack ++ new ∷ []) ++ start addr at_key ∷ []) 0
     forced_begun made m =
-        let f = h.forced made m in
-        let p = chain_pop made (MOST_WORDS + 1) 0 stack partial f.1 in
-        let c = callee made m p f.0 in
-        let found_new : entry_at made new.addr new.key ≡ Some p.f = subst (λ x. entry_at made x new.key ≡ Some p.f) (sym w.same_addr) (subst (λ x. entry_at made partial.addr x ≡ Some p.f) (sym w.same_key) p.found_it) in
-        (f.0, chain_push made (MOST_WORDS + 1) 0 (stack ++ new ∷ []) (start addr at_key) c.g c.there c.some (chain_push made (MOST_WORDS + 1) c.g.words stack new p.f found_new c.less p.chain))
+        let c = callee made m in
+        ((h.forced made m).0, chain_push made (MOST_WORDS + 1) 0 (stack ++ new ∷ []) (start addr at_key) c.g c.there c.some c.falls)
 
 -- ---- the stack
 
@@ -109,13 +104,8 @@ pub making_last : (stack : List PartialEntry) (w : PartialEntry) (addr : ℕ) (k
 making_last [] w addr key a k = inl (a, k)
 making_last (v ∷ stack) w addr key a k = inr (making_last stack w addr key a k)
 
-pub record ApartPop (done : List Entry) (stack : List PartialEntry) (w : PartialEntry) : Type 0 where
-  pub rest : Apart done stack
-  pub none : entry_at done w.addr w.key ≡ None
-  pub other : IsMaking stack w.addr w.key → ⊥
-
-pub apart_pop : (done : List Entry) (stack : List PartialEntry) (w : PartialEntry) → Apart done (stack ++ w ∷ []) → ApartPop done stack w
-apart_pop done [] w h = record { rest = tt; none = h.0; other = λ m. m }
+pub apart_pop : (done : List Entry) (stack : List PartialEntry) (w : PartialEntry) → Apart done (stack ++ w ∷ []) → Apart done stack × (entry_at done w.addr w.key ≡ None) × (IsMaking stack w.addr w.key → ⊥)
+apart_pop done [] w h = (tt, h.0, λ m. m)
 apart_pop done (v ∷ stack) w h = grind (arith, (apart_pop done stack w h.2), making_left, making_last)
 
 pub apart_push : (done : List Entry) (stack : List PartialEntry) (w : PartialEntry) → Apart done stack → entry_at done w.addr w.key ≡ None → (IsMaking stack w.addr w.key → ⊥) → Apart done (stack ++ w ∷ [])
@@ -126,27 +116,17 @@ apart_push done (v ∷ stack) w h none other = (
   apart_push done stack w h.2 none (λ m. other (inr m)),
 )
 
+-- an entry that is found in no other
+find_one : (e : Entry) (addr : ℕ) (key : Key) → ((e.addr ≡ addr) × (e.key ≡ key) → ⊥) → entry_at (e ∷ []) addr key ≡ None
+find_one e addr key not = grind (arith, entry_at, listed_at)
+
 apart_more : (done : List Entry) (stack : List PartialEntry) (e : Entry) → Apart done stack → (IsMaking stack e.addr e.key → ⊥) → Apart (done ++ e ∷ []) stack
 apart_more done [] e h not = tt
 apart_more done (v ∷ stack) e h not = (
-  entry_at-append done (e ∷ []) v.addr v.key ∙ ap (λ o. option_or o (entry_at (e ∷ []) v.addr v.key)) h.0 ∙ by_test (entry_at (e ∷ []) v.addr v.key) refl,
+  entry_at-append done (e ∷ []) v.addr v.key ∙ ap (λ o. option_or o (entry_at (e ∷ []) v.addr v.key)) h.0 ∙ find_one e v.addr v.key (λ s. not (inl (sym s.0, sym s.1))),
   h.1,
   apart_more done stack e h.2 (λ m. not (inr m)),
 )
-  where
-    by_test : (o : Option Entry) → entry_at (e ∷ []) v.addr v.key ≡ o → entry_at (e ∷ []) v.addr v.key ≡ None
-    by_test None q = q
-    by_test (Some f) q =
-        let l = listed_at (e ∷ []) v.addr v.key f q in
-        absurd (not (inl (sym l.addr_is ∙ only f l.listed, sym l.key_is ∙ only_key f l.listed)))
-      where
-        only : (f : Entry) → Contains (e ∷ []) f → f.addr ≡ e.addr
-        only f (zero, lt, is) = ap (λ (x : Entry). x.addr) (sym is)
-        only f (suc k, lt, is) = absurd (omega (arith, lt))
-
-        only_key : (f : Entry) → Contains (e ∷ []) f → f.key ≡ e.key
-        only_key f (zero, lt, is) = ap (λ (x : Entry). x.key) (sym is)
-        only_key f (suc k, lt, is) = absurd (omega (arith, lt))
 
 pub walks_pop : (rom : Rom) (done : List Entry) (stack more : List PartialEntry) → ArePartial rom done (stack ++ more) → ArePartial rom done stack
 walks_pop rom done [] more h = tt
@@ -166,20 +146,9 @@ walks_grow rom a b (v ∷ stack) ext h = (walk_grows rom a b v ext h.0, walks_gr
 
 -- ---- one entry more
 
--- an entry that is found in no other
-find_one : (e : Entry) (addr : ℕ) (key : Key) → ((e.addr ≡ addr) × (e.key ≡ key) → ⊥) → entry_at (e ∷ []) addr key ≡ None
-find_one e addr key not = grind (arith, entry_at, listed_at)
-
 unique_more : (done : List Entry) (e : Entry) → IsUnique done → entry_at done e.addr e.key ≡ None → IsUnique (done ++ e ∷ [])
 unique_more [] e u none = (refl, tt)
-unique_more (x ∷ done) e u none = by_test (is_at e.addr e.key x) refl none (λ n. unique_more done e u.1 n)
-  where
-    not_same : is_at e.addr e.key x ≡ false → (e.addr ≡ x.addr) × (e.key ≡ x.key) → ⊥
-    not_same q s = let yes = at_holds e.addr e.key x (sym s.0) (sym s.1) in cc (q, yes)
-
-    by_test : (t : Bool) → is_at e.addr e.key x ≡ t → (if t then Some x else entry_at done e.addr e.key) ≡ None → (entry_at done e.addr e.key ≡ None → IsUnique (done ++ e ∷ [])) → IsUnique ((x ∷ done) ++ e ∷ [])
-    by_test true q n more = cc n
-    by_test false q n more = (entry_at-append done (e ∷ []) x.addr x.key ∙ ap (λ o. option_or o (entry_at (e ∷ []) x.addr x.key)) u.0 ∙ find_one e x.addr x.key (not_same q), more n)
+unique_more (x ∷ done) e u none = grind (arith, is_at, at_holds, entry_at, entry_at-append, option_or, find_one, (unique_more done e u.1))
 
 -- one made entry more
 pub done_more : (rom : Rom) (done : List Entry) (e : Entry) → IsDone rom done → IsTail rom done e → entry_at done e.addr e.key ≡ None → length done < MOST_ENTRIES → IsDone rom (done ++ e ∷ [])
@@ -210,7 +179,7 @@ module _ (rom : Rom) (from : List Entry) (root : ℕ × Key) (done : List Entry)
 
   module _ (e : Entry) (f : IsFinished rom done partial e) where
     pub finished_new : entry_at done e.addr e.key ≡ None
-    finished_new = subst (λ a. entry_at done a e.key ≡ None) (sym f.addr) (subst (λ k. entry_at done partial.addr k ≡ None) (sym f.key) (apart_pop done stack partial h.apart).none)
+    finished_new = subst (λ a. entry_at done a e.key ≡ None) (sym f.addr) (subst (λ k. entry_at done partial.addr k ≡ None) (sym f.key) (apart_pop done stack partial h.apart).1)
 
     found_more : (made : List Entry) → IsAim rom from root made → Extends (done ++ e ∷ []) made
     found_more made m addr key g q =
@@ -246,7 +215,7 @@ module _ (rom : Rom) (from : List Entry) (root : ℕ × Key) (done : List Entry)
           is_done = done_more rom done e h.is_done (record { entry = f.entry; made = f.made }) finished_new (omega (arith, h.room, long));
           extends = λ a k x q. ext a k x (h.extends a k x q);
           partials = walks_grow rom done (done ++ e ∷ []) stack ext (walks_pop rom done stack (partial ∷ []) h.partials);
-          apart = apart_more done stack e pop.rest (λ m. pop.other (subst (λ a. IsMaking stack a partial.key) f.addr (subst (λ k. IsMaking stack e.addr k) f.key m)));
+          apart = apart_more done stack e pop.0 (λ m. pop.2 (subst (λ a. IsMaking stack a partial.key) f.addr (subst (λ k. IsMaking stack e.addr k) f.key m)));
           linked = are_grown rom done (done ++ e ∷ []) ext root stack (are_popped rom done root stack partial h.linked);
           needed = λ addr key p. needed_grows rom from root done (done ++ e ∷ []) (stack ++ partial ∷ []) stack ext present_finished addr key (h.needed addr key (was_present addr key p));
           room = omega (arith, h.room, long, len);

@@ -1,19 +1,15 @@
 -- Root after root, and frame after frame.
-use Rattle.dvg_make.proofs.Common.{Machine, ◌≡◌, ℕ, zero, suc, ◌+◌, ◌<◌, ◌≤◌, List, [], ◌∷◌, ◌++◌, length, Option, Some, None, refl, sym, ap, subst, arith, ◌⊎◌, inl, inr, ⊎_elim, Contains, slice_get, Bool, false, Rom, IsKey, Entry, Key, MOST_ENTRIES, listed_at, HasEntry, MadeFor, AllMade, IsAskedFor, EntryFault, Unstraight, Deep, TooManyWords, TooManyEntries, Memory, FramesRefuse, Extends, IsAim, NoAim, InProgress, Bars, obstacle_fault, Collected, HasCalls, IsFramed, BarsHere, AllFramed, PartialEntry, Obstacle, shapes, IsMaking, IsCalled, IsToldOf, TellsHere, keyed_context, start, FrameCall, known_before, rules, Contains-append_left, Contains-append_right, Contains-append_cases, Contains-get_or, take, drop, get_or, take-suc, take_all, take-append-drop, IsTrue, ◌↔◌, InRom, HasAsked, make_fault_of, Refuses, BarsList, NoFramesMade, HasAll, IsBlocked, IsRefused, BarsCalls, NoneHasCalls, BlocksHere, Blocked, asked_shape, IsToldFrom, KeyedCall, IsGivenHere, RootOutside, IsNamedBy, IsNeededBy, EntryCause, UnlessMemory}
+use Rattle.dvg_make.proofs.Common.{Machine, ◌≡◌, ℕ, zero, suc, ◌+◌, ◌<◌, ◌≤◌, List, [], ◌∷◌, ◌++◌, length, Option, Some, None, refl, sym, ap, subst, arith, ◌⊎◌, inl, inr, ⊎_elim, Contains, slice_get, Bool, false, Rom, IsKey, Entry, Key, MOST_ENTRIES, listed_at, HasEntry, AllMade, IsAskedFor, EntryFault, Unstraight, Deep, TooManyWords, TooManyEntries, Memory, FramesRefuse, Extends, IsAim, NoAim, InProgress, Bars, obstacle_fault, Collected, HasCalls, IsFramed, BarsHere, AllFramed, PartialEntry, Obstacle, shapes, IsMaking, IsCalled, IsToldOf, TellsHere, keyed_context, start, FrameCall, known_before, rules, Contains-append_left, Contains-append_right, Contains-append_cases, Contains-get_or, take, drop, get_or, take-suc, take-append-drop, IsTrue, ◌↔◌, InRom, HasAsked, make_fault_of, Refuses, BarsList, NoFramesMade, HasAll, IsBlocked, IsRefused, BarsCalls, NoneHasCalls, BlocksHere, Blocked, asked_shape, IsToldFrom, KeyedCall, IsGivenHere, RootOutside, IsNamedBy, IsNeededBy, EntryCause, UnlessMemory}
 use Rattle.std.proofs.lemmas.Option.{slice_get-get_or}
 use Rattle.dvg_make.proofs.Onward.{listed_entry}
-use Rattle.dvg_make.specs.declared.account.EntryCause.TheVariants as cause
 use Rattle.dvg_make.proofs.Framing.{done_made, collected_more, call_grows, keyed_call, called_told, calls_grow, has_calls_grow}
 use Rattle.dvg_make.proofs.Merging.{only_listed}
+pub use Rattle.dvg_make.proofs.OneList.{made_all}
 use Rattle.dvg_make.proofs.Finishing.{roots_made}
-use Rattle.dvg_make.proofs.Telling.{length_links, room_of_none, tells_outside}
+use Rattle.dvg_make.proofs.Telling.{length_links, room_of_none}
 use Rattle.dvg_make.proofs.Turns.{called_none}
 
--- ---- one element more of what is taken
-
-one_more : {A : Type 0} (xs : List A) (i : ℕ) (d x : A) → i < length xs → Contains (take (suc i) xs) x → Contains (take i xs) x ⊎ (get_or xs i d ≡ x)
-one_more xs i d x lt c =
-    ⊎_elim (λ h. inl h) (λ h. inr (only_listed (get_or xs i d) x h)) (Contains-append_cases (take i xs) (get_or xs i d ∷ []) x (subst (λ l. Contains l x) (take-suc xs i d lt) c))
+-- ---- what is taken
 
 in_taken : {A : Type 0} (xs : List A) (n : ℕ) (x : A) → Contains (take n xs) x → Contains xs x
 in_taken xs n x c = subst (λ l. Contains l x) (take-append-drop n xs) (Contains-append_left (take n xs) (drop n xs) x c)
@@ -37,14 +33,8 @@ taken_before (y ∷ xs) (suc i) (suc j) x z e (suc k, lt, is) = let c = taken_be
 
 -- ---- roots
 
-pub none_collected : (rom : Rom) → Collected rom [] []
-none_collected rom = grind (arith)
-
 pub root_collected : (rom : Rom) (roots : List (ℕ × Key)) (i j : ℕ) (d : ℕ × Key) (old new : List Entry) → j ≡ suc i → i < length roots → Collected rom (take i roots) old → InProgress rom old ((get_or roots i d).0, (get_or roots i d).1) new [] → HasEntry new (get_or roots i d).0 (get_or roots i d).1 → Collected rom (take j roots) new
 root_collected rom roots i j d old new next lt h m has = grind (arith, (take-suc roots i d lt), (collected_more rom (take i roots) old new (get_or roots i d).0 (get_or roots i d).1 h m has))
-
-pub made_all : (rom : Rom) (P : ℕ → Key → Type 0) (list : List Entry) → MadeFor rom P list → AllMade rom list
-made_all rom P list m e c = let is = listed_entry rom.map.rom_first rom.map.rom_last list e m.certificate.each c in record { made = m.each e c; words = is.words_high; depth = is.depth }
 
 module _ (rom : Rom) (roots : List (ℕ × Key)) (i : ℕ) (d : ℕ × Key) (done : List Entry) (lt : i < length roots) (h : Collected rom (take i roots) done) where
   -- a certificate that has all roots has what is made so far, and this root
@@ -93,16 +83,12 @@ needed_by rom list chain addr key c =
 room_of_links : (list : List Entry) (chain : List PartialEntry) → length list + length chain ≤ MOST_ENTRIES → length list + length (shapes chain) ≤ MOST_ENTRIES
 room_of_links list chain room = let long = length_links chain in omega (arith, long, room)
 
--- roots alone
-has_roots : (machine : Machine) (asked : List (ℕ × Key)) (list : List Entry) → HasAll asked list → HasAsked machine asked [] list
-has_roots machine asked list has a k h6 = grind (arith)
-
 module _ (machine : Machine) (roots : List (ℕ × Key)) (frames : List (List ℕ)) (list : List Entry) where
   abbrev IsNamed : ℕ → Key → Type 0
   IsNamed addr key = (call : Option FrameCall) × IsNamedBy machine roots frames list call (asked_shape (addr, key))
 
   named_at : (root : ℕ) (addr : ℕ) (key : Key) → slice_get roots root ≡ Some (addr, key) → HasAll (take root roots) list → IsNamed addr key
-  named_at root addr key is has = (None, (root, is, has_roots machine (take root roots) list has))
+  named_at root addr key is has = (None, (root, is, λ a k. ⊎_elim (λ r. has a k r) (λ b. absurd (omega (arith, b.1.1)))))
 
   -- one of so many roots
   named_taken : (n : ℕ) → HasAll (take n roots) list → (addr : ℕ) (key : Key) → Contains (take n roots) (addr, key) → IsNamed addr key
@@ -124,15 +110,15 @@ module _ (machine : Machine) (roots : List (ℕ × Key)) (frames : List (List �
   named_before : (n : ℕ) (words : List ℕ) → Contains (take n frames) words → HasAsked machine roots (take n frames) list → (addr : ℕ) (key : Key) → KeyedCall machine words list addr key → IsNamed addr key
   named_before n words c has addr key k =
       let g = got_somewhere (take n frames) words c in
-      named_call g.0 words (taken_at frames n g.0 words g.1) (fewer g.0 g.1) addr key k
-    where
-      fewer : (i : ℕ) → slice_get (take n frames) i ≡ Some words → HasAsked machine roots (take i frames) list
-      fewer i is a k (inl r) = has a k (inl r)
-      fewer i is a k (inr b) = has a k (inr (b.0, taken_before frames n i words b.0 is b.1, b.2))
+      named_call g.0 words (taken_at frames n g.0 words g.1) (λ a k. ⊎_elim (λ r. has a k (inl r)) (λ b. has a k (inr (b.0, taken_before frames n g.0 words b.0 g.1 b.1, b.2)))) addr key k
 
 -- what is told of a root, whatever the frames are
 root_told : (rom : Rom) (roots : List (ℕ × Key)) (i : ℕ) (d : ℕ × Key) (done : List Entry) → i < length roots → Collected rom (take i roots) done → (chain : List PartialEntry) (obstacle : Obstacle) → IsToldFrom rom done ((get_or roots i d).0, (get_or roots i d).1) chain obstacle → (frames : List (List ℕ)) → IsToldOf rom roots frames None chain obstacle
 root_told rom roots i d done lt h chain obstacle b frames =
+    let before : HasAll (take i roots) b.list = λ a k c. let f = h.rooted a k c in (f.0, b.extends a k f.0 f.1) in
+    let here : IsNamedBy rom.machine roots frames b.list None (asked_shape (get_or roots i d)) = (i, slice_get-get_or roots i d lt, λ a k. ⊎_elim (λ r. before a k r) (λ x. absurd (omega (arith, x.1.1)))) in
+    let was : (a : ℕ) (k : Key) → HasEntry done a k → IsNamed rom.machine roots frames b.list a k ⊎ IsCalled rom done [] a k =
+    λ a k has. ⊎_elim (λ c. inl (named_taken rom.machine roots frames b.list i before a k c)) (λ c. inr c) (h.needed a k has) in
     record {
       list = b.list;
       within = b.is_done.entries;
@@ -144,19 +130,6 @@ root_told rom roots i d done lt h chain obstacle b frames =
       tells = b.tells;
       outside = λ q. refl;
     }
-  where
-    before : HasAll (take i roots) b.list
-    before a k c = let f = h.rooted a k c in (f.0, b.extends a k f.0 f.1)
-
-    here : IsNamedBy rom.machine roots frames b.list None (asked_shape (get_or roots i d))
-    here = (i, slice_get-get_or roots i d lt, has_roots rom.machine (take i roots) b.list before)
-
-    was : (a : ℕ) (k : Key) → HasEntry done a k → IsNamed rom.machine roots frames b.list a k ⊎ IsCalled rom done [] a k
-    was a k has = ⊎_elim (λ c. inl (named_taken rom.machine roots frames b.list i before a k c)) (λ c. inr c) (h.needed a k has)
-
--- what is said whatever the frames are
-roots_refused : (rom : Rom) (roots : List (ℕ × Key)) (frames : List (List ℕ)) (why : EntryFault) → ((f : List (List ℕ)) → BarsList rom roots f why) → FramesRefuse rom roots frames (record { call = None; why = why })
-roots_refused rom roots frames why b = record { list = b frames; root = b []; frame = tt }
 
 unless : (c : EntryCause) (T : Type 0) → T → UnlessMemory c T
 unless c T t = grind (arith)
@@ -167,24 +140,31 @@ module _ (rom : Rom) (roots : List (ℕ × Key)) (i : ℕ) (d : ℕ × Key) (don
 
   -- a root whose entry can't be made
   pub root_refused : (blocked : Blocked) → IsBlocked rom done ((get_or roots i d).0, (get_or roots i d).1) blocked → (frames : List (List ℕ)) → IsRefused rom roots frames blocked
-  root_refused blocked b frames = grind (arith, roots_refused, (obstacle_fault blocked.obstacle), root_barred, (unless blocked.obstacle.cause (IsToldOf rom roots frames None blocked.chain blocked.obstacle) (root_told rom roots i d done lt h blocked.chain blocked.obstacle b.told frames)), (root_told rom roots i d done lt h blocked.chain blocked.obstacle b.told frames))
+  root_refused blocked b frames = grind (arith, (obstacle_fault blocked.obstacle), root_barred, (unless blocked.obstacle.cause (IsToldOf rom roots frames None blocked.chain blocked.obstacle) (root_told rom roots i d done lt h blocked.chain blocked.obstacle b.told frames)), (root_told rom roots i d done lt h blocked.chain blocked.obstacle b.told frames))
 
   -- a root outside the ROM, or with a key over 15
-  pub outside_refused : (r : Bool) → r ≡ false → (IsTrue r ↔ (InRom rom.map (get_or roots i d).0 × IsKey (get_or roots i d).1)) → (chain : List PartialEntry) → chain ≡ [] → (obstacle : Obstacle) → obstacle ≡ record { cursor = (start (get_or roots i d).0 (get_or roots i d).1).cursor; cause = RootOutside } → (frames : List (List ℕ)) → IsRefused rom roots frames (record { call = None; chain = chain; obstacle = obstacle })
+  pub outside_refused : (r : Bool) → r ≡ false → (IsTrue r ↔ (InRom rom.map (get_or roots i d).0 × IsKey (get_or roots i d).1)) → (chain : List PartialEntry) → chain ≡ [] → (obstacle : Obstacle) → obstacle ≡ record { cursor = (start (get_or roots i d).0 (get_or roots i d).1).cursor; cause = RootOutside } → (frames : List (List ℕ))
+      → IsRefused rom roots frames (record { call = None; chain = chain; obstacle = obstacle })
   outside_refused r failed is chain none obstacle e frames =
+      let not = outside rom roots i d done lt h (outside_at r failed is) in
       record {
-        refuse = subst (λ o. FramesRefuse rom roots frames (record { call = None; why = obstacle_fault o })) (sym e) (roots_refused rom roots frames (Unstraight (get_or roots i d).0) (outside rom roots i d done lt h (outside_at r failed is)));
-        told = unless obstacle.cause (IsToldOf rom roots frames None chain obstacle) (root_told rom roots i d done lt h chain obstacle told frames);
+        refuse = subst (λ o. FramesRefuse rom roots frames (record { call = None; why = obstacle_fault o })) (sym e) (record { list = not frames; root = not []; frame = tt });
+        told = unless obstacle.cause (IsToldOf rom roots frames None chain obstacle) (root_told rom roots i d done lt h chain obstacle (grind (arith, called_none, room_of_none, outside_at)) frames);
       }
-    where
-      told : IsToldFrom rom done ((get_or roots i d).0, (get_or roots i d).1) chain obstacle
-      told = grind (arith, called_none, room_of_none, tells_outside, outside_at)
 
 -- ---- frames
 
 -- what is told of a frame's call
 call_told : (rom : Rom) (roots : List (ℕ × Key)) (frames : List (List ℕ)) (i : ℕ) (d : List ℕ) (old : List Entry) → i < length frames → AllFramed rom roots (take i frames) old → (at : ℕ) (chain : List PartialEntry) (obstacle : Obstacle) → TellsHere rom (get_or frames i d) old at chain obstacle → IsToldOf rom roots frames (Some (record { frame = i; at = at })) chain obstacle
 call_told rom roots frames i d old lt h at chain obstacle t =
+    let rooted : HasAll roots t.list = λ a k r. let f = h.rooted a k r in (f.0, t.extends a k f.0 f.1) in
+    let before : HasAsked rom.machine roots (take i frames) t.list = λ a k. ⊎_elim (λ r. rooted a k r) (λ c. has_calls_grow rom.machine c.0 old t.list t.extends (h.has_calls c.0 c.1) a k c.2) in
+    let asked_before : (a : ℕ) (k : Key) → IsAskedFor rom.machine roots (take i frames) old a k → IsNamed rom.machine roots frames t.list a k =
+    λ a k.
+    ⊎_elim (λ r. named_root rom.machine roots frames t.list rooted a k r)
+    (λ c. named_before rom.machine roots frames t.list i c.0 c.1 before a k (call_grows rom.machine c.0 old t.list t.extends a k (keyed_call rom.machine c.0 old (h.has_calls c.0 c.1) a k c.2))) in
+    let asked_here : (a : ℕ) (k : Key) → IsGivenHere rom.machine (get_or frames i d) h.asked t.list a k → IsNamed rom.machine roots frames t.list a k =
+    λ a k. ⊎_elim (λ c. asked_before a k (h.asked_for a k c)) (λ c. named_call rom.machine roots frames t.list i (get_or frames i d) (slice_get-get_or frames i d lt) before a k c) in
     record {
       list = t.list;
       within = t.within;
@@ -196,24 +176,6 @@ call_told rom roots frames i d old lt h at chain obstacle t =
       tells = t.tells;
       outside = λ q. absurd (t.no_root q);
     }
-  where
-    rooted : HasAll roots t.list
-    rooted a k r = let f = h.rooted a k r in (f.0, t.extends a k f.0 f.1)
-
-    before : HasAsked rom.machine roots (take i frames) t.list
-    before a k (inl r) = rooted a k r
-    before a k (inr c) = has_calls_grow rom.machine c.0 old t.list t.extends (h.has_calls c.0 c.1) a k c.2
-
-    asked_before : (a : ℕ) (k : Key) → IsAskedFor rom.machine roots (take i frames) old a k → IsNamed rom.machine roots frames t.list a k
-    asked_before a k (inl r) = named_root rom.machine roots frames t.list rooted a k r
-    asked_before a k (inr c) = named_before rom.machine roots frames t.list i c.0 c.1 before a k (call_grows rom.machine c.0 old t.list t.extends a k (keyed_call rom.machine c.0 old (h.has_calls c.0 c.1) a k c.2))
-
-    asked_here : (a : ℕ) (k : Key) → IsGivenHere rom.machine (get_or frames i d) h.asked t.list a k → IsNamed rom.machine roots frames t.list a k
-    asked_here a k (inl c) = asked_before a k (h.asked_for a k c)
-    asked_here a k (inr c) = named_call rom.machine roots frames t.list i (get_or frames i d) (slice_get-get_or frames i d lt) before a k c
-
-pub no_frames : (rom : Rom) (roots : List (ℕ × Key)) (frames : List (List ℕ)) (done : List Entry) → Collected rom roots done → AllFramed rom roots (take 0 frames) done
-no_frames rom roots frames done h = grind (arith)
 
 module _ (rom : Rom) (roots : List (ℕ × Key)) (frames : List (List ℕ)) (i : ℕ) (d : List ℕ) (old : List Entry) (lt : i < length frames) (h : AllFramed rom roots (take i frames) old) where
   abbrev now : List ℕ
@@ -230,19 +192,16 @@ module _ (rom : Rom) (roots : List (ℕ × Key)) (frames : List (List ℕ)) (i :
     still_asked addr key (inl r) = inl r
     still_asked addr key (inr c) = inr (c.0, was_taken c.0 c.1, calls_grow rom.machine c.0 old new ext (h.has_calls c.0 c.1) addr key c.2)
 
-    framed_next : AllFramed rom roots (take (suc i) frames) new
+    pub framed_next : AllFramed rom roots (take (suc i) frames) new
     framed_next =
         record {
           rooted = λ addr key r. let x = h.rooted addr key r in (x.0, ext addr key x.0 x.1);
-          has_calls = λ words c. ⊎_elim (λ x. has_calls_grow rom.machine words old new ext (h.has_calls words x)) (λ e. subst (λ z. HasCalls rom.machine z new) e f.has_calls) (one_more frames i d words lt c);
+          has_calls = λ words c. ⊎_elim (λ x. has_calls_grow rom.machine words old new ext (h.has_calls words x)) (λ x. subst (λ z. HasCalls rom.machine z new) (only_listed now words x) f.has_calls) (Contains-append_cases (take i frames) (now ∷ []) words (subst (λ l. Contains l words) (take-suc frames i d lt) c));
           asked = h.asked ++ f.calls;
           asked_for = λ addr key c. ⊎_elim (λ x. still_asked addr key (h.asked_for addr key x)) (λ x. inr (now, now_taken, f.calls_are addr key x)) (Contains-append_cases h.asked f.calls (addr, key) c);
           collected = f.collected h.asked h.collected;
           forced = λ list all has calls. f.forced list all (h.forced list all has (λ words c. calls words (was_taken words c))) (calls now now_taken);
         }
-
-    pub frame_framed : (j : ℕ) → j ≡ suc i → AllFramed rom roots (take j frames) new
-    frame_framed j next = subst (λ n. AllFramed rom roots (take n frames) new) (sym next) framed_next
 
   -- ---- a call whose entry is not made
 
@@ -268,14 +227,9 @@ module _ (rom : Rom) (roots : List (ℕ × Key)) (frames : List (List ℕ)) (i :
   frame_refused at why b = record { list = list_barred why b.0; root = tt; frame = (now, slice_get-get_or frames i d lt, b.1, b.2) }
 
   pub call_refused : (blocked : Blocked) → BlocksHere rom i now old blocked → IsRefused rom roots frames blocked
-  call_refused blocked b = grind (arith, (frame_refused b.at (obstacle_fault blocked.obstacle) b.bars), (obstacle_fault blocked.obstacle), (unless blocked.obstacle.cause (IsToldOf rom roots frames (Some (record { frame = i; at = b.at })) blocked.chain blocked.obstacle) (call_told rom roots frames i d old lt h b.at blocked.chain blocked.obstacle b.told)), (call_told rom roots frames i d old lt h b.at blocked.chain blocked.obstacle b.told))
-
-pub frames_framed : (rom : Rom) (roots : List (ℕ × Key)) (frames : List (List ℕ)) (i : ℕ) (done : List Entry) → length frames ≤ i → AllFramed rom roots (take i frames) done → AllFramed rom roots frames done
-frames_framed rom roots frames i done le h = subst (λ f. AllFramed rom roots f done) (take_all i frames le) h
-
--- where memory was out
-pub memory_refused : (rom : Rom) (roots : List (ℕ × Key)) (frames : List (List ℕ)) (blocked : Blocked) → blocked.call ≡ None → blocked.obstacle.cause ≡ cause.Memory → IsRefused rom roots frames blocked
-memory_refused rom roots frames blocked none memory = grind (arith)
+  call_refused blocked b =
+      let told = call_told rom roots frames i d old lt h b.at blocked.chain blocked.obstacle b.told in
+      grind (arith, (frame_refused b.at (obstacle_fault blocked.obstacle) b.bars), (obstacle_fault blocked.obstacle), (unless blocked.obstacle.cause (IsToldOf rom roots frames (Some (record { frame = i; at = b.at })) blocked.chain blocked.obstacle) told), told)
 
 -- what a refusal says where there is no frame
 pub as_make_fault : (rom : Rom) (roots : List (ℕ × Key)) (why : EntryFault) → BarsList rom roots [] why → Refuses rom roots (make_fault_of why)

@@ -1,5 +1,5 @@
 -- A list that has so many different entries has at least that length.
-use Rattle.dvg_make.proofs.Common.{◌≡◌, ℕ, ◌+◌, ◌≤◌, List, [], ◌∷◌, length, Option, Some, None, refl, sym, ap, ◌∙◌, subst, arith, inl, inr, Bool, true, false, if◌then◌else◌, is_at, entry_at, Entry, Key, at_holds, PartialEntry, Extends, IsMaking, Chain, Apart, at_means, IsUnique}
+use Rattle.dvg_make.proofs.Common.{◌≡◌, ℕ, ◌+◌, ◌≤◌, List, [], ◌∷◌, length, Some, None, refl, sym, ap, subst, arith, inl, inr, if◌then◌else◌, is_at, entry_at, Entry, Key, at_holds, PartialEntry, Extends, IsMaking, Chain, Apart, at_means, IsUnique}
 
 -- the list without the entry with this address and key
 abbrev without : List Entry → ℕ → Key → List Entry
@@ -8,24 +8,11 @@ without (x ∷ l) addr key = if is_at addr key x then l else x ∷ without l add
 
 length_without : (l : List Entry) (addr : ℕ) (key : Key) (f : Entry) → entry_at l addr key ≡ Some f → length l ≡ length (without l addr key) + 1
 length_without [] addr key f e = cc
-length_without (x ∷ l) addr key f e = by_test (is_at addr key x) e (λ g. length_without l addr key f g)
-  where
-    by_test : (t : Bool) → (if t then Some x else entry_at l addr key) ≡ Some f → (entry_at l addr key ≡ Some f → length l ≡ length (without l addr key) + 1) → length (x ∷ l) ≡ length (if t then l else x ∷ without l addr key) + 1
-    by_test true g more = omega arith
-    by_test false g more = let m = more g in omega (arith, m)
+length_without (x ∷ l) addr key f e = grind (arith, is_at, entry_at, without, (length_without l addr key f))
 
 still : (l : List Entry) (a b : ℕ) (k j : Key) (g : Entry) → ((a ≡ b) × (k ≡ j) → ⊥) → entry_at l b j ≡ Some g → entry_at (without l a k) b j ≡ Some g
 still [] a b k j g apart e = e
-still (x ∷ l) a b k j g apart e = by_tests (is_at a k x) (is_at b j x) refl refl e (λ h. still l a b k j g apart h)
-  where
-    by_tests : (s t : Bool) → is_at a k x ≡ s → is_at b j x ≡ t → (if t then Some x else entry_at l b j) ≡ Some g → (entry_at l b j ≡ Some g → entry_at (without l a k) b j ≡ Some g) → entry_at (if s then l else x ∷ without l a k) b j ≡ Some g
-    by_tests true true p q h more =
-        let u = at_means a k x p in
-        let v = at_means b j x q in
-        absurd (apart (sym u.0 ∙ v.0, sym u.1 ∙ v.1))
-    by_tests true false p q h more = h
-    by_tests false true p q h more = ap (λ t. if t then Some x else entry_at (without l a k) b j) q ∙ h
-    by_tests false false p q h more = ap (λ t. if t then Some x else entry_at (without l a k) b j) q ∙ more h
+still (x ∷ l) a b k j g apart e = grind (arith, is_at, at_means, entry_at, without, (still l a b k j g apart))
 
 -- the stack alone
 stack_crowd : (l : List Entry) (stack : List PartialEntry) → Apart [] stack → ((addr : ℕ) (key : Key) → IsMaking stack addr key → (f : Entry) × (entry_at l addr key ≡ Some f)) → length stack ≤ length l
@@ -51,9 +38,6 @@ find_self e done = ap (λ t. if t then Some e else entry_at done e.addr e.key) (
 found_tail : (e f : Entry) (done : List Entry) (addr : ℕ) (key : Key) → ((e.addr ≡ addr) × (e.key ≡ key) → ⊥) → entry_at done addr key ≡ Some f → entry_at (e ∷ done) addr key ≡ Some f
 found_tail e f done addr key not h = grind (arith, is_at, entry_at, at_means)
 
-clash : {o : Option Entry} {x : Entry} → o ≡ None → o ≡ Some x → ⊥
-clash p q = cc (p, q)
-
 -- the entries first
 crowd : (l done : List Entry) (stack : List PartialEntry) → IsUnique done → Apart done stack → ((addr : ℕ) (key : Key) (f : Entry) → entry_at done addr key ≡ Some f → (g : Entry) × (entry_at l addr key ≡ Some g)) → ((addr : ℕ) (key : Key) → IsMaking stack addr key → (g : Entry) × (entry_at l addr key ≡ Some g)) → length done + length stack ≤ length l
 crowd l [] stack unique apart ext has = let h = stack_crowd l stack apart has in omega (arith, h)
@@ -62,11 +46,11 @@ crowd l (e ∷ done) stack unique apart ext has =
     let len = length_without l e.addr e.key f.0 f.1 in
     let rest = crowd (without l e.addr e.key) done stack unique.1 (apart_tail e done stack apart)
     (λ a k x q.
-    let not : (e.addr ≡ a) × (e.key ≡ k) → ⊥ = λ s. let none : entry_at done a k ≡ None = subst (λ y. entry_at done y k ≡ None) s.0 (subst (λ y. entry_at done e.addr y ≡ None) s.1 unique.0) in clash none q in
+    let not : (e.addr ≡ a) × (e.key ≡ k) → ⊥ = λ s. let none : entry_at done a k ≡ None = subst (λ y. entry_at done y k ≡ None) s.0 (subst (λ y. entry_at done e.addr y ≡ None) s.1 unique.0) in cc (none, q) in
     let g = ext a k x (found_tail e x done a k not q) in
     (g.0, still l e.addr a e.key k g.0 not g.1))
     (λ a k m.
-    let not : (e.addr ≡ a) × (e.key ≡ k) → ⊥ = λ s. let none : entry_at (e ∷ done) e.addr e.key ≡ None = subst (λ y. entry_at (e ∷ done) y e.key ≡ None) (sym s.0) (subst (λ y. entry_at (e ∷ done) a y ≡ None) (sym s.1) (making_none (e ∷ done) stack a k apart m)) in let some = find_self e done in clash none some in
+    let not : (e.addr ≡ a) × (e.key ≡ k) → ⊥ = λ s. let none : entry_at (e ∷ done) e.addr e.key ≡ None = subst (λ y. entry_at (e ∷ done) y e.key ≡ None) (sym s.0) (subst (λ y. entry_at (e ∷ done) a y ≡ None) (sym s.1) (making_none (e ∷ done) stack a k apart m)) in let some = find_self e done in cc (none, some) in
     let g = has a k m in
     (g.0, still l e.addr a e.key k g.0 not g.1))
     in

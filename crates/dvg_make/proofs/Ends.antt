@@ -1,8 +1,7 @@
 -- What a made entry says of its shape: at each item, and at the end.
-use Rattle.dvg_make.proofs.Common.{Machine, ◌≡◌, ◌≢◌, ℕ, zero, suc, ◌+◌, ◌<◌, ◌≤◌, List, [], ◌∷◌, Option, Some, None, refl, sym, ap, ◌∙◌, subst, arith, cell_at, Rom, rom_word, screen, Window, Cell, Missing, Odd, Holds, Format, Instr, entry_at, Entry, Key, next_address, LeadsTo, Context, shape_context, target, callee_at, callee, callee_words, scale_before, place_before, words_before, depth_before, depth_under, known_before, extent, seen_at, HasCallee, InBox, relative_corners, ShapeKeeps, CellKeeps, Exact, ShapeWhy, Item, Shape, Known, Seen, word_count-some, lit_points, HoldsAll, IsLeast, HasEntry, EachItem, MadeEntry, keyed_context, IsStraight, AllFine, rules, AllBefore, all_left, all_right, AtLast, all_kept, AtEnd, MadeKeeps, AllHold, IsFine}
+use Rattle.dvg_make.proofs.Common.{Machine, ◌≡◌, ◌≢◌, ℕ, zero, suc, ◌+◌, ◌<◌, ◌≤◌, List, [], ◌∷◌, Option, Some, None, refl, sym, ap, ◌∙◌, subst, arith, cell_at, Rom, rom_word, screen, Window, Cell, Missing, Odd, Holds, Format, Instr, entry_at, Entry, Key, next_address, LeadsTo, Context, shape_context, target, callee_at, callee, callee_words, scale_before, place_before, words_before, depth_before, depth_under, known_before, extent, seen_at, HasCallee, InBox, relative_corners, ShapeKeeps, CellKeeps, Exact, ShapeWhy, Item, Shape, Known, Seen, word_count-some, lit_points, HoldsAll, IsLeast, HasEntry, EachItem, MadeEntry, keyed_context, IsStraight, AllFine, rules, AllBefore, all_left, all_right, AtLast, all_kept, AtEnd, MadeKeeps, AllHold, IsFine, Point, LitBox, IsInside}
 use Rattle.dvg_check.specs.declared.fault.ShapeWhy.TheVariants as shape
 pub use Rattle.dvg_make.specs.Private.Covering.{known_of}
-use Rattle.dvg_make.proofs.Boxes.{one_least}
 use Rattle.dvg_make.proofs.Matching.{gathered, Matched, gathered_same, exact_named}
 
 -- ---- at an item
@@ -28,7 +27,9 @@ allows_at rom list e made earlier i lead is =
 
 -- a called entry has fewer words
 pub callee_less : (rom : Rom) (list : List Entry) (e : Entry) → MadeEntry rom list e → (earlier : List Item) (i : Item) → LeadsTo Shape (rom_word rom) e.addr earlier i.at → cell_at (rom_word rom) i.at ≡ Holds i.format i.instr → (to : ℕ) (g : Entry) → target Shape i.instr ≡ Some to → entry_at list to (scale_before (shape_context rom.machine list e) earlier) ≡ Some g → g.words < e.words
-callee_less rom list e made earlier i lead is to g t h = grind (arith, (allows_at rom list e made earlier i lead is), (scale_before (shape_context rom.machine list e) earlier), (shape_context rom.machine list e), (callee (shape_context rom.machine list e) earlier i.instr), callee_at, exact_named, (callee_words (callee (shape_context rom.machine list e) earlier i.instr)), callee_words, (word_count-some i.format))
+callee_less rom list e made earlier i lead is to g t h =
+    let allows = allows_at rom list e made earlier i lead is in
+    grind (arith, allows, (scale_before (shape_context rom.machine list e) earlier), (shape_context rom.machine list e), (callee (shape_context rom.machine list e) earlier i.instr), callee_at, exact_named, (callee_words (callee (shape_context rom.machine list e) earlier i.instr)), callee_words, (word_count-some i.format))
 
 -- ---- at the end
 
@@ -49,6 +50,13 @@ sums_of rom list e made earlier i lead is last =
     let depth = at_last (next_address Shape i) _ last (k shape.DepthDiffers (λ q. cc q)) in
     record { known = λ x. record { place = place x; scale = scale x; words = words x; depth = depth x }; box = made.box earlier i lead is last }
 
+both_inside : (a b : LitBox) → IsInside a b → IsInside b a → a ≡ b
+both_inside a b h k = grind (arith)
+
+-- points have one least box
+pub one_least : (ps : List Point) (a b : LitBox) → IsLeast ps a → IsLeast ps b → a ≡ b
+one_least ps a b h k = both_inside a b (h.least b k.holds) (k.least a h.holds)
+
 -- entries with the same address, key and sums are the same
 pub same_sums : (machine : Machine) (a b : List Entry) (items : List Item) (e f : Entry) → e.addr ≡ f.addr → e.key ≡ f.key → Matched machine a b e.key items → Sums machine a items e → Sums machine b items f → e ≡ f
 same_sums machine a b items e f addr key m s t = grind (arith, gathered, keyed_context, gathered_same, one_least, lit_points, shape_context)
@@ -62,35 +70,39 @@ pub record Stops (rom : Rom) (addr : ℕ) : Type 0 where
   pub is : cell_at (rom_word rom) i.at ≡ Holds i.format i.instr
   pub last : next_address Shape i ≡ None
 
-module _ (rom : Rom) (list : List Entry) (e : Entry) (made : MadeEntry rom list e) where
-  pub stands_at : (items : List Item) (p : ℕ) → LeadsTo Shape (rom_word rom) e.addr items p → (format : Format) × (instr : Instr) × (cell_at (rom_word rom) p ≡ Holds format instr)
-  stands_at items p lead = by_cell (cell_at (rom_word rom) p) refl
-    where
-      by_cell : (c : Cell) → cell_at (rom_word rom) p ≡ c → (format : Format) × (instr : Instr) × (c ≡ Holds format instr)
-      by_cell Missing q = absurd (subst (λ cell. CellKeeps shape.Unmapped shape.Odd (λ j. ShapeKeeps Exact screen e (seen_at (shape_context rom.machine list e) items j)) p cell shape.Unmapped) q (made.keeps items p lead shape.Unmapped screen (λ x. cc x)) refl)
-      by_cell Odd q = absurd (subst (λ cell. CellKeeps shape.Unmapped shape.Odd (λ j. ShapeKeeps Exact screen e (seen_at (shape_context rom.machine list e) items j)) p cell shape.Odd) q (made.keeps items p lead shape.Odd screen (λ x. cc x)) refl)
-      by_cell (Holds format instr) q = (format, instr, refl)
+-- something stands wherever items lead
+abbrev pub Stands : Rom → ℕ → Type 0
+Stands rom addr = (items : List Item) (p : ℕ) → LeadsTo Shape (rom_word rom) addr items p → (format : Format) × (instr : Instr) × (cell_at (rom_word rom) p ≡ Holds format instr)
 
-  find_last : (n : ℕ) (items : List Item) (p : ℕ) → LeadsTo Shape (rom_word rom) e.addr items p → e.words ≤ words_before (shape_context rom.machine list e) items + n → Stops rom e.addr
+pub stands_at : (rom : Rom) (list : List Entry) (e : Entry) → MadeEntry rom list e → Stands rom e.addr
+stands_at rom list e made items p lead = by_cell (cell_at (rom_word rom) p) refl
+  where
+    by_cell : (c : Cell) → cell_at (rom_word rom) p ≡ c → (format : Format) × (instr : Instr) × (c ≡ Holds format instr)
+    by_cell Missing q = absurd (subst (λ cell. CellKeeps shape.Unmapped shape.Odd (λ j. ShapeKeeps Exact screen e (seen_at (shape_context rom.machine list e) items j)) p cell shape.Unmapped) q (made.keeps items p lead shape.Unmapped screen (λ x. cc x)) refl)
+    by_cell Odd q = absurd (subst (λ cell. CellKeeps shape.Unmapped shape.Odd (λ j. ShapeKeeps Exact screen e (seen_at (shape_context rom.machine list e) items j)) p cell shape.Odd) q (made.keeps items p lead shape.Odd screen (λ x. cc x)) refl)
+    by_cell (Holds format instr) q = (format, instr, refl)
+
+-- where no item's words go over a bound, the items end
+module _ (rom : Rom) (c : Context) (addr most : ℕ) (stands : Stands rom addr) (few : (earlier : List Item) (i : Item) → LeadsTo Shape (rom_word rom) addr earlier i.at → cell_at (rom_word rom) i.at ≡ Holds i.format i.instr → words_before c (i ∷ earlier) ≤ most) where
+  find_last : (n : ℕ) (items : List Item) (p : ℕ) → LeadsTo Shape (rom_word rom) addr items p → most ≤ words_before c items + n → Stops rom addr
   find_last zero items p lead le =
-      let h = stands_at items p lead in
-      let i : Item = record { at = p; format = h.0; instr = h.1 } in
-      let more : words_before (shape_context rom.machine list e) (i ∷ items) ≤ e.words = (allows_at rom list e made items i lead h.2).many in
+      let h = stands items p lead in
+      let more = few items (record { at = p; format = h.0; instr = h.1 }) lead h.2 in
       absurd (omega (arith, more, le, word_count-some h.0))
   find_last (suc n) items p lead le = by_next (next_address Shape i) refl (λ q l k. find_last n (i ∷ items) q l k)
     where
       h : (format : Format) × (instr : Instr) × (cell_at (rom_word rom) p ≡ Holds format instr)
-      h = stands_at items p lead
+      h = stands items p lead
 
       i : Item
       i = record { at = p; format = h.0; instr = h.1 }
 
-      by_next : (o : Option ℕ) → next_address Shape i ≡ o → ((q : ℕ) → LeadsTo Shape (rom_word rom) e.addr (i ∷ items) q → e.words ≤ words_before (shape_context rom.machine list e) (i ∷ items) + n → Stops rom e.addr) → Stops rom e.addr
+      by_next : (o : Option ℕ) → next_address Shape i ≡ o → ((q : ℕ) → LeadsTo Shape (rom_word rom) addr (i ∷ items) q → most ≤ words_before c (i ∷ items) + n → Stops rom addr) → Stops rom addr
       by_next None is more = record { items = items; i = i; leads = lead; is = h.2; last = is }
       by_next (Some q) is more = more q (lead, h.2, is) (omega (arith, le, word_count-some h.0))
 
-  stops : Stops rom e.addr
-  stops = find_last e.words [] e.addr refl (omega arith)
+  pub stops : Stops rom addr
+  stops = find_last most [] addr refl (omega arith)
 
 -- ---- a shape that ends as its entry says
 
@@ -108,7 +120,7 @@ all_fine rom list e made (i ∷ earlier) p lead = (all_fine rom list e made earl
 
 pub made_ends : (rom : Rom) (list : List Entry) (e : Entry) → MadeEntry rom list e → Ends rom list e
 made_ends rom list e made =
-    let s = stops rom list e made in
+    let s = stops rom (shape_context rom.machine list e) e.addr e.words (stands_at rom list e made) (λ earlier i lead is. (allows_at rom list e made earlier i lead is).many) in
     record {
       stops = s;
       sums = sums_of rom list e made s.items s.i s.leads s.is s.last;
@@ -124,9 +136,6 @@ made_some rom list e made = grind (arith, (made_ends rom list e made), words_bef
 pub has_callee : (list : List Entry) (o : Option ℕ) (scale : Key) → ((to : ℕ) → o ≡ Some to → HasEntry list to scale) → HasCallee o (callee_at list o scale)
 has_callee list o scale h = grind (arith, exact_named)
 
-last_map : {A : Type 0} (o : Option ℕ) (x y : Known) (f : Known → A) → AtLast o (x ≡ y) → AtLast o (f x ≡ f y)
-last_map o x y f h = grind (arith)
-
 module _ (rom : Rom) (list : List Entry) (e : Entry) where
   abbrev c : Context
   c = shape_context rom.machine list e
@@ -139,7 +148,7 @@ module _ (rom : Rom) (list : List Entry) (e : Entry) where
     known : AtLast (next_address Shape i) (known_before c (i ∷ earlier) ≡ known_of e)
 
   kept_at : (earlier : List Item) (i : Item) → AtItem earlier i → (w : Window) (why : ShapeWhy) → why ≢ shape.OffScreen → ShapeKeeps Exact w e (seen_at c earlier i) why
-  kept_at earlier i h w h4 not = grind (arith, has_callee, target, scale_before, last_map, next_address)
+  kept_at earlier i h w h4 not = grind (arith, has_callee, target, scale_before, next_address)
 
   kept_place : (earlier : List Item) (i : Item) → cell_at (rom_word rom) i.at ≡ Holds i.format i.instr → AtItem earlier i → (why : ShapeWhy) → MadeKeeps rom list e earlier i.at why
   kept_place earlier i is h why w not = grind (arith, seen_at, kept_at)

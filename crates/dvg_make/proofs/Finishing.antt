@@ -39,15 +39,7 @@ module _ (rom : Rom) (roots : List (ℕ × Key)) (frames : List (List ℕ)) (don
 
 -- where no frame is asked for, the list is that of the roots
 pub made_roots : (rom : Rom) (roots : List (ℕ × Key)) (list : List Entry) → FramesMade rom roots [] list → Made rom roots list
-made_roots rom roots list m = record { certificate = m.certificate; each = m.each; rooted = λ addr key r. m.rooted addr key (inl r); needed = λ f c. ⊎_elim (λ a. inl (root_of f.addr f.key a)) (λ n. inr n) (m.needed f c) }
-  where
-    root_of : (addr : ℕ) (key : Key) → IsAskedFor rom.machine roots [] list addr key → Contains roots (addr, key)
-    root_of addr key (inl r) = r
-    root_of addr key (inr c) = absurd (omega (arith, c.1.1))
+made_roots rom roots list m = record { certificate = m.certificate; each = m.each; rooted = λ addr key r. m.rooted addr key (inl r); needed = λ f c. ⊎_elim (λ a. inl (⊎_elim (λ r. r) (λ b. absurd (omega (arith, b.1.1))) a)) (λ n. inr n) (m.needed f c) }
 
 pub roots_made : (rom : Rom) (roots : List (ℕ × Key)) (list : List Entry) → Made rom roots list → FramesMade rom roots [] list
-roots_made rom roots list m = record { certificate = m.certificate; each = m.each; rooted = has; needed = λ f c. ⊎_elim (λ r. inl (inl r)) (λ n. inr n) (m.needed f c) }
-  where
-    has : (addr : ℕ) (key : Key) → IsAskedFor rom.machine roots [] list addr key → HasEntry list addr key
-    has addr key (inl r) = m.rooted addr key r
-    has addr key (inr c) = absurd (omega (arith, c.1.1))
+roots_made rom roots list m = record { certificate = m.certificate; each = m.each; rooted = λ addr key a. ⊎_elim (λ r. m.rooted addr key r) (λ b. absurd (omega (arith, b.1.1))) a; needed = λ f c. ⊎_elim (λ r. inl (inl r)) (λ n. inr n) (m.needed f c) }

@@ -1,5 +1,5 @@
 -- A frame whose calls are made one after another.
-use Rattle.dvg_make.proofs.Common.{Machine, ◌≡◌, ℕ, ◌+◌, ◌<◌, ◌≤◌, List, [], ◌∷◌, ◌++◌, length, unwrap_or, Option, Some, None, refl, sym, ap, ◌∙◌, subst, arith, ◌⊎◌, inl, inr, ⊎_elim, Contains, IfSome, cell_at, InstrFits, Rom, frame_word, ADDRESS_END, Holds, Format, Instr, IsKey, entry_at, Entry, Key, Any, MOST_ENTRIES, LeadsTo, next_address, IsClaim, frame_context, target, scale_set, callee_at, scale_before, known_before, known_past, Item, Known, listed_at, in_bound, HasEntry, AllMade, EntryFault, Unstraight, Deep, TooManyWords, TooManyEntries, Memory, Extends, IsAim, NoAim, IsDone, InProgress, Bars, IsCalled, IsPresent, Collected, obstacle_fault, HasCalls, IsFramed, BarsHere, PartialEntry, Contains-append_left, Contains-append_right, Contains-append_cases, Source, append_assoc, cases_lt, AtEachOf, AtEveryPlace, next_near, Frame, same_lead, shorter, everywhere, Barred, AllKeyed, FrameAsksFor, NoneAccepts, BarsEntry, CallBarredAt, AllCalled, IsToldFrom, IsCalledBy, NoneHasCalls, LongHasCalls, KeyedCall, IsGivenHere, BlocksTarget, BlocksHere, Blocked}
+use Rattle.dvg_make.proofs.Common.{Machine, ◌≡◌, ℕ, ◌+◌, ◌<◌, ◌≤◌, List, [], ◌∷◌, ◌++◌, length, unwrap_or, Option, Some, None, refl, sym, ap, ◌∙◌, subst, arith, ◌⊎◌, inl, inr, ⊎_elim, Contains, IfSome, cell_at, InstrFits, Rom, frame_word, ADDRESS_END, Holds, Format, Instr, IsKey, entry_at, Entry, Key, Any, LeadsTo, next_address, IsClaim, frame_context, target, scale_set, callee_at, scale_before, known_before, known_past, Item, Known, listed_at, in_bound, HasEntry, AllMade, EntryFault, Unstraight, Deep, TooManyWords, TooManyEntries, Memory, Extends, IsAim, NoAim, IsDone, InProgress, Bars, IsCalled, Collected, obstacle_fault, HasCalls, IsFramed, BarsHere, PartialEntry, Contains-append_left, Contains-append_right, Contains-append_cases, Source, append_assoc, cases_lt, AtEachOf, AtEveryPlace, next_near, Frame, same_lead, shorter, everywhere, Barred, AllKeyed, FrameAsksFor, NoneAccepts, BarsEntry, CallBarredAt, AllCalled, IsToldFrom, IsCalledBy, KeyedCall, IsGivenHere, BlocksTarget, BlocksHere, Blocked}
 use Rattle.std.proofs.lemmas.List.{append-nil}
 use Rattle.dvg_make.specs.Frames.{IsKeyed}
 use Rattle.dvg_make.proofs.Matching.{exact_named}
@@ -7,6 +7,7 @@ use Rattle.dvg_make.proofs.Merging.{only_listed, extends_more, extends_second, a
 use Rattle.dvg_make.proofs.Chains.{called_grows}
 use Rattle.dvg_make.proofs.Bettering.{better}
 use Rattle.dvg_make.proofs.FrameBest.{upheld, frame_cover}
+use Rattle.dvg_make.proofs.Onward.{entry_claim}
 
 -- ---- lists that grow
 
@@ -14,12 +15,9 @@ pub done_made : (rom : Rom) (done : List Entry) → IsDone rom done → AllMade 
 done_made rom done h e c = let is = h.entries e c in record { made = h.made e c; words = is.words_high; depth = is.depth }
 
 -- what is known along a frame's items by a list is known by each that has more
-same_next : (machine : Machine) (a b : List Entry) → Extends a b → (earlier : List Item) (i : Item) → IsKeyed machine a earlier i → known_before (frame_context machine a) earlier ≡ known_before (frame_context machine b) earlier → known_before (frame_context machine a) (i ∷ earlier) ≡ known_before (frame_context machine b) (i ∷ earlier)
-same_next machine a b ext earlier i keyed before = grind (arith, target, scale_before, frame_context, callee_at, known_before, known_past, entry_at, exact_named)
-
 known_same : (machine : Machine) (a b : List Entry) → Extends a b → (items : List Item) → AllKeyed machine a items → known_before (frame_context machine a) items ≡ known_before (frame_context machine b) items
 known_same machine a b ext [] h = refl
-known_same machine a b ext (i ∷ earlier) h = same_next machine a b ext earlier i h.1 (known_same machine a b ext earlier h.0)
+known_same machine a b ext (i ∷ earlier) h = grind (arith, (known_same machine a b ext earlier h.0), target, scale_before, frame_context, callee_at, known_before, known_past, entry_at, exact_named)
 
 scale_same : (machine : Machine) (a b : List Entry) → Extends a b → (items : List Item) → AllKeyed machine a items → scale_before (frame_context machine a) items ≡ scale_before (frame_context machine b) items
 scale_same machine a b ext items h = ap (λ (x : Known). x.scale) (known_same machine a b ext items h)
@@ -39,12 +37,12 @@ call_grows machine words a b ext to scale c =
 
 -- where each call of a frame has its entry
 module _ (machine : Machine) (words : List ℕ) (list : List Entry) (has : HasCalls machine words list) where
-  keyed_at : (earlier : List Item) (i : Item) → LeadsTo Frame (frame_word machine words) 0 earlier i.at → cell_at (frame_word machine words) i.at ≡ Holds i.format i.instr → IsKeyed machine list earlier i
-  keyed_at earlier i lead is to t = has to (scale_before (frame_context machine list) earlier) (record { earlier = earlier; item = i; leads = lead; stands = is; target_is = t; scale_is = refl })
-
   keyed_all : (items : List Item) (p : ℕ) → LeadsTo Frame (frame_word machine words) 0 items p → AllKeyed machine list items
   keyed_all [] p lead = tt
-  keyed_all (i ∷ earlier) p lead = (keyed_all earlier i.at lead.0, keyed_at earlier i lead.0 lead.1)
+  keyed_all (i ∷ earlier) p lead = (
+    keyed_all earlier i.at lead.0,
+    λ to t. has to (scale_before (frame_context machine list) earlier) (record { earlier = earlier; item = i; leads = lead.0; stands = lead.1; target_is = t; scale_is = refl }),
+  )
 
   pub keyed_call : (to : ℕ) (scale : Key) → FrameAsksFor machine words list to scale → KeyedCall machine words list to scale
   keyed_call to scale c = record { calls = c; keyed = keyed_all c.earlier c.item.at c.leads }
@@ -68,11 +66,8 @@ module _ (machine : Machine) (words : List ℕ) (list : List Entry) where
   abbrev KeyedThere : List Item → ℕ → Type 0
   KeyedThere earlier p = (format : Format) (instr : Instr) → cell_at word p ≡ Holds format instr → IsKeyed machine list earlier (record { at = p; format = format; instr = instr })
 
-  same_instr : (format other : Format) (i j : Instr) → Holds format i ≡ Holds other j → i ≡ j
-  same_instr format other i j e = cc e
-
   there : (earlier : List Item) (i : Item) → cell_at word i.at ≡ Holds i.format i.instr → IsKeyed machine list earlier i → KeyedThere earlier i.at
-  there earlier i is keyed format instr e to t = keyed to (ap (target Frame) (same_instr i.format format i.instr instr (sym is ∙ e)) ∙ t)
+  there earlier i is keyed format instr e to t = keyed to (let same : i.instr ≡ instr = cc (is, e) in ap (target Frame) same ∙ t)
 
   each_there : (items : List Item) (p : ℕ) → LeadsTo Frame word 0 items p → AllKeyed machine list items → AtEachOf KeyedThere items
   each_there [] p lead keyed = tt
@@ -114,23 +109,16 @@ collected_more rom asked old new addr key h m has =
     record {
       is_done = m.is_done;
       rooted = λ a k c. ⊎_elim (λ x. let f = h.rooted a k x in (f.0, m.extends a k f.0 f.1)) (λ x. subst (λ (r : ℕ × Key). HasEntry new r.0 r.1) (only_listed (addr, key) (a, k) x) has) (Contains-append_cases asked ((addr, key) ∷ []) (a, k) c);
-      needed = needs;
+      needed = λ a k x.
+          ⊎_elim
+          (λ given. ⊎_elim
+          (λ f. ⊎_elim (λ c. inl (Contains-append_left asked ((addr, key) ∷ []) (a, k) c)) (λ c. inr (called_grows rom old new [] [] m.extends (λ y z p. ⊎_elim (λ x. inl (x.0, m.extends y z x.0 x.1)) (λ b. inr b) p) a k c)) (h.needed a k f))
+          (λ s. inl (Contains-append_right asked ((addr, key) ∷ []) (a, k) (0, omega arith, λ x. (s.0 x, s.1 x))))
+          given)
+          (λ c. inr c)
+          (m.needed a k (inl x));
       forced = λ made all has_all. (m.forced made (record { all = all; extends = h.forced made all (λ a k c. has_all a k (Contains-append_left asked ((addr, key) ∷ []) (a, k) c)); has = has_all addr key (Contains-append_right asked ((addr, key) ∷ []) (addr, key) (0, omega arith, refl)) })).0;
     }
-  where
-    was : (a : ℕ) (k : Key) → IsPresent old [] a k → IsPresent new [] a k
-    was a k (inl x) = inl (x.0, m.extends a k x.0 x.1)
-    was a k (inr b) = absurd b
-
-    needs : (a : ℕ) (k : Key) → HasEntry new a k → Contains (asked ++ (addr, key) ∷ []) (a, k) ⊎ IsCalled rom new [] a k
-    needs a k x =
-        ⊎_elim
-        (λ given. ⊎_elim
-        (λ f. ⊎_elim (λ c. inl (Contains-append_left asked ((addr, key) ∷ []) (a, k) c)) (λ c. inr (called_grows rom old new [] [] m.extends was a k c)) (h.needed a k f))
-        (λ s. inl (Contains-append_right asked ((addr, key) ∷ []) (a, k) (0, omega arith, λ x. (s.0 x, s.1 x))))
-        given)
-        (λ c. inr c)
-        (m.needed a k (inl x))
 
 -- ---- what is needed
 
@@ -184,6 +172,10 @@ module _ (rom : Rom) (words : List ℕ) (old done : List Entry) (at : ℕ) (scal
           keyed = keyed_grows rom.machine done list ext w.items w.keyed;
         }
 
+    -- a list that has the calls of the frame has this call's entry
+    aim : (list : List Entry) → AllMade rom list → Extends old list → HasCalls rom.machine words list → IsAim rom done (to, scale) list
+    aim list all ext has_calls = let e = w.forced list all ext has_calls in record { all = all; extends = e; has = has_calls to scale (called_by list e).calls }
+
     pub call_made : (new : List Entry) → InProgress rom done (to, scale) new [] → HasEntry new to scale → FrameWalk rom words old new at scale
     call_made new m has =
         record {
@@ -198,7 +190,7 @@ module _ (rom : Rom) (words : List ℕ) (old done : List Entry) (at : ℕ) (scal
           calls = w.calls ++ (to, scale) ∷ [];
           calls_are = λ a k c. ⊎_elim (λ x. call_grows rom.machine words done new m.extends a k (w.calls_are a k x)) (λ x. subst (λ (r : ℕ × Key). KeyedCall rom.machine words new r.0 r.1) (only_listed (to, scale) (a, k) x) (called_by new m.extends)) (Contains-append_cases w.calls ((to, scale) ∷ []) (a, k) c);
           collected = λ asked c. subst (λ a. Collected rom a new) (append_assoc asked w.calls ((to, scale) ∷ [])) (collected_more rom (asked ++ w.calls) done new to scale (w.collected asked c) m has);
-          forced = λ list all ext has_calls. let e = w.forced list all ext has_calls in (m.forced list (record { all = all; extends = e; has = has_calls to scale (called_by list e).calls })).0;
+          forced = λ list all ext has_calls. (m.forced list (aim list all ext has_calls)).0;
         }
 
     -- ---- the entry is not made
@@ -215,9 +207,6 @@ module _ (rom : Rom) (words : List ℕ) (old done : List Entry) (at : ℕ) (scal
         }
 
     module _ (no : NoAim rom done (to, scale)) where
-      none_has : NoneHasCalls rom words old
-      none_has list all ext has_calls = let e = w.forced list all ext has_calls in no list (record { all = all; extends = e; has = has_calls to scale (called_by list e).calls })
-
       entry_barred : Barred rom to scale
       entry_barred list all has =
           let mine = done_made rom done w.is_done in
@@ -231,24 +220,21 @@ module _ (rom : Rom) (words : List ℕ) (old done : List Entry) (at : ℕ) (scal
           let b = better rom list up cover.0 cover.1 key cover.2.key in
           entry_barred b.list b.all (b.f, subst (λ (k : Key). entry_at b.list to k ≡ Some b.f) (sym w.scale_is) (subst (λ a. entry_at b.list a key ≡ Some b.f) cover.2.addr b.found_it))
 
-    too_many : ((made : List Entry) → IsAim rom done (to, scale) made → MOST_ENTRIES < length made) → LongHasCalls rom words old
-    too_many long list all ext has_calls = let e = w.forced list all ext has_calls in long list (record { all = all; extends = e; has = has_calls to scale (called_by list e).calls })
-
     pub call_barred : (why : EntryFault) → Bars rom done (to, scale) why → BarsHere rom words old at why
-    call_barred (Unstraight word) b = (none_has b, stops (Unstraight word) (entry_barred b), none_accepts b)
-    call_barred Deep b = (none_has b, stops Deep (entry_barred b), none_accepts b)
-    call_barred TooManyWords b = (none_has b, stops TooManyWords (entry_barred b), none_accepts b)
-    call_barred TooManyEntries b = (too_many b, stops TooManyEntries tt, tt)
+    call_barred (Unstraight word) b = ((λ list all ext has_calls. b list (aim list all ext has_calls)), stops (Unstraight word) (entry_barred b), none_accepts b)
+    call_barred Deep b = ((λ list all ext has_calls. b list (aim list all ext has_calls)), stops Deep (entry_barred b), none_accepts b)
+    call_barred TooManyWords b = ((λ list all ext has_calls. b list (aim list all ext has_calls)), stops TooManyWords (entry_barred b), none_accepts b)
+    call_barred TooManyEntries b = ((λ list all ext has_calls. b list (aim list all ext has_calls)), stops TooManyEntries tt, tt)
     call_barred Memory b = (tt, stops Memory tt, tt)
 
   -- ---- past the item
 
   -- its entry is made, if it calls one
-  record Called (new : List Entry) (callee : Option Entry) : Type 0 where
-    partial : FrameWalk rom words old new at scale
+  pub record Called (new : List Entry) (callee : Option Entry) : Type 0 where
+    pub partial : FrameWalk rom words old new at scale
     its : IsKeyed rom.machine new partial.items item
     callee_is : callee ≡ callee_at new (target Frame instr) (scale_before (frame_context rom.machine new) partial.items)
-    claim : IfSome callee IsClaim
+    pub claim : IfSome callee IsClaim
 
   called_none : target Frame instr ≡ None → Called done None
   called_none t = record { partial = w; its = λ to q. let no : None ≡ Some to = sym t ∙ q in cc no; callee_is = sym (ap (λ o. callee_at done o (scale_before (frame_context rom.machine done) w.items)) t); claim = tt }
@@ -257,18 +243,14 @@ module _ (rom : Rom) (words : List ℕ) (old done : List Entry) (at : ℕ) (scal
   called_some last to t new f m found_f =
       let partial = call_made to t new m (f, found_f) in
       let there : entry_at new to (scale_before (frame_context rom.machine new) partial.items) ≡ Some f = subst (λ (k : Key). entry_at new to k ≡ Some f) partial.scale_is found_f in
-      let entry = m.is_done.entries f (listed_at new to scale f found_f).listed in
       record {
         partial = partial;
-        its = λ other q. (f, ap (λ o. entry_at new o (scale_before (frame_context rom.machine new) partial.items)) (some_same other to (sym q ∙ t)) ∙ there);
+        its = λ other q. (f, ap (λ o. entry_at new o (scale_before (frame_context rom.machine new) partial.items)) (let same : other ≡ to = cc (t, q) in same) ∙ there);
         callee_is = sym (ap (λ o. callee_at new o (scale_before (frame_context rom.machine new) partial.items)) t ∙ exact_named new to (scale_before (frame_context rom.machine new) partial.items) f there);
-        claim = record { key = entry.key; stop = entry.stop; lit = entry.lit; depth = entry.depth; words = entry.words_high; scale = entry.scale; addr = omega (arith, entry.addr_high, last) };
+        claim = entry_claim rom.map.rom_first rom.map.rom_last f last (m.is_done.entries f (listed_at new to scale f found_f).listed);
       }
-    where
-      some_same : (x y : ℕ) → Some x ≡ Some y → x ≡ y
-      some_same x y q = cc q
 
-  called : rom.map.rom_last < ADDRESS_END → (new : List Entry) (callee : Option Entry) → IsCalledBy rom done instr scale new callee → Called new callee
+  pub called : rom.map.rom_last < ADDRESS_END → (new : List Entry) (callee : Option Entry) → IsCalledBy rom done instr scale new callee → Called new callee
   called last new callee c = by_target (target Frame instr) refl
     where
       by_target : (o : Option ℕ) → target Frame instr ≡ o → Called new callee
@@ -276,9 +258,6 @@ module _ (rom : Rom) (words : List ℕ) (old done : List Entry) (at : ℕ) (scal
       by_target (Some to) t = let m = c.some to t in subst (λ o. Called new o) (sym (m.2 ∙ m.1.1)) (called_some last to t new m.1.0 m.0 m.1.1)
 
   module _ (last : rom.map.rom_last < ADDRESS_END) (new : List Entry) (callee : Option Entry) (c : IsCalledBy rom done instr scale new callee) where
-    pub callee_claim : IfSome callee IsClaim
-    callee_claim = (called last new callee c).claim
-
     pub goes_on : (past : Key) → past ≡ unwrap_or (scale_set instr callee) scale → IsKey past → at < ADDRESS_END → InstrFits instr → (next : ℕ) → next_address Frame item ≡ Some next → FrameWalk rom words old new next past
     goes_on past past_is key near fits next goes =
         let h = called last new callee c in
@@ -309,9 +288,6 @@ module _ (rom : Rom) (words : List ℕ) (old done : List Entry) (at : ℕ) (scal
           forced = h.partial.forced;
         }
 
-    pub all_grow : Extends old new
-    all_grow = (called last new callee c).partial.grows
-
 pub at_nothing : (rom : Rom) (words : List ℕ) (old done : List Entry) (at : ℕ) (scale : Key) → FrameWalk rom words old done at scale → ((format : Format) (instr : Instr) → cell_at (frame_word rom.machine words) at ≡ Holds format instr → ⊥) → IsFramed rom words old done
 at_nothing rom words old done at scale w not =
     record {
@@ -323,9 +299,19 @@ at_nothing rom words old done at scale w not =
     }
 
 -- a refusal of the entry that the item calls is one of the frame's call
-pub target_blocked : (rom : Rom) (words : List ℕ) (old done : List Entry) (at : ℕ) (scale : Key) → FrameWalk rom words old done at scale → (format : Format) (instr : Instr) → cell_at (frame_word rom.machine words) at ≡ Holds format instr → (blocked : Blocked) → BlocksTarget rom done instr scale blocked → (index : ℕ) → BlocksHere rom index words old (record { call = Some (record { frame = index; at = at }); chain = blocked.chain; obstacle = blocked.obstacle })
+pub target_blocked : (rom : Rom) (words : List ℕ) (old done : List Entry) (at : ℕ) (scale : Key) → FrameWalk rom words old done at scale → (format : Format) (instr : Instr) → cell_at (frame_word rom.machine words) at ≡ Holds format instr → (blocked : Blocked) → BlocksTarget rom done instr scale blocked → (index : ℕ)
+    → BlocksHere rom index words old (record { call = Some (record { frame = index; at = at }); chain = blocked.chain; obstacle = blocked.obstacle })
 unfolding called_by
 target_blocked rom words old done at scale w format instr is blocked b index =
+    let t : IsToldFrom rom done (b.0, scale) blocked.chain blocked.obstacle = b.2.told in
+    let call : KeyedCall rom.machine words t.list b.0 scale = called_by rom words old done at scale w format instr is b.0 b.1 t.list t.extends in
+    let given : (asked : List (ℕ × Key)) → Collected rom asked old → (a : ℕ) (k : Key) → HasEntry done a k → IsGivenHere rom.machine words asked t.list a k ⊎ IsCalled rom done [] a k =
+    λ asked h a k has.
+    ⊎_elim
+    (λ c. inl (⊎_elim (λ x. inl x) (λ x. inr (call_grows rom.machine words done t.list t.extends a k (w.calls_are a k x))) (Contains-append_cases asked w.calls (a, k) c)))
+    (λ c. inr c)
+    ((w.collected asked h).needed a k has)
+    in
     record {
       at = at;
       call = refl;
@@ -344,16 +330,3 @@ target_blocked rom words old done at scale w format instr is blocked b index =
         no_root = b.2.no_root;
       };
     }
-  where
-    t : IsToldFrom rom done (b.0, scale) blocked.chain blocked.obstacle
-    t = b.2.told
-
-    call : KeyedCall rom.machine words t.list b.0 scale
-    call = called_by rom words old done at scale w format instr is b.0 b.1 t.list t.extends
-
-    given : (asked : List (ℕ × Key)) → Collected rom asked old → (a : ℕ) (k : Key) → HasEntry done a k → IsGivenHere rom.machine words asked t.list a k ⊎ IsCalled rom done [] a k
-    given asked h a k has =
-        ⊎_elim
-        (λ c. inl (⊎_elim (λ x. inl x) (λ x. inr (call_grows rom.machine words done t.list t.extends a k (w.calls_are a k x))) (Contains-append_cases asked w.calls (a, k) c)))
-        (λ c. inr c)
-        ((w.collected asked h).needed a k has)

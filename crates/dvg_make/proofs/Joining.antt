@@ -1,21 +1,13 @@
 -- A shape so far and the tail behind it are a made entry.
-use Rattle.dvg_make.proofs.Common.{Machine, ◌≡◌, ℕ, ◌+◌, ◌-◌, ◌<◌, ◌≤◌, List, [], ◌∷◌, ◌++◌, Option, Some, refl, sym, ap, ◌∙◌, subst, arith, ⊎_elim, Contains, IfSome, ints, Rom, rom_word, Point, Jmpl, ADDRESS_END, IsKey, IsEntry, entry_at, End, Rel, Abs, Lost, Entry, Key, LitBox, Empty, Span, MOST_DEPTH, MOST_WORDS, IsClaim, LeadsTo, Context, scale_before, place_before, known_before, InBox, IsInside, box_extent, relative_corners, step_past, seen_at, seen_with, extent, Last, Item, Shape, Known, LitExtent, Nothing, Between, Seen, all_append, listed_at, PartialEntry, lit_points, HoldsAll, IsLeast, MadeEntry, IsDone, keyed_context, entry_of, AllFine, IsPartial, Passes, Extends, AreTails, IsFinished, rules, Contains-append_cases, ℤ, neg_ℤ, Short, IsBox, PlaceKnown, ScaleKnown, Anywhere, all_left, all_right, seen_by, moved, known_at_end, known_over, place_over, IsFine, IsTail, EndsBy, EndsByOne}
-use Rattle.std.proofs.Common.{◌≤ℤ◌}
+use Rattle.dvg_make.proofs.Common.{Machine, ◌≡◌, ℕ, ◌+◌, ◌-◌, ◌≤◌, List, [], ◌∷◌, ◌++◌, Option, Some, refl, sym, ap, ◌∙◌, subst, arith, ⊎_elim, IfSome, ints, Rom, rom_word, Point, Jmpl, IsKey, IsEntry, entry_at, End, Rel, Abs, Lost, Entry, Key, LitBox, Empty, Span, MOST_DEPTH, MOST_WORDS, LeadsTo, Context, scale_before, place_before, known_before, InBox, IsInside, box_extent, relative_corners, step_past, seen_at, seen_with, extent, Last, Item, Shape, Known, LitExtent, Nothing, Between, Seen, all_append, listed_at, PartialEntry, lit_points, HoldsAll, IsLeast, MadeEntry, IsDone, keyed_context, entry_of, AllFine, IsPartial, Passes, Extends, AreTails, IsFinished, rules, Contains-append_cases, ℤ, neg_ℤ, Short, PlaceKnown, ScaleKnown, Anywhere, all_left, all_right, seen_by, moved, known_at_end, known_over, place_over, IsFine, IsTail, EndsBy, EndsByOne}
 use Rattle.dvg_check.proofs.TailLaws.{seen_over, seen_by_over, over_none}
 use Rattle.dvg_make.proofs.Ends.{made_ends, ends_made}
-use Rattle.dvg_make.proofs.Onward.{Walking}
 use Rattle.dvg_make.proofs.Growing.{made_grows}
 use Rattle.dvg_make.proofs.Merging.{only_listed}
 use Rattle.dvg_make.proofs.Small.{made_is_entry}
+use Rattle.dvg_make.proofs.Knowing.{IsOrdered}
 
 -- ---- what is lit in a tail, seen from where the tail stands
-
--- nothing has no corners
-none_of : (box : LitBox) (place : End) → HoldsAll box (relative_corners Nothing place)
-none_of box place = grind (arith)
-
-none_anywhere : (box : LitBox) (place : End) → HoldsAll box (relative_corners Anywhere place)
-none_anywhere box place = grind (arith)
 
 -- it is lit at a known place, if the tail's box is
 known_over_place : (lit : LitBox) (ext : LitExtent) (place second : End) → PlaceKnown (box_extent lit) place → ScaleKnown ext → PlaceKnown ext second → HoldsAll lit (relative_corners ext second) → PlaceKnown ext (place_over place second)
@@ -23,8 +15,8 @@ known_over_place lit ext place second k scale known holds = grind (arith)
 
 -- it lies in a box that has the corners of the tail's box
 holds_over : (lit whole : LitBox) (ext : LitExtent) (place second : End) → HoldsAll whole (relative_corners (box_extent lit) place) → HoldsAll lit (relative_corners ext second) → HoldsAll whole (relative_corners ext (place_over place second))
-holds_over lit whole Nothing place second h k = none_of whole (place_over place second)
-holds_over lit whole Anywhere place second h k = none_anywhere whole (place_over place second)
+holds_over lit whole Nothing place second h k = grind (arith)
+holds_over lit whole Anywhere place second h k = grind (arith)
 holds_over lit whole (Between a b) place Lost h k = tt
 holds_over lit whole (Between a b) place (Abs x y) h k = tt
 holds_over lit whole (Between a b) Lost (Rel x y) h k = tt
@@ -42,8 +34,8 @@ seen_from u v box = moved box (record { x = neg_ℤ u; y = neg_ℤ v })
 
 -- what lies in a box lies, seen from a place, in the box that is seen from there
 holds_back : (other : LitBox) (ext : LitExtent) (u v : ℤ) (second : End) → HoldsAll other (relative_corners ext (place_over (Rel u v) second)) → HoldsAll (seen_from u v other) (relative_corners ext second)
-holds_back other Nothing u v second h = none_of (seen_from u v other) second
-holds_back other Anywhere u v second h = none_anywhere (seen_from u v other) second
+holds_back other Nothing u v second h = grind (arith)
+holds_back other Anywhere u v second h = grind (arith)
 holds_back other (Between a b) u v Lost h = tt
 holds_back other (Between a b) u v (Abs x y) h = tt
 holds_back Empty (Between a b) u v (Rel x y) h = absurd h.0
@@ -51,11 +43,6 @@ holds_back (Span l r d t) (Between a b) u v (Rel x y) h = (
   record { left = omega (arith, ints, h.0.left); right = omega (arith, ints, h.0.right); bottom = omega (arith, ints, h.0.bottom); top = omega (arith, ints, h.0.top) },
   (record { left = omega (arith, ints, h.1.0.left); right = omega (arith, ints, h.1.0.right); bottom = omega (arith, ints, h.1.0.bottom); top = omega (arith, ints, h.1.0.top) }, tt),
 )
-
--- its ends are in order
-abbrev IsOrdered : LitBox → Type 0
-IsOrdered Empty = Unit {0}
-IsOrdered (Span x_min x_max y_min y_max) = (x_min ≤ℤ x_max) × (y_min ≤ℤ y_max)
 
 -- a box has the corners of one that, seen from the place, is part of it
 corners_back : (lit other : LitBox) (place : End) → ((u v : ℤ) → place ≡ Rel u v → IsOrdered lit × IsInside lit (seen_from u v other)) → HoldsAll other (relative_corners (box_extent lit) place)
@@ -88,9 +75,6 @@ module _ (rom : Rom) (list : List Entry) (key : Key) (before : List Item) (t : E
   knows_on [] = over_none here t.key scale
   knows_on (i ∷ rest) = ap (λ (v : Seen). v.after) (seen_on rest i (knows_on rest))
 
-  abbrev sees : (rest : List Item) (i : Item) → seen_at c (rest ++ before) i ≡ seen_over here (seen_at behind rest i)
-  sees rest i = seen_on rest i (knows_on rest)
-
   pub leads_through : (addr p : ℕ) (rest : List Item) → LeadsTo Shape (rom_word rom) addr before t.addr → LeadsTo Shape (rom_word rom) t.addr rest p → LeadsTo Shape (rom_word rom) addr (rest ++ before) p
   leads_through addr p [] l k = subst (LeadsTo Shape (rom_word rom) addr before) (sym k) l
   leads_through addr p (i ∷ rest) l k = (leads_through addr i.at rest l k.0, k.1, k.2)
@@ -111,7 +95,7 @@ module _ (rom : Rom) (list : List Entry) (key : Key) (before : List Item) (t : E
   over_points rest i = relative_corners (extent behind rest i.instr) (place_over here.place (place_before behind rest))
 
   same_points : (rest : List Item) (i : Item) → relative_corners (extent c (rest ++ before) i.instr) (place_before c (rest ++ before)) ≡ over_points rest i
-  same_points rest i = ap (λ (v : Seen). relative_corners v.extent v.place) (sees rest i)
+  same_points rest i = ap (λ (v : Seen). relative_corners v.extent v.place) (seen_on rest i (knows_on rest))
 
   holds_through : (whole : LitBox) (rest : List Item) → HoldsAll whole (relative_corners (box_extent t.lit) here.place) → HoldsAll whole (lit_points c before) → HoldsAll t.lit (lit_points behind rest) → HoldsAll whole (lit_points c (rest ++ before))
   holds_through whole [] corners h k = h
@@ -148,9 +132,6 @@ module _ (rom : Rom) (list : List Entry) (key : Key) (before : List Item) (t : E
 
 -- ---- the entry
 
-ordered_box : (lit : LitBox) → IsBox lit → IsOrdered lit
-ordered_box lit h = grind (arith)
-
 pub joined : (rom : Rom) (list : List Entry) → IsDone rom list → (w : PartialEntry) → IsPartial rom list w → (t : Entry) → IsTail rom list t → t.addr ≡ w.cursor.at → t.key ≡ w.cursor.known.scale → (e : Entry) → EndsBy w t e → IsFinished rom list w e
 joined rom list done w h t tail at key e ends =
     let m = made_ends rom list t tail.made in
@@ -160,8 +141,9 @@ joined rom list done w h t tail at key e ends =
     let all : List Item = m.stops.i ∷ m.stops.items ++ h.items in
     let leads = leads_through rom list w.key h.items t scale w.addr m.stops.i.at m.stops.items (subst (LeadsTo Shape (rom_word rom) w.addr h.items) (sym at) h.leads) m.stops.leads in
     let fine = fine_through rom list w.key h.items t scale place (m.stops.i ∷ m.stops.items) h.knows.fine m.fine m.sums.box.holds in
-    let grown : IsLeast (relative_corners (box_extent t.lit) (place_before (keyed_context rom.machine list w.key) h.items) ++ lit_points (keyed_context rom.machine list w.key) h.items) ends.lit = subst (λ (k : Known). IsLeast (relative_corners (box_extent t.lit) k.place ++ lit_points (keyed_context rom.machine list w.key) h.items) ends.lit) is (ends.grows (lit_points (keyed_context rom.machine list w.key) h.items) h.knows.least) in
-    let least = least_through rom list w.key h.items t scale ends.lit (m.stops.i ∷ m.stops.items) (ordered_box t.lit tail.entry.lit) m.sums.box grown in
+    let grown : IsLeast (relative_corners (box_extent t.lit) (place_before (keyed_context rom.machine list w.key) h.items) ++ lit_points (keyed_context rom.machine list w.key) h.items) ends.lit = subst (λ (k : Known). IsLeast (relative_corners (box_extent t.lit) k.place ++ lit_points (keyed_context rom.machine list w.key) h.items) ends.lit) is
+    (ends.grows (lit_points (keyed_context rom.machine list w.key) h.items) h.knows.least) in
+    let least = least_through rom list w.key h.items t scale ends.lit (m.stops.i ∷ m.stops.items) (let ordered : IsOrdered t.lit = grind (arith, tail.entry.lit) in ordered) m.sums.box grown in
     let knows : ends.known ≡ known_before (keyed_context rom.machine list w.key) all = ends.known_is ∙ ap (λ (k : Known). known_over k (known_at_end t)) is ∙ ap (known_over (known_before (keyed_context rom.machine list w.key) h.items)) (sym m.sums.known) ∙ sym (knows_on rom list w.key h.items t scale (m.stops.i ∷ m.stops.items)) in
     let depth : ends.known.depth ≤ MOST_DEPTH = omega (arith, ap (λ (k : Known). k.depth) ends.known_is, h.shallow, tail.entry.depth) in
     let scale_is : IsKey ends.known.scale = subst (λ (k : Known). IsKey k.scale) (sym ends.known_is) tail.entry.scale in
@@ -178,17 +160,9 @@ joined rom list done w h t tail at key e ends =
 pub joined_one : (rom : Rom) (list tails : List Entry) → IsDone rom list → AreTails rom list tails → (w : PartialEntry) → IsPartial rom list w → (e : Entry) → EndsByOne w tails e → IsFinished rom list w e
 joined_one rom list tails done are w h e ends = search (rules, (listed_at tails w.cursor.at w.cursor.known.scale ends.tail ends.there), joined)
 
--- what is finished from where a partial entry came to is finished from where it began
-pub finished_from : (rom : Rom) (list : List Entry) (from w : PartialEntry) → Walking rom list from w → (e : Entry) → IsFinished rom list w e → IsFinished rom list from e
-finished_from rom list from w h e f = record { addr = f.addr ∙ h.addr; key = f.key ∙ h.key; entry = f.entry; made = f.made }
-
-pub tail_claim : (rom : Rom) (list tails : List Entry) → rom.map.rom_last < ADDRESS_END → AreTails rom list tails → (t : Entry) → Contains tails t → IsClaim t
-tail_claim rom list tails last are t c =
-    let is = (are t c).entry in
-    record { key = is.key; stop = is.stop; lit = is.lit; depth = is.depth; words = is.words_high; scale = is.scale; addr = omega (arith, is.addr_high, last) }
-
 -- past a tail jump the same is known as past the tail, but for the word of the jump
-pub ends_by : (machine : Machine) (w : PartialEntry) (t : Entry) (to : ℕ) (lit : LitBox) (last : Known) (words : ℕ) (e : Entry) → Passes (seen_with machine (Some t) w.cursor.known (record { at = w.cursor.at; format = Short; instr = Jmpl to })) w.lit lit → Last last ≡ step_past Shape (seen_with machine (Some t) w.cursor.known (record { at = w.cursor.at; format = Short; instr = Jmpl to })) → words ≡ last.words - 1 → e ≡ entry_of w.addr w.key (record last { words = words }) lit → EndsBy w t e
+pub ends_by : (machine : Machine) (w : PartialEntry) (t : Entry) (to : ℕ) (lit : LitBox) (last : Known) (words : ℕ) (e : Entry) → Passes (seen_with machine (Some t) w.cursor.known (record { at = w.cursor.at; format = Short; instr = Jmpl to })) w.lit lit → Last last ≡ step_past Shape (seen_with machine (Some t) w.cursor.known (record { at = w.cursor.at; format = Short; instr = Jmpl to }))
+    → words ≡ last.words - 1 → e ≡ entry_of w.addr w.key (record last { words = words }) lit → EndsBy w t e
 ends_by machine w t to lit last words e p goes less is =
     let after : last ≡ (seen_with machine (Some t) w.cursor.known (record { at = w.cursor.at; format = Short; instr = Jmpl to })).after = cc goes in
     let count : words ≡ t.words + w.cursor.known.words = omega (arith, less, ap (λ (k : Known). k.words) after) in
@@ -200,14 +174,12 @@ ends_by_one w tails t o there h = grind (arith)
 -- ---- tails that are kept
 
 pub tails_more : (rom : Rom) (list tails : List Entry) (e : Entry) → AreTails rom list tails → IsTail rom list e → AreTails rom list (tails ++ e ∷ [])
-tails_more rom list tails e h is t c = ⊎_elim (h t) (λ l. one t (only_listed e t l)) (Contains-append_cases tails (e ∷ []) t c)
-  where
-    one : (t : Entry) → e ≡ t → IsTail rom list t
-    one t q = subst (IsTail rom list) q is
+tails_more rom list tails e h is t c = ⊎_elim (h t) (λ l. subst (IsTail rom list) (only_listed e t l) is) (Contains-append_cases tails (e ∷ []) t c)
 
 -- they are tails by each list that has more
 pub tails_grow : (rom : Rom) (a b tails : List Entry) → Extends a b → AreTails rom a tails → AreTails rom b tails
 tails_grow rom a b tails ext h t c = record { entry = (h t c).entry; made = made_grows rom a b t ext (h t c).made }
 
-pub no_tails : (rom : Rom) (list tails : List Entry) → tails ≡ [] → AreTails rom list tails
-no_tails rom list tails none t c = let k : Contains [] t = subst (λ l. Contains l t) none c in absurd (omega (arith, k.1))
+-- what is finished is a tail
+pub tail_kept : (rom : Rom) (done tails new : List Entry) (w : PartialEntry) (e : Entry) → AreTails rom done tails → IsFinished rom done w e → new ≡ tails ++ e ∷ [] → AreTails rom done new
+tail_kept rom done tails new w e h f is = subst (AreTails rom done) (sym is) (tails_more rom done tails e h (record { entry = f.entry; made = f.made }))

@@ -1,6 +1,5 @@
 -- Who knows more before an item knows more after it, and lights no more.
-use Rattle.dvg_make.proofs.Common.{Machine, ◌≡◌, ℕ, ◌≤◌, Option, Some, None, refl, sym, subst, arith, ints, Window, Instr, Labs, Halt, Jsrl, Rtsl, Jmpl, End, Rel, Abs, Lost, Entry, Key, LitBox, Empty, Span, Item, Effect, Sets, Loses, Moves, scale_set, place_past, known_past, LitExtent, Nothing, Between, box_extent, extent_of, LitInWindow, IsInside, Known, KnowsMore, ◌≤ℤ◌, DrawFields, Draws, effect_of, draw_extent, PlaceKnown, ScaleKnown, LitInBox, Loosens, LoosensPlace, Refines}
-use Rattle.std.specs.Prelude.{ℤ}
+use Rattle.dvg_make.proofs.Common.{Machine, ◌≡◌, ℕ, Option, Some, None, refl, sym, subst, arith, ints, Window, Instr, Labs, Halt, Jsrl, Rtsl, Jmpl, End, Rel, Abs, Lost, Entry, Key, LitBox, Empty, Span, Item, Effect, Sets, Loses, Moves, scale_set, place_past, known_past, LitExtent, Nothing, Between, box_extent, extent_of, LitInWindow, IsInside, Known, KnowsMore, ◌≤ℤ◌, DrawFields, Draws, effect_of, draw_extent, PlaceKnown, ScaleKnown, LitInBox, Loosens, LoosensPlace, Refines, callee_extent, ℤ}
 
 -- ---- the entries that an item calls by the two lists
 
@@ -73,17 +72,17 @@ box_less (Span a0 a1 b0 b1) (Span c0 c1 d0 d1) (Abs x y) q i o l known =
     (record { known = λ e. cc e; scale_known = tt; shown = λ w h. part_in_window w x y a0 a1 b0 b1 c0 c1 d0 d1 o i h; boxed = λ box h. tt })
 box_less (Span a0 a1 b0 b1) (Span c0 c1 d0 d1) Lost q i o l known = absurd (known refl)
 
+called_less : (o p : Option Entry) (a b : End) → CalleeRefines o p → LoosensPlace a b → PlaceKnown (callee_extent o) a → LightsLess (callee_extent o) (callee_extent p) a b
+called_less None None a b c k known = none_lit Nothing a b
+called_less None (Some f) a b c k known = absurd c
+called_less (Some e) None a b c k known = absurd c
+called_less (Some e) (Some f) a b c k known = box_less e.lit f.lit a b c.0.lit c.1 k known
+
 -- who knows more before an item lights no more there
 pub lights_less : (machine : Machine) (i : Instr) (o p : Option Entry) (weak strong : Known) → KnowsMore weak strong → CalleeRefines o p → PlaceKnown (extent_of machine i weak.scale o) weak.place → ScaleKnown (extent_of machine i weak.scale o) → LightsLess (extent_of machine i weak.scale o) (extent_of machine i strong.scale p) weak.place strong.place
 lights_less machine (Draws d) o p weak strong k c known scale = draw_less machine d.bright d weak.scale strong.scale weak.place strong.place k.scale k.place known scale
 lights_less machine (Labs x y g) o p weak strong k c known scale = none_lit Nothing weak.place strong.place
 lights_less machine Halt o p weak strong k c known scale = none_lit Nothing weak.place strong.place
 lights_less machine Rtsl o p weak strong k c known scale = none_lit Nothing weak.place strong.place
-lights_less machine (Jsrl to) None None weak strong k c known scale = none_lit Nothing weak.place strong.place
-lights_less machine (Jsrl to) None (Some f) weak strong k c known scale = absurd c
-lights_less machine (Jsrl to) (Some e) None weak strong k c known scale = absurd c
-lights_less machine (Jsrl to) (Some e) (Some f) weak strong k c known scale = box_less e.lit f.lit weak.place strong.place c.0.lit c.1 k.place known
-lights_less machine (Jmpl to) None None weak strong k c known scale = none_lit Nothing weak.place strong.place
-lights_less machine (Jmpl to) None (Some f) weak strong k c known scale = absurd c
-lights_less machine (Jmpl to) (Some e) None weak strong k c known scale = absurd c
-lights_less machine (Jmpl to) (Some e) (Some f) weak strong k c known scale = box_less e.lit f.lit weak.place strong.place c.0.lit c.1 k.place known
+lights_less machine (Jsrl to) o p weak strong k c known scale = called_less o p weak.place strong.place c k.place known
+lights_less machine (Jmpl to) o p weak strong k c known scale = called_less o p weak.place strong.place c k.place known

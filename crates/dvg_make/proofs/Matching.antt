@@ -1,5 +1,5 @@
 -- Two lists that have the same entries for what items call know the same after them.
-use Rattle.dvg_make.proofs.Common.{Machine, ◌≡◌, ℕ, List, [], ◌∷◌, ◌++◌, Option, Some, None, refl, sym, ap, Contains, IfSome, IfNone, Point, option_or, is_at, entry_at, IsRising, Entry, Key, Any, Context, target, callee_at, callee, scale_before, known_before, known_past, extent_of, relative_corners, seen_at, seen_with, Item, Shape, Known, lit_points, keyed_context, arith, named_entry, IsOnlyAt, HasNoneAt, found}
+use Rattle.dvg_make.proofs.Common.{Machine, ◌≡◌, ℕ, List, [], ◌∷◌, ◌++◌, Option, Some, None, refl, sym, ap, Contains, IfSome, IfNone, Point, option_or, is_at, entry_at, IsRising, Entry, Key, Any, Context, target, callee_at, scale_before, known_before, known_past, relative_corners, seen_at, seen_with, Item, Shape, Known, lit_points, keyed_context, arith, named_entry, IsOnlyAt, HasNoneAt, found}
 
 -- ---- what is known after items, in one record
 
@@ -9,12 +9,6 @@ pub record Gathered : Type 0 where
 
 abbrev pub gathered : Context → List Item → Gathered
 gathered c items = record { known = known_before c items; lit = lit_points c items }
-
-abbrev pub gathered_past : Machine → Item → Option Entry → Gathered → Gathered
-gathered_past machine i o g = record { known = known_past machine i o g.known; lit = relative_corners (extent_of machine i.instr g.known.scale o) g.known.place ++ g.lit }
-
-pub gathered-cons : (c : Context) (earlier : List Item) (i : Item) → gathered c (i ∷ earlier) ≡ gathered_past c.machine i (callee c earlier i.instr) (gathered c earlier)
-gathered-cons c earlier i = refl
 
 -- ---- from list to list
 
@@ -32,7 +26,7 @@ exact_named list to scale e h = ap (λ o. option_or o (entry_at list to Any)) h
 
 pub gathered_same : (machine : Machine) (a b : List Entry) (key : Key) (items : List Item) → Matched machine a b key items → gathered (keyed_context machine a key) items ≡ gathered (keyed_context machine b key) items
 gathered_same machine a b key [] h = refl
-gathered_same machine a b key (i ∷ earlier) h = grind (arith, gathered-cons, keyed_context, exact_named, callee_at, target, (gathered_same machine a b key earlier h.0))
+gathered_same machine a b key (i ∷ earlier) h = grind (arith, gathered, known_before, known_past, lit_points, relative_corners, keyed_context, exact_named, callee_at, target, (gathered_same machine a b key earlier h.0))
 
 pub seen_matched : (machine : Machine) (a b : List Entry) (key : Key) (earlier : List Item) (i : Item) → Matched machine a b key (i ∷ earlier) → seen_at (keyed_context machine a key) earlier i ≡ seen_at (keyed_context machine b key) earlier i
 seen_matched machine a b key earlier i h = grind (arith, keyed_context, exact_named, callee_at, seen_with, target, gathered_same)

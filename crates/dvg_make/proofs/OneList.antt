@@ -1,5 +1,5 @@
 -- A ROM and roots have one made list at most.
-use Rattle.dvg_make.proofs.Common.{◌≡◌, ℕ, zero, suc, ◌+◌, ◌<◌, ◌≤◌, List, [], ◌∷◌, Option, Some, refl, sym, ap, ◌∙◌, subst, arith, ⊎_elim, Contains, Rom, IsRising, entry_at, Entry, Key, MOST_WORDS, shape_context, target, callee_at, scale_before, Shape, HasEntry, Needs, MadeFor, listed_at, rules, not_before, before_next, before_later, rising_tail, first_or_later, later, OneMade}
+use Rattle.dvg_make.proofs.Common.{◌≡◌, ℕ, zero, suc, ◌+◌, ◌<◌, ◌≤◌, List, [], ◌∷◌, Option, Some, refl, sym, ap, ◌∙◌, subst, arith, ⊎_elim, Contains, Rom, IsRising, entry_at, Entry, Key, MOST_WORDS, shape_context, target, callee_at, scale_before, Shape, HasEntry, Needs, MadeFor, listed_at, not_before, before_next, before_later, rising_tail, first_or_later, later, AllMade}
 use Rattle.dvg_make.proofs.Matching.{Gathered, gathered_same, exact_named, found_listed}
 use Rattle.dvg_make.proofs.Ends.{callee_less}
 use Rattle.dvg_make.proofs.Agreeing.{agree, matched_made}
@@ -32,13 +32,16 @@ same_rising (x ∷ a) (y ∷ b) rises rises' h k =
 pub target_of : (list : List Entry) (o : Option ℕ) (scale : Key) (f : Entry) → callee_at list o scale ≡ Some f → ((to : ℕ) → o ≡ Some to → HasEntry list to scale) → (to : ℕ) × (o ≡ Some to) × (entry_at list to scale ≡ Some f)
 target_of list o scale f e h = grind (arith, exact_named)
 
-module _ (rom : Rom) (P Q : ℕ → Key → Type 0) (a b : List Entry) (made_a : MadeFor rom P a) (made_b : MadeFor rom Q b) (asked : (addr : ℕ) (key : Key) → P addr key → HasEntry b addr key) where
-  needs_less : (e f : Entry) → Contains a e → Needs rom a e f → f.words < e.words
-  needs_less e f in_a n =
-      let made = made_a.each e in_a in
-      let t = target_of a (target Shape n.item.instr) (scale_before (shape_context rom.machine a e) n.earlier) f n.callee_is (made.keyed n.earlier n.item n.leads n.stands) in
-      callee_less rom a e made n.earlier n.item n.leads n.stands t.0 f t.1 t.2
+pub needs_less : (rom : Rom) (P : ℕ → Key → Type 0) (a : List Entry) → MadeFor rom P a → (e f : Entry) → Contains a e → Needs rom a e f → f.words < e.words
+needs_less rom P a made_a e f in_a n =
+    let made = made_a.each e in_a in
+    let t = target_of a (target Shape n.item.instr) (scale_before (shape_context rom.machine a e) n.earlier) f n.callee_is (made.keyed n.earlier n.item n.leads n.stands) in
+    callee_less rom a e made n.earlier n.item n.leads n.stands t.0 f t.1 t.2
 
+pub made_all : (rom : Rom) (P : ℕ → Key → Type 0) (list : List Entry) → MadeFor rom P list → AllMade rom list
+made_all rom P list m e c = let is = listed_entry rom.map.rom_first rom.map.rom_last list e m.certificate.each c in record { made = m.each e c; words = is.words_high; depth = is.depth }
+
+module _ (rom : Rom) (P Q : ℕ → Key → Type 0) (a b : List Entry) (made_a : MadeFor rom P a) (made_b : MadeFor rom Q b) (asked : (addr : ℕ) (key : Key) → P addr key → HasEntry b addr key) where
   -- what an entry of both needs in the one list, the other has
   needed_there : (e f : Entry) → Contains a e → Contains b e → Needs rom a e f → HasEntry b f.addr f.key
   needed_there e f in_a in_b n =
@@ -60,7 +63,7 @@ module _ (rom : Rom) (P Q : ℕ → Key → Type 0) (a b : List Entry) (made_a :
   there_up_to (suc n) f in_a le =
       ⊎_elim (λ root. in_both f in_a (asked f.addr f.key root))
       (λ c.
-      let less = needs_less c.0 f c.1 c.2 in
+      let less = needs_less rom P a made_a c.0 f c.1 c.2 in
       let in_b = there_up_to n c.0 c.1 (omega (arith, less, le)) in
       in_both f in_a (needed_there c.0 f c.1 in_b c.2))
       (made_a.needed f in_a)
@@ -71,6 +74,3 @@ module _ (rom : Rom) (P Q : ℕ → Key → Type 0) (a b : List Entry) (made_a :
 -- lists that are made for the same are one
 pub one_made_for : (rom : Rom) (P Q : ℕ → Key → Type 0) (a b : List Entry) → MadeFor rom P a → MadeFor rom Q b → ((addr : ℕ) (key : Key) → P addr key → HasEntry b addr key) → ((addr : ℕ) (key : Key) → Q addr key → HasEntry a addr key) → a ≡ b
 one_made_for rom P Q a b made_a made_b to_b to_a = grind (arith, (same_rising a b made_a.certificate.rising made_b.certificate.rising (all_there rom P Q a b made_a made_b to_b) (all_there rom Q P b a made_b made_a to_a)))
-
-pub one_made : OneMade
-one_made rom roots a b made_a made_b = search (rules, one_made_for)

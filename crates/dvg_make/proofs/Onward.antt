@@ -1,9 +1,9 @@
 -- A shape in the making, item by item.
-use Rattle.dvg_make.proofs.Common.{Machine, ◌≡◌, ℕ, ◌<◌, ◌≤◌, List, [], ◌∷◌, Option, Some, None, refl, sym, ap, ◌∙◌, subst, arith, Contains, IfSome, AllByRecursion, cell_at, InstrFits, Rom, rom_word, Holds, Format, Instr, IsEntry, Entry, Key, MOST_DEPTH, MOST_WORDS, next_address, LeadsTo, Context, shape_context, target, callee_at, callee, scale_before, words_before, depth_before, known_before, seen_at, seen_with, IsClaim, Item, Shape, Known, Seen, ADDRESS_END, LitBox, Last, step_past, relative_corners, PartialEntry, lit_points, HasEntry, IsMade, AllMade, Obstacle, ShapeAt, EntryCause, Reaches, keyed_context, entry_of, shape_of, Passes, AllFine, IsPartial, Extends, IsFinished, IsWaiting, IsStopped, listed_at, rules, IsSoundStep, at_place, Cursor, Step, Onward, AllTaken, SaysOf, CauseAt, IsAsked, KnowsAt, NeverAt, IsCallee, LacksCallee, IsAbsent}
+use Rattle.dvg_make.proofs.Common.{Machine, ◌≡◌, ℕ, ◌<◌, ◌≤◌, List, [], ◌∷◌, Option, Some, None, refl, sym, ap, ◌∙◌, subst, arith, Contains, IfSome, AllByRecursion, cell_at, InstrFits, Rom, rom_word, Holds, Format, Instr, IsEntry, Entry, Key, MOST_DEPTH, MOST_WORDS, next_address, LeadsTo, Context, shape_context, target, callee_at, callee, scale_before, words_before, depth_before, known_before, seen_at, seen_with, IsClaim, Item, Shape, Known, Seen, ADDRESS_END, LitBox, Last, step_past, relative_corners, PartialEntry, lit_points, HasEntry, IsMade, AllMade, Obstacle, ShapeAt, EntryCause, Reaches, keyed_context, entry_of, shape_of, Passes, AllFine, IsPartial, Extends, IsFinished, IsWaiting, IsStopped, listed_at, rules, IsSoundStep, at_place, Cursor, Step, Onward, AllTaken, SaysOf, CauseAt, IsAsked, KnowsAt, NeverAt, IsCallee, LacksCallee, IsAbsent, IsDone, IsKey, scale_set, unwrap_or}
 use Rattle.dvg_items.proofs.Stepping.{leads_on, ends_at}
-use Rattle.dvg_make.specs.declared.account.EntryCause.TheVariants as cause
 use Rattle.dvg_make.proofs.Matching.{SameAt, Matched, exact_named, seen_matched}
 use Rattle.dvg_make.proofs.Ends.{Allows, allows_at, stands_at, ends_made}
+use Rattle.dvg_make.proofs.Small.{made_is_entry}
 
 -- ---- one item further
 
@@ -50,7 +50,8 @@ module _ (rom : Rom) (list : List Entry) (w : PartialEntry) where
       not h.0 h.1 h.2
 
   -- the item is not as it is asked
-  none_asked : (items : List Item) (i : Item) (o : Option Entry) → LeadsTo Shape (rom_word rom) w.addr items i.at → cell_at (rom_word rom) i.at ≡ Holds i.format i.instr → KnowsAt c items w.cursor.known w.lit → o ≡ callee c items i.instr → ((to : ℕ) → target Shape i.instr ≡ Some to → HasEntry list to (scale_before c items)) → (IsAsked (seen_with rom.machine o w.cursor.known i) → ⊥) → NeverAt rom list w.addr w.key
+  none_asked : (items : List Item) (i : Item) (o : Option Entry) → LeadsTo Shape (rom_word rom) w.addr items i.at → cell_at (rom_word rom) i.at ≡ Holds i.format i.instr → KnowsAt c items w.cursor.known w.lit → o ≡ callee c items i.instr → ((to : ℕ) → target Shape i.instr ≡ Some to → HasEntry list to (scale_before c items)) → (IsAsked (seen_with rom.machine o w.cursor.known i) → ⊥)
+      → NeverAt rom list w.addr w.key
   none_asked items i o lead is k e keyed not made all ext has =
       let t = its rom made w all has in
       let allows = allows_at rom made t.f t.is.made items i (lead_of made t items i.at lead) is in
@@ -68,10 +69,6 @@ not_as_asked scale v why says a = grind (arith)
 -- what a cause says of the item at a place
 said_at : (rom : Rom) (list : List Entry) (chain : List ShapeAt) (at : ℕ) (before : Known) (i : Item) (o : Option Entry) (why : EntryCause) → i.at ≡ at → cell_at (rom_word rom) i.at ≡ Holds i.format i.instr → IsCallee list i.instr before.scale o → SaysOf before.scale (seen_with rom.machine o before i) why → CauseAt rom list chain at before why
 said_at rom list chain at before i o why here is nm says = grind (arith, seen_with, callee_at, target)
-
--- nothing stands there
-absent_at : (rom : Rom) (list : List Entry) (chain : List ShapeAt) (at : ℕ) (before : Known) (why : EntryCause) → IsAbsent rom at why → CauseAt rom list chain at before why
-absent_at rom list chain at before why h = grind (arith)
 
 -- ---- items at which the making does not stop
 
@@ -103,24 +100,15 @@ record IsCalled (c : Context) (items : List Item) (i : Item) (o : Option Entry) 
 called_now : (machine : Machine) (list : List Entry) (key : Key) (items : List Item) (i : Item) (scale : Key) (o : Option Entry) → scale ≡ scale_before (keyed_context machine list key) items → IsCallee list i.instr scale o → IsCalled (keyed_context machine list key) items i o
 called_now machine list key items i scale o e h = grind (arith, callee_at, target)
 
-fits_target : (i : Instr) (to : ℕ) → InstrFits i → target Shape i ≡ Some to → to < ADDRESS_END
-fits_target i to f e = grind (arith)
-
 module _ (rom : Rom) (list : List Entry) (from w : PartialEntry) (h : Walking rom list from w) where
   as_from : NeverAt rom list w.addr w.key → NeverAt rom list from.addr from.key
   as_from n = subst (NeverAt rom list from.addr) h.key (subst (λ a. NeverAt rom list a w.key) h.addr n)
 
-  link_from : shape_of w ≡ shape_of from
-  link_from = (λ j. record { addr = h.addr j; key = h.key j })
-
   stops_here : (obstacle : Obstacle) → obstacle.cursor ≡ w.cursor → NeverAt rom list from.addr from.key → CauseAt rom list [] w.cursor.at w.cursor.known obstacle.cause → IsStopped rom list from obstacle
-  stops_here obstacle here never why = grind (arith, shape_of, link_from, reached)
-
-  pub nothing_there : ((format : Format) (i : Instr) → cell_at (rom_word rom) w.cursor.at ≡ Holds format i → ⊥) → NeverAt rom list from.addr from.key
-  nothing_there not = as_from (none_there rom list w h.partial.items h.partial.leads not)
+  stops_here obstacle here never why = grind (arith, shape_of, reached)
 
   pub stops_absent : (obstacle : Obstacle) → obstacle.cursor ≡ w.cursor → ((format : Format) (i : Instr) → cell_at (rom_word rom) w.cursor.at ≡ Holds format i → ⊥) → IsAbsent rom w.cursor.at obstacle.cause → IsStopped rom list from obstacle
-  stops_absent obstacle here not why = stops_here obstacle here (nothing_there not) (absent_at rom list [] w.cursor.at w.cursor.known obstacle.cause why)
+  stops_absent obstacle here not why = stops_here obstacle here (as_from (none_there rom list w h.partial.items h.partial.leads not)) (grind (arith))
 
   module _ (format : Format) (instr : Instr) (is : cell_at (rom_word rom) w.cursor.at ≡ Holds format instr) where
     abbrev i : Item
@@ -128,17 +116,15 @@ module _ (rom : Rom) (list : List Entry) (from w : PartialEntry) (h : Walking ro
 
     pub waits : (addr : ℕ) → InstrFits instr → LacksCallee list instr w.cursor.known.scale addr → IsWaiting rom list from w addr
     waits addr fits m =
-        record { same_addr = h.addr; same_key = h.key; partial = h.partial; item = i; at = refl; stands = is; target_is = m.target_is; none = m.none; near = fits_target instr addr fits m.target_is; scale = h.partial.sound.scale }
+        record { same_addr = h.addr; same_key = h.key; partial = h.partial; item = i; at = refl; stands = is; target_is = m.target_is; none = m.none; near = grind (arith, m.target_is); scale = h.partial.sound.scale }
 
     module _ (o : Option Entry) (nm : IsCallee list instr w.cursor.known.scale o) where
       known : IsCalled (keyed_context rom.machine list w.key) h.partial.items i o
       known = called_now rom.machine list w.key h.partial.items i w.cursor.known.scale o (ap (λ (k : Known). k.scale) h.partial.knows.known_is) nm
 
-      not_asked : (IsAsked (seen_with rom.machine o w.cursor.known i) → ⊥) → NeverAt rom list from.addr from.key
-      not_asked not = as_from (none_asked rom list w h.partial.items i o h.partial.leads is h.partial.knows known.is known.keyed not)
-
       pub stops_said : (obstacle : Obstacle) → obstacle.cursor ≡ w.cursor → SaysOf w.cursor.known.scale (seen_with rom.machine o w.cursor.known i) obstacle.cause → IsStopped rom list from obstacle
-      stops_said obstacle here says = stops_here obstacle here (not_asked (not_as_asked w.cursor.known.scale (seen_with rom.machine o w.cursor.known i) obstacle.cause says)) (said_at rom list [] w.cursor.at w.cursor.known i o obstacle.cause refl is nm says)
+      stops_said obstacle here says =
+          stops_here obstacle here (as_from (none_asked rom list w h.partial.items i o h.partial.leads is h.partial.knows known.is known.keyed (not_as_asked w.cursor.known.scale (seen_with rom.machine o w.cursor.known i) obstacle.cause says))) (said_at rom list [] w.cursor.at w.cursor.known i o obstacle.cause refl is nm says)
 
       -- what the rules see of the instruction here
       abbrev seen : Seen
@@ -166,17 +152,27 @@ module _ (rom : Rom) (list : List Entry) (from w : PartialEntry) (h : Walking ro
             }
 
         module _ (step : Step) (last : Known) (step_is : step ≡ Last last) (goes : step ≡ step_past Shape seen) where
-          pub end : (next_address Shape i ≡ None) × (last ≡ seen.after)
+          end : (next_address Shape i ≡ None) × (last ≡ seen.after)
           end = ends_at Shape seen step last step_is goes
 
-          pub knows_last : KnowsAt (keyed_context rom.machine list w.key) (i ∷ h.partial.items) last lit
+          knows_last : KnowsAt (keyed_context rom.machine list w.key) (i ∷ h.partial.items) last lit
           knows_last = subst (λ (k : Known). KnowsAt (keyed_context rom.machine list w.key) (i ∷ h.partial.items) k lit) (sym end.1) knows_next
 
           -- the entry of the shape
-          pub finished : IsEntry rom.map.rom_first rom.map.rom_last (entry_of w.addr w.key last lit) → IsFinished rom list from (entry_of w.addr w.key last lit)
-          finished entry = search (entry, ends_made rom list (entry_of w.addr w.key last lit) (record { stops = record { items = h.partial.items; i = i; leads = h.partial.leads; is = is; last = end.0 }; sums = record { known = sym knows_last.known_is; box = knows_last.least }; fine = knows_last.fine }))
+          pub ended : IsDone rom list → InstrFits instr → IfSome o IsClaim → IsFinished rom list from (entry_of w.addr w.key last lit)
+          ended done fits claim =
+              let k = knows_last in
+              let words : last.words ≤ MOST_WORDS = subst (λ (x : Known). x.words ≤ MOST_WORDS) (sym end.1) s.asked.many in
+              let depth : last.depth ≤ MOST_DEPTH = subst (λ (x : Known). x.depth ≤ MOST_DEPTH) (sym end.1) (omega (arith, s.asked.deep, h.partial.shallow)) in
+              let scale : IsKey last.scale = subst (λ (x : Known). IsKey x.scale) (sym end.1) (let key : IsKey (unwrap_or (scale_set instr o) w.cursor.known.scale) = grind (arith, fits, claim, h.partial.sound.scale) in key) in
+              let entry = made_is_entry rom list done.made w.addr w.key h.partial.items i lit h.partial.leads is k.fine k.least (subst (λ (x : Known). x.words ≤ MOST_WORDS) k.known_is words) (subst (λ (x : Known). x.depth ≤ MOST_DEPTH) k.known_is depth) h.partial.keyed (subst (λ (x : Known). IsKey x.scale) k.known_is scale) in
+              search (subst (λ (x : Known). IsEntry rom.map.rom_first rom.map.rom_last (entry_of w.addr w.key x lit)) (sym k.known_is) entry, ends_made rom list (entry_of w.addr w.key last lit) (record { stops = record { items = h.partial.items; i = i; leads = h.partial.leads; is = is; last = end.0 }; sums = record { known = sym k.known_is; box = k.least }; fine = k.fine }))
 
--- a called entry is within the limits
+-- an entry is within the limits
+pub entry_claim : (first last : ℕ) (e : Entry) → last < ADDRESS_END → IsEntry first last e → IsClaim e
+entry_claim first last e high is = record { key = is.key; stop = is.stop; lit = is.lit; depth = is.depth; words = is.words_high; scale = is.scale; addr = omega (arith, is.addr_high, high) }
+
+-- and so is a called one
 pub claim_of : (rom : Rom) (list : List Entry) (i : Instr) (scale : Key) (o : Option Entry) → rom.map.rom_last < ADDRESS_END → ((e : Entry) → Contains list e → IsEntry rom.map.rom_first rom.map.rom_last e) → IsCallee list i scale o → IfSome o IsClaim
 claim_of rom list i scale o last entries h = by_target (target Shape i) refl
   where
@@ -185,5 +181,8 @@ claim_of rom list i scale o last entries h = by_target (target Shape i) refl
     by_target (Some to) e =
         let f = h.keyed to e in
         let some : o ≡ Some f.0 = h.value ∙ ap (λ x. callee_at list x scale) e ∙ exact_named list to scale f.0 f.1 in
-        let is = entries f.0 (listed_at list to scale f.0 f.1).listed in
-        subst (λ (x : Option Entry). IfSome x IsClaim) (sym some) (record { key = is.key; stop = is.stop; lit = is.lit; depth = is.depth; words = is.words_high; scale = is.scale; addr = omega (arith, is.addr_high, last) })
+        subst (λ (x : Option Entry). IfSome x IsClaim) (sym some) (entry_claim rom.map.rom_first rom.map.rom_last f.0 last (entries f.0 (listed_at list to scale f.0 f.1).listed))
+
+pub claim_if_some : (rom : Rom) (done : List Entry) → rom.map.rom_last < ADDRESS_END → IsDone rom done → (o : Option Entry) → IfSome o (λ e. Contains done e) → IfSome o IsClaim
+claim_if_some rom done last h None c = tt
+claim_if_some rom done last h (Some e) c = entry_claim rom.map.rom_first rom.map.rom_last e last (h.entries e c)

@@ -1,5 +1,5 @@
 -- A frame judged by the certificate that is made for it.
-use Rattle.dvg_make.proofs.Common.{Machine, Board, ◌≡◌, ℕ, ◌≤◌, List, [], ◌∷◌, Option, None, Some, sym, subst, arith, slice_get, Result, Ok, Err, cell_at, Rom, frame_word, Window, Cell, Odd, Entry, frame_context, seen_at, Item, Seen, CellKeeps, GoodFrame, Exact, EntryFault, Unstraight, Deep, TooManyWords, TooManyEntries, Memory, FrameCall, FramesRefuse, FrameRefused, max, IfOk, Frame, FrameKeeps, AllKeep, FramePlaceKeeps, Safe, CountsAtHalt, SafeOnCircuit, CountsOnCircuit, FrameWhy, no_fault, no_shape_fault, one_count, FrameMade, BarsFrame, CallBarredAt, VerdictByMade, AreLeast, CheckMeans, checked, refusal_at, IsJudged, Shapes}
+use Rattle.dvg_make.proofs.Common.{Machine, Board, ◌≡◌, ℕ, ◌≤◌, List, [], ◌∷◌, Option, None, Some, subst, arith, Result, Ok, Err, cell_at, Rom, frame_word, Window, Cell, Entry, frame_context, seen_at, Item, CellKeeps, GoodFrame, Exact, EntryFault, Unstraight, Deep, TooManyWords, TooManyEntries, Memory, FrameCall, FramesRefuse, FrameRefused, max, IfOk, Frame, FrameKeeps, AllKeep, FramePlaceKeeps, Safe, CountsAtHalt, SafeOnCircuit, CountsOnCircuit, FrameWhy, no_fault, no_shape_fault, one_count, FrameMade, BarsFrame, CallBarredAt, VerdictByMade, AreLeast, CheckMeans, checked, refusal_at, IsJudged, Shapes}
 use Rattle.dvg_check.specs.Verdict.{PartsVerdict}
 use Rattle.dvg_check.specs.Causes.{verdict_of}
 use Rattle.dvg_check.specs.declared.finding.RomFinding.{RomFinding}
@@ -11,15 +11,12 @@ use Rattle.dvg_make.proofs.FrameBest.{none_better}
 
 -- ---- budgets
 
-raised_rule : (w : Window) (a b : ℕ) (v : Seen) (why : FrameWhy) → a ≤ b → FrameKeeps w a v why → FrameKeeps w b v why
-raised_rule w a b v why le h = grind (arith)
-
 module _ (machine : Machine) (w : Window) (words : List ℕ) (list : List Entry) where
   abbrev Kept : ℕ → List Item → ℕ → FrameWhy → Cell → Type 0
   Kept budget earlier p why cell = CellKeeps frame.Unmapped frame.Odd (λ i. FrameKeeps w budget (seen_at (frame_context machine list) earlier i)) p cell why
 
   raised_cell : (a b : ℕ) (earlier : List Item) (p : ℕ) (why : FrameWhy) (cell : Cell) → a ≤ b → Kept a earlier p why cell → Kept b earlier p why cell
-  raised_cell a b earlier p why cell le h = grind (arith, raised_rule, seen_at, frame_context)
+  raised_cell a b earlier p why cell le h = grind (arith, seen_at, frame_context)
 
   -- a frame that is good within a budget is so within each greater one
   raised : (a b count depth : ℕ) → a ≤ b → GoodFrame w machine words list a count depth → GoodFrame w machine words list b count depth
@@ -66,27 +63,20 @@ module _ (rom : Rom) (words : List ℕ) (w : Window) (budget : ℕ) (made : List
   judged_by (Err f) v safe exact circuit circuit_exact = grind (arith, judged_refused)
 
 -- what the fault of the maker means, of one frame
-only_frame : (words other : List ℕ) (i : ℕ) → slice_get (words ∷ []) i ≡ Some other → words ≡ other
-only_frame words other i e = grind (arith)
-
-record Here (rom : Rom) (words : List ℕ) (at : ℕ) (why : EntryFault) : Type 0 where
-  stops : CallBarredAt rom words at why
-  bars : BarsFrame rom words why
-
 module _ (rom : Rom) (words : List ℕ) where
-  here : (call : FrameCall) (why : EntryFault) → FramesRefuse rom [] (words ∷ []) (record { call = Some call; why = why }) → Here rom words call.at why
+  here : (call : FrameCall) (why : EntryFault) → FramesRefuse rom [] (words ∷ []) (record { call = Some call; why = why }) → CallBarredAt rom words call.at why × BarsFrame rom words why
   here call why h =
       let f = h.frame in
-      let same = sym (only_frame words f.0 call.frame f.1) in
-      search (subst (λ x. CallBarredAt rom x call.at why) same f.2, subst (λ x. BarsFrame rom x why) same f.3)
+      let same : f.0 ≡ words = grind (arith, f.1) in
+      (subst (λ x. CallBarredAt rom x call.at why) same f.2, subst (λ x. BarsFrame rom x why) same f.3)
 
   pub made_refused : (w : Window) (budget : ℕ) (call : Option FrameCall) (why : EntryFault) → FramesRefuse rom [] (words ∷ []) (record { call = call; why = why }) → FrameRefused rom words w budget (refusal_at call why)
   made_refused w budget None why h = tt
   made_refused w budget (Some call) Memory h = tt
-  made_refused w budget (Some call) (Unstraight word) h = (h.list, (here call (Unstraight word) h).bars)
-  made_refused w budget (Some call) Deep h = (h.list, (here call Deep h).bars)
-  made_refused w budget (Some call) TooManyWords h = (h.list, (here call TooManyWords h).bars)
-  made_refused w budget (Some call) TooManyEntries h = (h.list, (here call TooManyEntries h).bars)
+  made_refused w budget (Some call) (Unstraight word) h = (h.list, (here call (Unstraight word) h).1)
+  made_refused w budget (Some call) Deep h = (h.list, (here call Deep h).1)
+  made_refused w budget (Some call) TooManyWords h = (h.list, (here call TooManyWords h).1)
+  made_refused w budget (Some call) TooManyEntries h = (h.list, (here call TooManyEntries h).1)
 
   pub made_verdict : (w : Window) (budget : ℕ) (call : Option FrameCall) (why : EntryFault) → FramesRefuse rom [] (words ∷ []) (record { call = call; why = why }) → VerdictByMade rom words w budget (Err (refusal_at call why))
   made_verdict w budget call why h = grind (arith, here)

@@ -1,12 +1,12 @@
 -- What the maker makes has only small numbers: on either machine a word moves the beam by 1024 screen places at most.
-use Rattle.dvg_make.proofs.Common.{Source, rules, Machine, Board, ◌≡◌, ℕ, zero, suc, ◌+◌, ◌-◌, ◌<◌, ◌≤◌, List, [], ◌∷◌, Option, Some, None, refl, sym, ap, ◌∙◌, subst, arith, ints, AllByRecursion, Contains, IfSome, if◌then◌else◌, slice_get, cell_at, Rom, rom_word, Point, Cell, Holds, Format, Instr, Labs, Halt, Jsrl, Rtsl, Jmpl, IsKey, IsEntry, entry_at, End, Rel, Abs, Lost, Entry, Key, LitBox, Empty, Span, MOST_DEPTH, MOST_WORDS, LeadsTo, Context, shape_context, target, callee_at, callee, callee_words, place_past, scale_before, place_before, words_before, depth_before, known_before, InBox, IsInside, extent_of, relative_corners, extent, Item, Shape, Effect, Sets, Loses, Moves, Known, LitExtent, Nothing, Between, listed_at, all_append, word_count-some, lit_points, IsLeast, HasEntry, MadeEntry, keyed_context, entry_of, AllFine, Profile, ℤ, pos, negsuc, neg_ℤ, ◌*◌, ◌/◌, ◌%◌, nat_le, nat_tests, ◌≤ℤ◌, ◌*ℤ◌, ◌==◌, origin, shift, effective_scale, factor, rounded, axis_move, displacement, labs_place, IsWithin, opcode, is_long_opcode, labs_field, magnitude_and_sign, instruction_of, word_count, cell_holding, cell_of_words, cell_of_format, word_of_rom, DrawFields, Short, Long, Draws, IsEnd, IsBox, draw_effect, callee_effect, effect_of, place_moved_by, draw_extent, callee_extent, Anywhere, all_map}
-use Rattle.std.proofs.Common.{Bool, true, false}
+use Rattle.dvg_make.proofs.Common.{Source, rules, Machine, Board, ◌≡◌, ℕ, zero, suc, ◌+◌, ◌<◌, ◌≤◌, List, [], ◌∷◌, Option, Some, None, refl, sym, ap, ◌∙◌, subst, arith, ints, AllByRecursion, Contains, IfSome, if◌then◌else◌, slice_get, cell_at, Rom, rom_word, Point, Cell, Holds, Format, Instr, Labs, Halt, Jsrl, Rtsl, Jmpl, IsKey, IsEntry, entry_at, End, Entry, Key, LitBox, Empty, MOST_DEPTH, MOST_WORDS, LeadsTo, Context, shape_context, target, callee_at, callee, callee_words, scale_before, place_before, words_before, depth_before, known_before, InBox, extent_of, relative_corners, extent, Item, Shape, Known, listed_at, all_append, word_count-some, lit_points, IsLeast, HasEntry, MadeEntry, keyed_context, entry_of, AllFine, Profile, ℤ, pos, negsuc, neg_ℤ, ◌*◌, ◌/◌, ◌%◌, nat_le, nat_tests, ◌≤ℤ◌, ◌*ℤ◌, ◌==◌, origin, effective_scale, factor, rounded, axis_move, displacement, labs_place, opcode, is_long_opcode, labs_field, magnitude_and_sign, instruction_of, word_count, cell_holding, cell_of_words, cell_of_format, word_of_rom, DrawFields, Short, Long, Draws, IsEnd, IsBox, draw_effect, callee_effect, effect_of, draw_extent, callee_extent, all_map, Bool, true, false}
 use Rattle.std.proofs.Math.Pow.{pow_mono}
 use Rattle.std.proofs.lemmas.Nat.{mul-le}
 use Rattle.dvg_items.specs.Bounds.{IsReached, IsReachedPlace, IsReachedBox, IsReachedEffect, IsReachedExtent}
 use Rattle.dvg_items.proofs.Reached.{reached_more, effect_more, extent_more, place_after, corners_reached, wall, in_wall}
 use Rattle.dvg_make.proofs.Matching.{exact_named}
 use Rattle.dvg_make.proofs.Ends.{callee_less, made_ends}
+use Rattle.dvg_make.proofs.Knowing.{IsOrdered}
 
 -- ---- points, places and boxes
 
@@ -24,29 +24,25 @@ small_origin n = record { left = omega (arith, ints); right = omega (arith, ints
 
 -- ---- what a draw does
 
--- no further from 0 than so many words move the beam
-record IsSmallNumber (n : ℕ) (z : ℤ) : Type 0 where
-  low : neg_ℤ (pos (WORD_REACH * n)) ≤ℤ z
-  high : z ≤ℤ pos (WORD_REACH * n)
+-- no further from 0
+record IsUpTo (n : ℕ) (z : ℤ) : Type 0 where
+  low : neg_ℤ (pos n) ≤ℤ z
+  high : z ≤ℤ pos n
 
 -- a size has ten bits and a sign
-record IsSmallSize (z : ℤ) : Type 0 where
-  low : neg_ℤ (pos 1023) ≤ℤ z
-  high : z ≤ℤ pos 1023
-
 abbrev IsSmallDraw : DrawFields → Type 0
-IsSmallDraw d = IsSmallSize d.dx × IsSmallSize d.dy
+IsSmallDraw d = IsUpTo 1023 d.dx × IsUpTo 1023 d.dy
 
 small_factor : (local global : ℕ) → factor local global ≤ 1024
 small_factor local global = grind (arith, nat_le, nat_tests, pow_mono)
 
-small_product : (z : ℤ) (f : ℕ) → IsSmallSize z → f ≤ 1024 → IsSmallNumber 1 (z *ℤ pos f)
+small_product : (z : ℤ) (f : ℕ) → IsUpTo 1023 z → f ≤ 1024 → IsUpTo WORD_REACH (z *ℤ pos f)
 small_product z f h le = grind (arith, pos, mul-le, negsuc)
 
 rounded_few : (n : ℕ) → n ≤ 1048576 → rounded n ≤ 1048576
 rounded_few n le = omega (arith, le)
 
-small_move : (machine : Machine) (size : ℤ) (local global : ℕ) → IsSmallSize size → IsSmallNumber 1 (axis_move machine size local global)
+small_move : (machine : Machine) (size : ℤ) (local global : ℕ) → IsUpTo 1023 size → IsUpTo WORD_REACH (axis_move machine size local global)
 small_move Profile size local global h = small_product size (factor local global) h (small_factor local global)
 small_move Board size local global h = grind (arith, (nat_le (effective_scale local global) 9), (pos (factor local global)), (pos 0), pos, rounded_few, negsuc, (small_product size (factor local global) h (small_factor local global)), (small_factor local global))
 
@@ -68,18 +64,19 @@ IsSmallInstr machine format (Draws d) = IsSmallDraw d
 IsSmallInstr machine format (Labs x y g) = IsReached WORD_REACH (word_count format) (labs_place machine x y)
 IsSmallInstr machine format i = Unit {0}
 
-small_size : (sign magnitude : ℕ) → magnitude ≤ 1023 → IsSmallSize (magnitude_and_sign sign magnitude)
+small_size : (sign magnitude : ℕ) → magnitude ≤ 1023 → IsUpTo 1023 (magnitude_and_sign sign magnitude)
 small_size sign magnitude le = grind (arith, neg_ℤ, pos)
 
 small_labs : (machine : Machine) (first second : ℕ) → IsReached WORD_REACH 2 (labs_place machine (labs_field machine second) (labs_field machine first))
 small_labs machine first second = grind (arith, nat_le, pos, negsuc, nat_tests)
 
-by_opcode : (machine : Machine) (format : Format) (a b c d e f z : Bool) (v s : DrawFields) (x y g t : ℕ) → IsSmallDraw v → IsSmallDraw s → (b ≡ true → IsSmallInstr machine format (Labs x y g)) → IfSome (if a then Some (Draws v) else if b then (if z then Some (Labs x y g) else None) else if c then Some Halt else if d then Some (Jsrl t) else if e then Some Rtsl else if f then Some (Jmpl t) else Some (Draws s)) (IsSmallInstr machine format)
+by_opcode : (machine : Machine) (format : Format) (a b c d e f z : Bool) (v s : DrawFields) (x y g t : ℕ) → IsSmallDraw v → IsSmallDraw s → (b ≡ true → IsSmallInstr machine format (Labs x y g))
+    → IfSome (if a then Some (Draws v) else if b then (if z then Some (Labs x y g) else None) else if c then Some Halt else if d then Some (Jsrl t) else if e then Some Rtsl else if f then Some (Jmpl t) else Some (Draws s)) (IsSmallInstr machine format)
 by_opcode machine format a b c d e f z v s x y g t h k l = grind (arith)
 
 small_instr : (machine : Machine) (format : Format) (first second : ℕ) → ((opcode first == 10) ≡ true → 2 ≤ word_count format) → IfSome (instruction_of machine first second) (IsSmallInstr machine format)
 unfolding instruction_of
-small_instr machine format first second long = search (rules, by_opcode, (nat_le (opcode first) 9), (small_size (second / 1024 % 2) (second % 1024) (omega arith)), (small_size (first / 1024 % 2) (first % 1024) (omega arith)), (small_size (first / 4 % 2) (256 * (first % 4)) (omega arith)), (small_size (first / 1024 % 2) (256 * (first / 256 % 4)) (omega arith)), (reached_more WORD_REACH), (small_labs machine first second))
+small_instr machine format first second long = search (rules, by_opcode, (small_size (second / 1024 % 2) (second % 1024) (omega arith)), (small_size (first / 1024 % 2) (first % 1024) (omega arith)), (small_size (first / 4 % 2) (256 * (first % 4)) (omega arith)), (small_size (first / 1024 % 2) (256 * (first / 256 % 4)) (omega arith)), (reached_more WORD_REACH), (small_labs machine first second))
 
 abbrev IsSmallCell : Machine → Cell → Type 0
 IsSmallCell machine (Holds format i) = IsSmallInstr machine format i
@@ -162,24 +159,13 @@ module _ (machine : Machine) (list : List Entry) (key : Key) where
 
 -- ---- the least box
 
--- its ends are in order
-abbrev IsOrdered : LitBox → Type 0
-IsOrdered Empty = Unit {0}
-IsOrdered (Span x_min x_max y_min y_max) = (x_min ≤ℤ x_max) × (y_min ≤ℤ y_max)
-
 record IsGoodBox (n : ℕ) (box : LitBox) : Type 0 where
   small : IsReachedBox WORD_REACH n box
   ordered : IsOrdered box
 
-by_point : (n : ℕ) (p : Point) (box : LitBox) → IsReached WORD_REACH n p → InBox box p → IsInside box (wall WORD_REACH n) → IsGoodBox n box
-by_point n p box h i w = search (rules)
-
-nothing_inside : (n : ℕ) (box : LitBox) → IsInside box Empty → IsGoodBox n box
-nothing_inside n box h = grind (arith)
-
 least_good : (n : ℕ) (ps : List Point) (box : LitBox) → AllByRecursion (IsReached WORD_REACH n) ps → IsLeast ps box → IsGoodBox n box
-least_good n [] box h k = nothing_inside n box (k.least Empty tt)
-least_good n (p ∷ ps) box h k = by_point n p box h.0 k.holds.0 (k.least (wall WORD_REACH n) (all_map (IsReached WORD_REACH n) (InBox (wall WORD_REACH n)) (p ∷ ps) (in_wall WORD_REACH n) h))
+least_good n [] box h k = grind (arith, (k.least Empty tt))
+least_good n (p ∷ ps) box h k = search (rules, h.0, k.holds.0, k.least (wall WORD_REACH n) (all_map (IsReached WORD_REACH n) (InBox (wall WORD_REACH n)) (p ∷ ps) (in_wall WORD_REACH n) h))
 
 -- ---- made entries
 
@@ -214,9 +200,6 @@ small_up_to rom list all (suc n) e made lt =
     let points = subst (λ n. AllByRecursion (IsReached WORD_REACH n) (lit_points (shape_context rom.machine list e) (h.stops.i ∷ h.stops.items))) many (points_small rom.machine list e.key (h.stops.i ∷ h.stops.items) small) in
     record { stop = place; lit = (least_good e.words (lit_points (shape_context rom.machine list e) (h.stops.i ∷ h.stops.items)) e.lit points h.sums.box).small }
 
-made_small : (rom : Rom) (list : List Entry) → ((e : Entry) → Contains list e → MadeEntry rom list e) → (e : Entry) → Contains list e → IsSmallEntry e
-made_small rom list all e c = small_up_to rom list all (e.words + 1) e (all e c) (omega arith)
-
 -- ---- within the limits
 
 place_within : (n : ℕ) (place : End) → n ≤ MOST_WORDS → IsReachedPlace WORD_REACH n place → IsEnd place
@@ -249,7 +232,7 @@ pub made_is_entry : (rom : Rom) (list : List Entry) → ((e : Entry) → Contain
     → IsKey key → IsKey (scale_before (keyed_context rom.machine list key) (i ∷ items))
     → IsEntry rom.map.rom_first rom.map.rom_last (entry_of addr key (known_before (keyed_context rom.machine list key) (i ∷ items)) lit)
 made_is_entry rom list made addr key items i lit lead is fine least words depth key_is scale_is =
-    let small = all_small rom list addr key (λ earlier j l k to g t f. made_small rom list made g (listed_at list to _ g f).listed) items i lead is fine in
+    let small = all_small rom list addr key (λ earlier j l k to g t f. small_up_to rom list made (g.words + 1) g (made g (listed_at list to _ g f).listed) (omega arith)) items i lead is fine in
     let n : ℕ = words_before (keyed_context rom.machine list key) (i ∷ items) in
     let box = least_good n (lit_points (keyed_context rom.machine list key) (i ∷ items)) lit (points_small rom.machine list key (i ∷ items) small) least in
     let first = first_stands (rom_word rom) addr items i.at i.format i.instr lead is in

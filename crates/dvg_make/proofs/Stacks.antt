@@ -1,6 +1,5 @@
 -- The stack of shapes in the making, as pairs of an address and key with a shape.
-use Rattle.dvg_make.proofs.Common.{◌≡◌, ℕ, zero, suc, ◌+◌, ◌-◌, ◌<◌, List, [], ◌∷◌, ◌++◌, length, Option, Some, None, refl, sym, ap, ◌∙◌, subst, arith, inl, inr, IfSome, IfNone, values_of, Entry, Key, at_holds, pair_test, PartialEntry, entry_of, All, IsOwnPartial, IsMaking, rules, common_steps, cond, is_some, lookup, All-nil, All-cons, All-head, All-tail, All-push, slice_range, at_means, pair_eq}
-use Rattle.std.proofs.Common.{Bool, true, false, slice_get}
+use Rattle.dvg_make.proofs.Common.{◌≡◌, ℕ, zero, suc, ◌+◌, ◌-◌, ◌<◌, List, [], ◌∷◌, ◌++◌, length, Some, None, refl, sym, ap, ◌∙◌, subst, arith, inl, inr, values_of, Entry, Key, at_holds, pair_test, PartialEntry, entry_of, All, IsOwnPartial, IsMaking, rules, common_steps, cond, is_some, lookup, All-nil, All-cons, All-head, All-tail, slice_range, at_means, pair_eq, Bool, true, false, slice_get}
 use Rattle.indexmap.specs.IndexMap.{set_value_at}
 use Rattle.indexmap.proofs.MapLemmas.{split_last}
 
@@ -18,9 +17,6 @@ module _ (addr : ℕ) (key : Key) where
   own_means : (p : (ℕ × Key) × PartialEntry) → IsOwnPartial p → test p.0 ≡ true → (p.1.addr ≡ addr) × (p.1.key ≡ key)
   own_means p own t = at_means addr key (as_entry p.1) (sym (pair_test addr key (as_entry p.1)) ∙ ap test (sym own) ∙ t)
 
-  own_holds : (p : (ℕ × Key) × PartialEntry) → IsOwnPartial p → p.1.addr ≡ addr → p.1.key ≡ key → test p.0 ≡ true
-  own_holds p own a k = ap test own ∙ pair_test addr key (as_entry p.1) ∙ at_holds addr key (as_entry p.1) a k
-
   by_answer : {P : Type 0} (b : Bool) → (b ≡ true → P) → (b ≡ false → P) → P
   by_answer b p q = grind (arith)
 
@@ -29,16 +25,13 @@ module _ (addr : ℕ) (key : Key) where
   found_own [] own w e = cc e
   found_own (p ∷ ps) own w e =
       by_answer (test p.0)
-      (λ t. let is : p.1 ≡ w = some_same (sym (ap (λ b. cond b (Some p.1) (lookup test ps)) t) ∙ e) in subst (λ (x : PartialEntry). (x.addr ≡ addr) × (x.key ≡ key)) is (own_means p (All-head IsOwnPartial p ps own) t))
+      (λ t. let is : p.1 ≡ w = cc (sym (ap (λ b. cond b (Some p.1) (lookup test ps)) t) ∙ e) in subst (λ (x : PartialEntry). (x.addr ≡ addr) × (x.key ≡ key)) is (own_means p (All-head IsOwnPartial p ps own) t))
       (λ f. found_own ps (All-tail IsOwnPartial p ps own) w (sym (ap (λ b. cond b (Some p.1) (lookup test ps)) f) ∙ e))
-    where
-      some_same : {x y : PartialEntry} → Some x ≡ Some y → x ≡ y
-      some_same q = cc q
 
   -- what is in the making is found
   pub making_found : (ps : Pairs) → All IsOwnPartial ps → IsMaking (values_of ps) addr key → is_some (lookup test ps) ≡ true
   making_found [] own m = absurd m
-  making_found (p ∷ ps) own (inl same) = ap (λ b. is_some (cond b (Some p.1) (lookup test ps))) (own_holds p (All-head IsOwnPartial p ps own) same.0 same.1)
+  making_found (p ∷ ps) own (inl same) = ap (λ b. is_some (cond b (Some p.1) (lookup test ps))) (ap test (All-head IsOwnPartial p ps own) ∙ pair_test addr key (as_entry p.1) ∙ at_holds addr key (as_entry p.1) same.0 same.1)
   making_found (p ∷ ps) own (inr later) = grind (arith, by_answer, is_some, cond, (making_found ps (All-tail IsOwnPartial p ps own) later))
 
   -- and the other way round
@@ -52,53 +45,29 @@ module _ (addr : ℕ) (key : Key) where
   pub none_found : (ps : Pairs) → All IsOwnPartial ps → (IsMaking (values_of ps) addr key → ⊥) → lookup test ps ≡ None
   none_found ps own not = grind (arith, found_making)
 
-  -- where the shape is among them, by its index
-  pub at_index : (ps : Pairs) → All IsOwnPartial ps → (o : Option ℕ) → is_some o ≡ is_some (lookup test ps) → IfSome o (λ i. slice_get (values_of ps) i ≡ lookup test ps) → IfSome o (λ i. (w : PartialEntry) × (slice_get (values_of ps) i ≡ Some w) × (w.addr ≡ addr) × (w.key ≡ key))
-  at_index ps own w s v = grind (arith, slice_get, values_of, is_some, found_own)
-
-  pub no_index : (ps : Pairs) → All IsOwnPartial ps → (o : Option ℕ) → is_some o ≡ is_some (lookup test ps) → IfNone o (IsMaking (values_of ps) addr key → ⊥)
-  no_index ps own h2 s = grind (arith, making_found)
-
 -- ---- the top
 
 pub values_push : (ps qs : Pairs) → values_of (ps ++ qs) ≡ values_of ps ++ values_of qs
 values_push [] qs = refl
 values_push (p ∷ ps) qs = ap (λ (l : List PartialEntry). p.1 ∷ l) (values_push ps qs)
 
-pub own_push : (ps : Pairs) (w : PartialEntry) → All IsOwnPartial ps → All IsOwnPartial (ps ++ ((w.addr, w.key), w) ∷ [])
-own_push ps w own = All-push IsOwnPartial ps ((w.addr, w.key), w) own refl
-
 not_nil : {P : Type 0} (x : PartialEntry) (xs ys : List PartialEntry) → [] ≡ xs ++ x ∷ ys → P
 not_nil x [] ys e = cc e
 not_nil x (z ∷ xs) ys e = cc e
 
-tail_same : {x y : PartialEntry} {xs ys : List PartialEntry} → x ∷ xs ≡ y ∷ ys → xs ≡ ys
-tail_same e = cc e
-
-head_same : {x y : PartialEntry} {xs ys : List PartialEntry} → x ∷ xs ≡ y ∷ ys → x ≡ y
-head_same e = cc e
-
 -- the value of the last pair is another
-pub set_last : (ps : Pairs) (n : ℕ) (rest : List PartialEntry) (old w : PartialEntry) → n + 1 ≡ length ps → values_of ps ≡ rest ++ old ∷ [] → values_of (set_value_at ps n w) ≡ rest ++ w ∷ []
+pub set_last : (ps : Pairs) (n : ℕ) (rest : List PartialEntry) (old w : PartialEntry) → n + 1 ≡ length ps → values_of ps ≡ rest ++ old ∷ [] → (values_of (set_value_at ps n w) ≡ rest ++ w ∷ []) × (old.addr ≡ w.addr → old.key ≡ w.key → All IsOwnPartial ps → All IsOwnPartial (set_value_at ps n w))
 set_last [] n rest old w long e = not_nil old rest [] e
-set_last (p ∷ []) zero [] old w long e = refl
-set_last (p ∷ []) zero (r ∷ rest) old w long e = not_nil old rest [] (tail_same e)
+set_last (p ∷ []) zero [] old w long e =
+    (refl, λ a k own. All-cons IsOwnPartial (p.0, w) [] (All-head IsOwnPartial p [] own ∙ (let same : p.1 ≡ old = cc e in ap (λ (x : PartialEntry). (x.addr, x.key)) same) ∙ (λ j. (a j, k j))) (All-nil IsOwnPartial))
+set_last (p ∷ []) zero (r ∷ rest) old w long e = not_nil old rest [] (cc e)
 set_last (p ∷ []) (suc n) rest old w long e = absurd (omega (arith, long))
 set_last (p ∷ q ∷ ps) zero rest old w long e = absurd (omega (arith, long))
-set_last (p ∷ q ∷ ps) (suc n) [] old w long e = cc e
+set_last (p ∷ q ∷ ps) (suc n) [] old w long e = absurd (cc e)
 set_last (p ∷ q ∷ ps) (suc n) (r ∷ rest) old w long e =
-    (λ j. head_same e j ∷ set_last (q ∷ ps) n rest old w (omega (arith, long)) (tail_same e) j)
-
-pub own_set_last : (ps : Pairs) (n : ℕ) (rest : List PartialEntry) (old w : PartialEntry) → n + 1 ≡ length ps → values_of ps ≡ rest ++ old ∷ [] → old.addr ≡ w.addr → old.key ≡ w.key → All IsOwnPartial ps → All IsOwnPartial (set_value_at ps n w)
-own_set_last [] n rest old w long e a k own = not_nil old rest [] e
-own_set_last (p ∷ []) zero [] old w long e a k own =
-    All-cons IsOwnPartial (p.0, w) [] (All-head IsOwnPartial p [] own ∙ ap (λ (x : PartialEntry). (x.addr, x.key)) (head_same e) ∙ (λ j. (a j, k j))) (All-nil IsOwnPartial)
-own_set_last (p ∷ []) zero (r ∷ rest) old w long e a k own = not_nil old rest [] (tail_same e)
-own_set_last (p ∷ []) (suc n) rest old w long e a k own = absurd (omega (arith, long))
-own_set_last (p ∷ q ∷ ps) zero rest old w long e a k own = absurd (omega (arith, long))
-own_set_last (p ∷ q ∷ ps) (suc n) [] old w long e a k own = cc e
-own_set_last (p ∷ q ∷ ps) (suc n) (r ∷ rest) old w long e a k own =
-    All-cons IsOwnPartial p (set_value_at (q ∷ ps) n w) (All-head IsOwnPartial p (q ∷ ps) own) (own_set_last (q ∷ ps) n rest old w (omega (arith, long)) (tail_same e) a k (All-tail IsOwnPartial p (q ∷ ps) own))
+    let first : p.1 ≡ r = cc e in
+    let more = set_last (q ∷ ps) n rest old w (omega (arith, long)) (cc e) in
+    ((λ j. first j ∷ more.0 j), λ a k own. All-cons IsOwnPartial p (set_value_at (q ∷ ps) n w) (All-head IsOwnPartial p (q ∷ ps) own) (more.1 a k (All-tail IsOwnPartial p (q ∷ ps) own)))
 
 -- the last of them
 pub top_is : (ps : Pairs) (p : (ℕ × Key) × PartialEntry) → slice_get ps (length ps - 1) ≡ Some p → 0 < length ps → (rest : List PartialEntry) × (values_of ps ≡ rest ++ p.1 ∷ [])
@@ -106,6 +75,3 @@ top_is ps p at some = (values_of (slice_range ps 0 (length ps - 1)), ap values_o
 
 pub one_less : (ps : Pairs) (rest : List PartialEntry) (old : PartialEntry) → values_of ps ≡ rest ++ old ∷ [] → length ps - 1 + 1 ≡ length ps
 one_less ps rest old e = grind (arith, rules, common_steps, not_nil)
-
-pub some_there : (ps : Pairs) (rest : List PartialEntry) (old : PartialEntry) → values_of ps ≡ rest ++ old ∷ [] → 0 < length ps
-some_there ps rest old e = grind (arith, rules, common_steps, not_nil)

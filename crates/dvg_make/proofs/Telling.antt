@@ -1,5 +1,5 @@
 -- What is told where the making stops.
-use Rattle.dvg_make.proofs.Common.{◌≡◌, ℕ, zero, suc, ◌+◌, ◌<◌, ◌≤◌, List, [], ◌∷◌, ◌++◌, length, slice_get, Some, None, refl, sym, ap, ◌∙◌, subst, arith, inl, inr, length-append, Contains, Rom, IsKey, entry_at, Entry, Key, MOST_ENTRIES, Known, PartialEntry, Obstacle, ShapeAt, EntryCause, Reaches, start, shape_of, IsWaiting, IsStopped, shapes, IsMaking, Apart, InProgress, NotBegun, InRom, Cursor, AreUnmade, CauseAt, Tells, asked_shape, AreLinked, TellsObstacle, IsNoRoot}
+use Rattle.dvg_make.proofs.Common.{◌≡◌, ℕ, zero, suc, ◌+◌, ◌<◌, ◌≤◌, List, [], ◌∷◌, ◌++◌, length, slice_get, Some, None, refl, sym, ap, ◌∙◌, subst, arith, inl, inr, length-append, Contains, Rom, entry_at, Entry, Key, MOST_ENTRIES, Known, PartialEntry, Obstacle, ShapeAt, EntryCause, Reaches, start, shape_of, IsWaiting, IsStopped, shapes, IsMaking, Apart, InProgress, NotBegun, Cursor, AreUnmade, CauseAt, Tells, asked_shape, AreLinked, TellsObstacle, IsNoRoot}
 use Rattle.dvg_make.specs.declared.account.EntryCause.TheVariants as cause
 use Rattle.dvg_make.specs.Accounts.{IsUnique}
 use Rattle.dvg_make.proofs.Onward.{reached}
@@ -25,17 +25,9 @@ are_unmade : (list : List Entry) (stack : List PartialEntry) → Apart list stac
 are_unmade list [] a = tt
 are_unmade list (w ∷ stack) a = (a.0, λ c. a.1 (contained stack w c), are_unmade list stack a.2)
 
-none_at : {P : Type 0} (i : ℕ) (shape : ShapeAt) → slice_get [] i ≡ Some shape → P
-none_at i shape e = absurd cc
-
--- what is told of an item, where there is room, serves with each chain
-cause_more : (rom : Rom) (list : List Entry) (chain : List ShapeAt) → length list < MOST_ENTRIES → (at : ℕ) (before : Known) (why : EntryCause) → CauseAt rom list [] at before why → CauseAt rom list chain at before why
-cause_more rom list chain room at before h6 h = grind (arith, none_at)
-
-module _ (rom : Rom) (list : List Entry) (root : ℕ × Key) where
-  tells_last : (stack : List PartialEntry) (w : PartialEntry) → AreLinked rom list root (stack ++ w ∷ []) → (at : ℕ) (before : Known) (why : EntryCause) → Reaches rom list (shape_of w) at before → CauseAt rom list (shapes (stack ++ w ∷ [])) at before why → Tells rom list (asked_shape root) (shapes (stack ++ w ∷ [])) at before why
-  tells_last [] w h at before why r says = (h.0, tt, r, says)
-  tells_last (v ∷ stack) w h at before why r says = grind (arith, shape_of, links_push, last_push, shapes)
+tells_last : (rom : Rom) (list : List Entry) (root : ℕ × Key) (stack : List PartialEntry) (w : PartialEntry) → AreLinked rom list root (stack ++ w ∷ []) → (at : ℕ) (before : Known) (why : EntryCause) → Reaches rom list (shape_of w) at before → CauseAt rom list (shapes (stack ++ w ∷ [])) at before why → Tells rom list (asked_shape root) (shapes (stack ++ w ∷ [])) at before why
+tells_last rom list root [] w h at before why r says = (h.0, tt, r, says)
+tells_last rom list root (v ∷ stack) w h at before why r says = grind (arith, shape_of, links_push, last_push, shapes)
 
 module _ (rom : Rom) (from : List Entry) (root : ℕ × Key) (done : List Entry) (stack : List PartialEntry) (partial : PartialEntry) (h : InProgress rom from root done (stack ++ partial ∷ [])) where
   -- there is room for it
@@ -44,7 +36,7 @@ module _ (rom : Rom) (from : List Entry) (root : ℕ × Key) (done : List Entry)
 
   -- an item stops it
   pub tells_stopped : (obstacle : Obstacle) → IsStopped rom done partial obstacle → TellsObstacle rom done root (stack ++ partial ∷ []) obstacle
-  tells_stopped obstacle s = grind (arith, tells_last, cause_more, shapes, has_room)
+  tells_stopped obstacle s = grind (arith, tells_last, slice_get, shapes, has_room)
 
   -- its entry is not added
   pub tells_memory : (obstacle : Obstacle) → obstacle ≡ record { cursor = partial.cursor; cause = cause.Memory } → (r : Reaches rom done (shape_of partial) partial.cursor.at partial.cursor.known) → TellsObstacle rom done root (stack ++ partial ∷ []) obstacle
@@ -56,34 +48,24 @@ module _ (rom : Rom) (from : List Entry) (root : ℕ × Key) (done : List Entry)
 
   -- what it calls is not begun
   module _ (new : PartialEntry) (addr : ℕ) (w : IsWaiting rom done partial new addr) where
-    abbrev at_key : Key
-    at_key = new.cursor.known.scale
-
-    not_begun : (why : EntryCause) → NotBegun done (stack ++ new ∷ []) addr at_key why → CauseAt rom done (shapes (stack ++ new ∷ [])) new.cursor.at new.cursor.known why
-    not_begun (cause.Ring index) b = grind (arith, calls_it, shape_of, slice_links)
-    not_begun cause.TooManyEntries b =
+    crowded_out : NotBegun done (stack ++ new ∷ []) addr new.cursor.known.scale cause.TooManyEntries → CauseAt rom done (shapes (stack ++ new ∷ [])) new.cursor.at new.cursor.known cause.TooManyEntries
+    crowded_out b =
         let long = length_links (stack ++ new ∷ []) in (
-          shape_of (start addr at_key),
+          shape_of (start addr new.cursor.known.scale),
           calls_it rom from root done stack partial h new addr w,
           w.none,
-          λ c. b.1 (contained (stack ++ new ∷ []) (start addr at_key) c),
+          λ c. b.1 (contained (stack ++ new ∷ []) (start addr new.cursor.known.scale) c),
           record { unique = h.is_done.unique; unmade = are_unmade done (stack ++ new ∷ []) (apart_moved rom from root done stack partial h new addr w); many = omega (arith, long, b.0) },
         )
-    not_begun cause.Memory b = tt
-    not_begun cause.RootOutside b = absurd b
-    not_begun cause.Missing b = absurd b
-    not_begun cause.Odd b = absurd b
-    not_begun cause.Halt b = absurd b
-    not_begun cause.BeamUnknown b = absurd b
-    not_begun cause.ScaleUnknown b = absurd b
-    not_begun (cause.Deep to key) b = absurd b
-    not_begun (cause.TooManyWords words) b = absurd b
 
-    pub tells_not_begun : (chain : List PartialEntry) → chain ≡ stack ++ new ∷ [] → (obstacle : Obstacle) (why : EntryCause) → obstacle ≡ record { cursor = new.cursor; cause = why } → NotBegun done chain addr at_key why → TellsObstacle rom done root chain obstacle
+    not_begun : (why : EntryCause) → NotBegun done (stack ++ new ∷ []) addr new.cursor.known.scale why → CauseAt rom done (shapes (stack ++ new ∷ [])) new.cursor.at new.cursor.known why
+    not_begun why b = grind (arith, crowded_out, calls_it, shape_of, slice_links)
+
+    pub tells_not_begun : (chain : List PartialEntry) → chain ≡ stack ++ new ∷ [] → (obstacle : Obstacle) (why : EntryCause) → obstacle ≡ record { cursor = new.cursor; cause = why } → NotBegun done chain addr new.cursor.known.scale why → TellsObstacle rom done root chain obstacle
     tells_not_begun chain e obstacle why s b =
         subst (λ c. TellsObstacle rom done root c obstacle) (sym e)
         (subst (TellsObstacle rom done root (stack ++ new ∷ [])) (sym s)
-        (tells_last rom done root stack new (are_moved rom done root stack partial new (λ j. record { addr = sym w.same_addr j; key = sym w.same_key j }) h.linked) new.cursor.at new.cursor.known why (reached rom done new w.partial) (not_begun why (subst (λ c. NotBegun done c addr at_key why) e b))))
+        (tells_last rom done root stack new (are_moved rom done root stack partial new (λ j. record { addr = sym w.same_addr j; key = sym w.same_key j }) h.linked) new.cursor.at new.cursor.known why (reached rom done new w.partial) (not_begun why (subst (λ c. NotBegun done c addr new.cursor.known.scale why) e b))))
 
 -- where nothing is begun
 pub room_of_none : (done : List Entry) (chain : List PartialEntry) → chain ≡ [] → length done ≤ MOST_ENTRIES → length done + length chain ≤ MOST_ENTRIES
@@ -101,7 +83,3 @@ stopped_no_root rom list w obstacle s q = subst (CauseAt rom list [] obstacle.cu
 
 pub tells_first : (rom : Rom) (done : List Entry) (addr : ℕ) (key : Key) → IsUnique done → entry_at done addr key ≡ None → (old chain : List PartialEntry) → old ≡ [] → chain ≡ old → (obstacle : Obstacle) (why : EntryCause) → obstacle ≡ record { cursor = (start addr key).cursor; cause = why } → NotBegun done old addr key why → TellsObstacle rom done (addr, key) chain obstacle
 tells_first rom done addr key unique none old chain e f obstacle why s b = grind (arith, slice_get)
-
--- what is asked for lies outside the ROM, or its key is over 15
-pub tells_outside : (rom : Rom) (done : List Entry) (addr : ℕ) (key : Key) → (InRom rom.map addr × IsKey key → ⊥) → (chain : List PartialEntry) → chain ≡ [] → (obstacle : Obstacle) → obstacle ≡ record { cursor = (start addr key).cursor; cause = cause.RootOutside } → TellsObstacle rom done (addr, key) chain obstacle
-tells_outside rom done addr key outside chain e obstacle s = grind (arith)

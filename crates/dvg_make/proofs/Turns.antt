@@ -1,14 +1,17 @@
 -- What begins, and what each turn gives.
-use Rattle.dvg_make.proofs.Common.{◌≡◌, ℕ, ◌+◌, ◌<◌, ◌≤◌, List, [], ◌∷◌, ◌++◌, length, None, refl, sym, ap, ◌∙◌, subst, arith, inl, inr, length-append, Result, false, Rom, rom_word, IsKey, entry_at, Entry, Key, ADDRESS_END, MOST_ENTRIES, MOST_WORDS, PartialEntry, HasEntry, start, IsPartial, IsWaiting, IsMaking, Apart, IsPresent, IsCalled, Chain, IsAim, NoAim, Bars, IsDone, NotBegun, InProgress, EntryCause, shape_of, listed_at, OnOk, IfErr, IsErrAnd, EntryFault, Unstraight, Deep, TooManyWords, TooManyEntries, Memory, AllCalled, IsBegun, CallsAt, Precedes, entry_fault}
-use Rattle.std.proofs.Common.{slice_get}
+use Rattle.dvg_make.proofs.Common.{◌≡◌, ℕ, zero, suc, Some, ◌+◌, ◌<◌, ◌≤◌, List, [], ◌∷◌, ◌++◌, length, None, refl, sym, ap, ◌∙◌, subst, arith, inl, inr, length-append, Result, false, Rom, rom_word, IsKey, entry_at, Entry, Key, ADDRESS_END, MOST_ENTRIES, MOST_WORDS, PartialEntry, start, IsPartial, IsWaiting, IsMaking, Apart, IsPresent, IsCalled, Chain, IsAim, NoAim, Bars, IsDone, NotBegun, InProgress, EntryCause, shape_of, listed_at, OnOk, IfErr, IsErrAnd, EntryFault, Unstraight, Deep, TooManyWords, TooManyEntries, Memory, AllCalled, IsBegun, CallsAt, Precedes, entry_fault, slice_get}
 use Rattle.std.specs.Result.{is_err}
 use Rattle.dvg_make.specs.declared.account.EntryCause.TheVariants as cause
-use Rattle.dvg_make.proofs.InMaking.{making_slice}
 use Rattle.dvg_make.proofs.Linking.{are_moved, are_pushed}
 use Rattle.dvg_make.proofs.Onward.{reached}
 use Rattle.dvg_make.proofs.Crowds.{crowded}
 use Rattle.dvg_make.proofs.Ends.{made_some}
 use Rattle.dvg_make.proofs.Chains.{none_deep, forced_begun, apart_pop, apart_push, walks_pop, walks_push, making_append, making_left, making_last, IsNeeded, needed_grows}
+
+making_slice : (stack : List PartialEntry) (i : ℕ) (w : PartialEntry) (addr : ℕ) (key : Key) → slice_get stack i ≡ Some w → w.addr ≡ addr → w.key ≡ key → IsMaking stack addr key
+making_slice [] i w addr key e a k = cc e
+making_slice (v ∷ stack) zero w addr key e a k = let same : v ≡ w = cc e in inl (ap (λ (x : PartialEntry). x.addr) same ∙ a, ap (λ (x : PartialEntry). x.key) same ∙ k)
+making_slice (v ∷ stack) (suc i) w addr key e a k = inr (making_slice stack i w addr key e a k)
 
 pub start_walk : (rom : Rom) (done : List Entry) (addr : ℕ) (key : Key) → addr < ADDRESS_END → IsKey key → IsPartial rom done (start addr key)
 start_walk rom done addr key lt is = grind (arith)
@@ -27,15 +30,10 @@ first_begun rom done addr key h near is none few =
       partials = (start_walk rom done addr key near is, tt);
       apart = (none, λ m. m, tt);
       linked = (refl, tt);
-      needed = needs;
+      needed = λ a k p. grind (arith);
       room = omega (arith, few);
       forced = λ made m. (m.extends, first_chain rom done made (addr, key) m);
     }
-  where
-    needs : (a : ℕ) (k : Key) → IsPresent done (start addr key ∷ []) a k → IsNeeded rom done (addr, key) done (start addr key ∷ []) a k
-    needs a k (inl has) = inl (inl has)
-    needs a k (inr (inl s)) = inl (inr s)
-    needs a k (inr (inr b)) = absurd b
 
 module _ (rom : Rom) (from : List Entry) (root : ℕ × Key) (done : List Entry) (stack : List PartialEntry) (partial : PartialEntry) (h : InProgress rom from root done (stack ++ partial ∷ [])) (new : PartialEntry) (addr : ℕ) (w : IsWaiting rom done partial new addr) where
   abbrev at_key : Key
@@ -52,11 +50,8 @@ module _ (rom : Rom) (from : List Entry) (root : ℕ × Key) (done : List Entry)
   present_moved a k h2 = grind (arith, making_left, making_last, making_append)
 
   pub called_moved : (chain : List PartialEntry) → chain ≡ stack ++ new ∷ [] → AllCalled rom from root done chain
-  called_moved chain e = subst (AllCalled rom from root done) (sym e) each
-    where
-      each : AllCalled rom from root done (stack ++ new ∷ [])
-      each a k (inl has) = needed_grows rom from root done done (stack ++ partial ∷ []) (stack ++ new ∷ []) (λ y z e q. q) present_moved a k (h.needed a k (inl has))
-      each a k (inr m) = needed_grows rom from root done done (stack ++ partial ∷ []) (stack ++ new ∷ []) (λ y z e q. q) present_moved a k (h.needed a k (inr (was_begun a k m)))
+  called_moved chain e =
+      subst (AllCalled rom from root done) (sym e) (λ a k p. needed_grows rom from root done done (stack ++ partial ∷ []) (stack ++ new ∷ []) (λ y z e q. q) present_moved a k (h.needed a k (grind (arith, was_begun))))
 
   called_begun : IsCalled rom done ((stack ++ new ∷ []) ++ start addr at_key ∷ []) addr at_key
   called_begun = grind (arith, (reached rom done new w.partial), (making_left (stack ++ new ∷ []) (start addr at_key ∷ []) new.addr new.key (making_last stack new new.addr new.key refl refl)), (start addr at_key), (making_last stack new new.addr new.key refl refl), (rom_word rom))
@@ -75,15 +70,13 @@ module _ (rom : Rom) (from : List Entry) (root : ℕ × Key) (done : List Entry)
   pub calls_it : CallsAt rom new.cursor.at new.cursor.known (shape_of (start addr at_key))
   calls_it = record { item = w.item; at_is = w.at; stands = w.stands; target_is = w.target_is; key_is = refl }
 
-  precedes : Precedes rom done (shape_of new) (shape_of (start addr at_key))
-  precedes = record { at = new.cursor.at; before = new.cursor.known; reaches = reached rom done new w.partial; calls = calls_it }
-
   pub apart_moved : Apart done (stack ++ new ∷ [])
   apart_moved = grind (arith, apart_pop, entry_at, apart_push)
 
   pub making_begun : (IsMaking (stack ++ new ∷ []) addr at_key → ⊥) → length done + length (stack ++ new ∷ []) < MOST_ENTRIES → InProgress rom from root done ((stack ++ new ∷ []) ++ start addr at_key ∷ [])
   making_begun other few =
       let long : length ((stack ++ new ∷ []) ++ start addr at_key ∷ []) ≡ length (stack ++ new ∷ []) + 1 = length-append (stack ++ new ∷ []) (start addr at_key ∷ []) in
+      let precedes : Precedes rom done (shape_of new) (shape_of (start addr at_key)) = record { at = new.cursor.at; before = new.cursor.known; reaches = reached rom done new w.partial; calls = calls_it } in
       record {
         is_done = h.is_done;
         extends = h.extends;
@@ -144,26 +137,8 @@ first_ok rom done addr key h near is none old begun e b0 =
     let b : IsBegun done [] begun addr key = subst (λ s. IsBegun done s begun addr key) e b0 in
     subst (InProgress rom done (addr, key) done) (sym b.stack) (first_begun rom done addr key h near is none (omega (arith, b.few)))
 
-first_refused : (rom : Rom) (done : List Entry) (addr : ℕ) (key : Key) → IsDone rom done → entry_at done addr key ≡ None → (at : ℕ) (why : EntryCause) → NotBegun done [] addr key why → Bars rom done (addr, key) (entry_fault at why)
-first_refused rom done addr key h none at cause.TooManyEntries b = λ made m.
-    let full = crowded done made (MOST_WORDS + 1) 0 (start addr key ∷ []) h.unique (none, λ x. x, tt) m.extends (first_chain rom done made (addr, key) m) in
-    omega (arith, full, b.0)
-first_refused rom done addr key h none at cause.Memory b = tt
-first_refused rom done addr key h none at (cause.Ring from) b = grind (arith, slice_get)
-first_refused rom done addr key h none at cause.RootOutside b = absurd b
-first_refused rom done addr key h none at cause.Missing b = absurd b
-first_refused rom done addr key h none at cause.Odd b = absurd b
-first_refused rom done addr key h none at cause.Halt b = absurd b
-first_refused rom done addr key h none at cause.BeamUnknown b = absurd b
-first_refused rom done addr key h none at cause.ScaleUnknown b = absurd b
-first_refused rom done addr key h none at (cause.Deep to other) b = absurd b
-first_refused rom done addr key h none at (cause.TooManyWords words) b = absurd b
-
 pub on_ok : {T E : Type 0} (r : Result T E) (P : Type 0) → P → OnOk r P
 on_ok r P h = grind (arith)
-
-pub on_ok_map : {T E : Type 0} (r : Result T E) (P Q : Type 0) → (P → Q) → OnOk r P → OnOk r Q
-on_ok_map r P Q f h = grind (arith)
 
 pub not_err : {T E : Type 0} (r : Result T E) (P : Type 0) → is_err r ≡ false → OnOk r P → P
 not_err r P f h = grind (arith)
@@ -172,11 +147,10 @@ pub if_err_same : {T E : Type 0} (r : Result T E) (x : E) (P : E → Type 0) →
 if_err_same r x P h p = grind (arith)
 
 pub first_fault : (rom : Rom) (done : List Entry) (addr : ℕ) (key : Key) → IsDone rom done → entry_at done addr key ≡ None → (old : List PartialEntry) → old ≡ [] → (at : ℕ) (why : EntryCause) → NotBegun done old addr key why → Bars rom done (addr, key) (entry_fault at why)
-first_fault rom done addr key h none old e at why b = first_refused rom done addr key h none at why (subst (λ s. NotBegun done s addr key why) e b)
-
--- an entry that is there already
-pub found_making : (rom : Rom) (done : List Entry) (addr : ℕ) (key : Key) → IsDone rom done → HasEntry done addr key → InProgress rom done (addr, key) done []
-found_making rom done addr key h has = grind (arith)
+first_fault rom done addr key h none old e at why b =
+    let large : MOST_ENTRIES ≤ length done → (made : List Entry) → IsAim rom done (addr, key) made → MOST_ENTRIES < length made =
+    λ le made m. let full = crowded done made (MOST_WORDS + 1) 0 (start addr key ∷ []) h.unique (none, λ x. x, tt) m.extends (first_chain rom done made (addr, key) m) in omega (arith, full, le) in
+    grind (arith, slice_get, large)
 
 pub first_present : (done : List Entry) (addr : ℕ) (key : Key) (old begun : List PartialEntry) → old ≡ [] → IsBegun done old begun addr key → IsPresent done begun addr key
 first_present done addr key old begun e b = subst (λ s. IsPresent done s addr key) (sym (b.stack ∙ ap (λ (s : List PartialEntry). s ++ start addr key ∷ []) e)) (inr (inl (refl, refl)))

@@ -1,10 +1,7 @@
 -- A made list is good where nothing that is lit at an absolute place leaves the window.
-use Rattle.dvg_make.proofs.Common.{Machine, ◌≡◌, ◌≢◌, ℕ, List, refl, sym, subst, ◌⊎◌, ⊎_elim, Contains, cell_at, Rom, rom_word, Window, Cell, Missing, Odd, Holds, Entry, shape_context, seen_at, ShapeKeeps, CellKeeps, Good, GoodShape, Bound, Exact, ShapeWhy, Item, EachItem, MadeEntry, in_bound, arith, ShapePlaceKeeps, AllInWindow, GoodInWindow, ItemInWindow}
+use Rattle.dvg_make.proofs.Common.{Machine, ◌≡◌, ◌≢◌, ℕ, List, refl, sym, subst, ◌⊎◌, ⊎_elim, Contains, cell_at, Rom, rom_word, Window, Cell, Missing, Odd, Holds, Entry, shape_context, seen_at, ShapeKeeps, CellKeeps, Good, GoodShape, Exact, ShapeWhy, Item, EachItem, MadeEntry, arith, ShapePlaceKeeps, AllInWindow, ItemInWindow}
 use Rattle.dvg_check.specs.declared.fault.Mode.{Mode}
 use Rattle.dvg_check.specs.declared.fault.ShapeWhy.TheVariants as shape
-
-is_off_screen : (why : ShapeWhy) → (why ≡ shape.OffScreen) ⊎ (why ≢ shape.OffScreen)
-is_off_screen why = grind (arith)
 
 -- what is asked of a cell
 abbrev Kept : Machine → Mode → List Entry → Window → Entry → List Item → ℕ → Cell → ShapeWhy → Type 0
@@ -19,7 +16,7 @@ module _ (rom : Rom) (list : List Entry) (w : Window) where
 
   -- a made entry is good where nothing that its shape lights at an absolute place leaves the window
   pub good_entry : (e : Entry) → MadeEntry rom list e → EachItem rom e.addr (ItemInWindow w (shape_context rom.machine list e)) → GoodShape Exact w rom list e
-  good_entry e made all earlier p lead why = ⊎_elim (λ off. subst (ShapePlaceKeeps Exact w rom list e earlier p) (sym off) (by_cell (cell_at (rom_word rom) p) refl)) (λ not. made.keeps earlier p lead why w not) (is_off_screen why)
+  good_entry e made all earlier p lead why = ⊎_elim (λ off. subst (ShapePlaceKeeps Exact w rom list e earlier p) (sym off) (by_cell (cell_at (rom_word rom) p) refl)) (λ not. made.keeps earlier p lead why w not) (let off : (why ≡ shape.OffScreen) ⊎ (why ≢ shape.OffScreen) = grind (arith) in off)
     where
       by_cell : (cell : Cell) → cell_at (rom_word rom) p ≡ cell → Kept rom.machine Exact list w e earlier p cell shape.OffScreen
       by_cell Missing q = λ x. cc x
@@ -28,9 +25,3 @@ module _ (rom : Rom) (list : List Entry) (w : Window) where
 
   pub in_exact : ((e : Entry) → Contains list e → MadeEntry rom list e) → AllInWindow w rom list → Good Exact w rom list
   in_exact each all e c = good_entry e (each e c) (all e c)
-
-pub good_in_window : GoodInWindow
-good_in_window rom roots list w made = (
-  (in_window rom list w Bound, λ all. in_bound w rom list Exact (in_exact rom list w made.each all)),
-  (in_window rom list w Exact, in_exact rom list w made.each),
-)

@@ -92,10 +92,14 @@ impl PartialEntry {
         requires near { self.now.cursor.at < ADDRESS_END }
         requires fields { InstrFits instr.now }
         requires callee { IfSome callee IsClaim }
-        ensures ok { IfOk result (λ past. Passes (seen_with machine callee self.now.cursor.known (record { at = self.now.cursor.at; format = format; instr = instr.now })) self.now.lit past.1) }
-        ensures step { IfOk result (λ past. past.0 ≡ step_past Shape (seen_with machine callee self.now.cursor.known (record { at = self.now.cursor.at; format = format; instr = instr.now }))) }
+        ensures ok { IfOk result (λ past. Passes (seen_with machine callee self.now.cursor.known
+            (record { at = self.now.cursor.at; format = format; instr = instr.now })) self.now.lit past.1) }
+        ensures step { IfOk result (λ past. past.0 ≡ step_past Shape (seen_with machine callee self.now.cursor.known
+            (record { at = self.now.cursor.at; format = format; instr = instr.now }))) }
         ensures sound { IfOk result (λ past. IsSoundStep past.0) }
-        ensures err { IfErr result (λ obstacle. (obstacle.cursor ≡ self.now.cursor) × SaysOf self.now.cursor.known.scale (seen_with machine callee self.now.cursor.known (record { at = self.now.cursor.at; format = format; instr = instr.now })) obstacle.cause) }
+        ensures err { IfErr result (λ obstacle. (obstacle.cursor ≡ self.now.cursor)
+            × SaysOf self.now.cursor.known.scale (seen_with machine callee self.now.cursor.known
+            (record { at = self.now.cursor.at; format = format; instr = instr.now })) obstacle.cause) }
     {
         let seen = self.cursor.see(machine, format, instr, callee);
         if let Some(cause) = unstraight(&seen) {

@@ -1,5 +1,6 @@
 -- What the shapes of a list light at absolute places, entry after entry.
-use Rattle.dvg_survey.proofs.Common.{◌≡◌, ℕ, ◌+◌, ◌<◌, ◌≤◌, List, length, get_or, sym, ◌∙◌, subst, arith, ⊎_elim, cases_lt, Contains, Rom, rom_word, Entry, LitBox, Empty, Shape, shape_context, HoldsAll, absolute_points, InBox, all_map, IsJoined, get_or_default, IsInside, in_wider, IsExtent, IsShapesExtent, HoldsShape, HoldsShapes}
+use Rattle.dvg_survey.proofs.Common.{◌≡◌, ℕ, ◌+◌, ◌<◌, ◌≤◌, List, length, get_or, sym, ◌∙◌, subst, arith, ⊎_elim, cases_lt, Rom, rom_word, Entry, LitBox, Empty, Shape, shape_context, HoldsAll, absolute_points, IsJoined, get_or_default, IsInside, IsExtent, HoldsShape, HoldsShapes}
+use Rattle.dvg_survey.proofs.TailPoints.{wider}
 use Rattle.dvg_survey.proofs.AllItems.{one_all}
 
 module _ (rom : Rom) (list : List Entry) where
@@ -12,31 +13,19 @@ module _ (rom : Rom) (list : List Entry) where
   pub none_boxed : (from : ℕ) → length list ≤ from → Boxed from Empty
   none_boxed from le = record { holds = λ k past after lt. absurd (omega (arith, le, after, lt)); least = λ other h. tt }
 
-  -- of all
-  pub all_boxed : (from : ℕ) (box : LitBox) → from ≤ 0 → Boxed from box → IsShapesExtent rom list box
-  all_boxed from box le h = grind (arith)
-
-  wider : (a b : LitBox) → IsInside a b → (e : Entry) → HoldsShape rom list a e → HoldsShape rom list b e
-  wider a b inside e h items all = all_map (InBox a) (InBox b) (absolute_points (shape_context rom.machine list e) items) (λ p. in_wider a b p inside) (h items all)
-
   -- what one entry's shape lights
   module _ (e : Entry) (one : LitBox) (extent : IsExtent (shape_context rom.machine list e) (rom_word rom) e.addr one) where
-    one_holds : HoldsShape rom list one e
-    one_holds items all = subst (λ x. HoldsAll one (absolute_points (shape_context rom.machine list e) x)) (one_all Shape (rom_word rom) e.addr extent.0 items extent.1 all) extent.2.holds
-
-    one_inside : Contains list e → (other : LitBox) → HoldsShapes rom list other → IsInside one other
-    one_inside listed other h = extent.2.least other (h e listed extent.0 extent.1)
-
     pub one_more : (from : ℕ) (past : Entry) (old new : LitBox) → from < length list → e ≡ get_or list from past → IsJoined old one new → Boxed (from + 1) old → Boxed from new
     one_more from past old new lt is j h =
         record {
           holds = λ k d le less.
               ⊎_elim
-              (λ (more : from < k). wider old new j.first (get_or list k d) (h.holds k d (omega (arith, more)) less))
+              (λ (more : from < k). λ items all. wider old new (absolute_points (shape_context rom.machine list (get_or list k d)) items) j.first (h.holds k d (omega (arith, more)) less items all))
               (λ (here : k ≤ from).
               let same : k ≡ from = omega (arith, le, here) in
               subst (λ (n : ℕ). HoldsShape rom list new (get_or list n d)) (sym same)
-              (subst (HoldsShape rom list new) (is ∙ get_or_default list from past d lt) (wider one new j.second e one_holds)))
+              (subst (HoldsShape rom list new) (is ∙ get_or_default list from past d lt) (λ items all. wider one new (absolute_points (shape_context rom.machine list e) items) j.second
+              (subst (λ x. HoldsAll one (absolute_points (shape_context rom.machine list e) x)) (one_all Shape (rom_word rom) e.addr extent.0 items extent.1 all) extent.2.holds))))
               (cases_lt from k);
-          least = λ other k. j.least other (h.least other k) (one_inside (from, lt, get_or_default list from e past lt ∙ sym is) other k);
+          least = λ other k. j.least other (h.least other k) (extent.2.least other (k e (from, lt, get_or_default list from e past lt ∙ sym is) extent.0 extent.1));
         }

@@ -1,6 +1,6 @@
 -- Which call of a shape bears out its entry's depth, and calls that do one below another.
-use Rattle.dvg_survey.proofs.Common.{◌≡◌, ℕ, suc, ◌+◌, ◌-◌, ◌<◌, ◌≤◌, List, [], ◌∷◌, ◌++◌, Some, refl, sym, ap, ◌∙◌, subst, arith, AllByRecursion, Contains, Rom, rom_word, cell_at, Holds, Entry, Cursor, Item, Shape, Seen, IsClaim, IsSomeCertificate, Context, callee, scale_before, shape_context, target, listed_claim, all_append, Call, AreAll, call_of, calls_among, IsShapeCall, IsSeenAt, append_assoc, append-nil, depth_under, named_listed}
-use Rattle.dvg_survey.specs.Deepest.{BearsOut, BearsNot, FirstBears, GoDeepest}
+use Rattle.dvg_survey.proofs.Common.{◌≡◌, ℕ, suc, ◌+◌, ◌-◌, ◌<◌, ◌≤◌, List, [], ◌∷◌, ◌++◌, Some, refl, sym, ap, ◌∙◌, subst, arith, AllByRecursion, Rom, rom_word, cell_at, Entry, Cursor, Item, Shape, Seen, IsClaim, IsSomeCertificate, Context, callee, scale_before, shape_context, target, listed_claim, all_append, Call, AreAll, call_of, calls_among, IsShapeCall, IsSeenAt, append_assoc, append-nil, depth_under, named_listed}
+use Rattle.dvg_survey.specs.Deepest.{BearsNot, FirstBears, GoDeepest}
 use Rattle.dvg_survey.proofs.Coming.{is_among}
 use Rattle.dvg_survey.proofs.Walking.{Walked, seen_is, here_leads, here_stands}
 
@@ -15,25 +15,18 @@ module _ (rom : Rom) (list : List Entry) (e : Entry) where
   NoneBears items = AllByRecursion (BearsNot rom list e) (calls_among here_in items)
 
   module _ (items : List Item) (here : Cursor) (w : Walked here_in (rom_word rom) e.addr items here) (v : Seen) (s : IsSeenAt rom.machine list Shape (rom_word rom) here v) (before : NoneBears items) where
-    callee_is : v.callee ≡ callee here_in items v.item.instr
-    callee_is = ap (λ (x : Seen). x.callee) (seen_is here_in (rom_word rom) e.addr items here w v s)
-
-    stands : cell_at (rom_word rom) v.item.at ≡ Holds v.item.format v.item.instr
-    stands = here_stands here_in (rom_word rom) e.addr items here w v s
-
     -- the call of the next item does
     pub first_bears : 0 < e.depth → (call : Call) → call.at ≡ v.item.at → v.callee ≡ Some call.entry → depth_under v.item.instr (Some call.entry) ≡ e.depth → FirstBears rom list e call
     first_bears some call at named depth =
-        let calls : IsShapeCall rom list e call = record { earlier = items; item = v.item; leads = here_leads here_in (rom_word rom) e.addr items here w v s; stands = stands; at = at; callee_is = sym callee_is ∙ named } in
-        let bears : BearsOut rom list e call = record { calls = calls; some = some; depth = depth } in
-        (bears, before)
+        let calls : IsShapeCall rom list e call = record { earlier = items; item = v.item; leads = here_leads here_in (rom_word rom) e.addr items here w v s; stands = here_stands here_in (rom_word rom) e.addr items here w v s; at = at; callee_is = sym (ap (λ (x : Seen). x.callee) (seen_is here_in (rom_word rom) e.addr items here w v s)) ∙ named } in
+        (record { calls = calls; some = some; depth = depth }, before)
 
     -- or it does not
     pub none_on : ((f : Entry) → v.callee ≡ Some f → depth_under v.item.instr (Some f) ≡ e.depth → ⊥) → NoneBears (v.item ∷ items)
     none_on not = grind (arith, all_append, calls_among, call_of, callee, cell_at, rom_word)
 
   pub none_bears : (all : List Item) → AreAll Shape (rom_word rom) e.addr all → NoneBears all → (call : Call) → BearsNot rom list e call
-  none_bears all are none call b = is_among here_in (rom_word rom) e.addr (BearsNot rom list e) call b.calls all are none b
+  none_bears all are none call b = is_among here_in (rom_word rom) e.addr (BearsNot rom list e) call b.calls (calls_among here_in all) (all, are, refl) none b
 
 -- ---- one shape below another
 
@@ -43,24 +36,18 @@ module _ (rom : Rom) (list : List Entry) (e : Entry) (most : ℕ) where
     pub claim : IsClaim last
     pub goes : (left : ℕ) (rest : List Call) → left + count ≡ most → GoDeepest left rom list last rest → GoDeepest most rom list e (calls ++ rest)
 
-  pub none_yet : (calls : List Call) → calls ≡ [] → IsSomeCertificate list → Contains list e → Down calls e 0
-  none_yet calls is some listed = grind (arith, (listed_claim list e some listed))
-
-  module _ (calls : List Call) (last : Entry) (count : ℕ) (down : Down calls last count) (used : List Entry) (same : used ≡ list) where
-    pub one_down : (call : Call) (new : List Call) → IsSomeCertificate list → FirstBears rom used last call → new ≡ calls ++ call ∷ [] → Down new call.entry (count + 1)
+  module _ (calls : List Call) (last : Entry) (count : ℕ) (down : Down calls last count) where
+    pub one_down : (call : Call) (new : List Call) → IsSomeCertificate list → FirstBears rom list last call → new ≡ calls ++ call ∷ [] → Down new call.entry (count + 1)
     one_down call new some first is =
-        let here = subst (λ (l : List Entry). FirstBears rom l last call) same first in
-        let c = here.0.calls in
+        let c = first.0.calls in
         subst (λ (cs : List Call). Down cs call.entry (count + 1)) (sym is)
         (record {
           claim = listed_claim list call.entry some (named_listed list (target Shape c.item.instr) (scale_before (shape_context rom.machine list last) c.earlier) call.entry c.callee_is);
-          goes = λ left rest all g. subst (λ (cs : List Call). GoDeepest most rom list e cs) (sym (append_assoc calls (call ∷ []) rest)) (down.goes (suc left) (call ∷ rest) (omega (arith, all)) (here, g));
+          goes = λ left rest all g. subst (GoDeepest most rom list e) (sym (append_assoc calls (call ∷ []) rest)) (down.goes (suc left) (call ∷ rest) (omega (arith, all)) (first, g));
         })
 
-    pub no_further : count < most → ((call : Call) → BearsNot rom used last call) → GoDeepest most rom list e calls
-    no_further lt none =
-        subst (λ (cs : List Call). GoDeepest most rom list e cs) (append-nil calls)
-        (down.goes (suc (most - suc count)) [] (omega (arith, lt)) (subst (λ (l : List Entry). (call : Call) → BearsNot rom l last call) same none))
+    pub no_further : count < most → ((call : Call) → BearsNot rom list last call) → GoDeepest most rom list e calls
+    no_further lt none = subst (GoDeepest most rom list e) (append-nil calls) (down.goes (suc (most - suc count)) [] (omega (arith, lt)) none)
 
     pub no_more : most ≤ count → count ≤ most → GoDeepest most rom list e calls
-    no_more ge le = subst (λ (cs : List Call). GoDeepest most rom list e cs) (append-nil calls) (down.goes 0 [] (omega (arith, ge, le)) refl)
+    no_more ge le = subst (GoDeepest most rom list e) (append-nil calls) (down.goes 0 [] (omega (arith, ge, le)) refl)

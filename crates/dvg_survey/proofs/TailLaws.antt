@@ -1,7 +1,8 @@
 -- An item and what stands behind it light together what the shape from the item on lights.
-use Rattle.dvg_survey.proofs.Common.{Machine, ◌≡◌, ℕ, pos, ◌+◌, ◌-◌, ◌<◌, ◌≤◌, List, [], ◌∷◌, ◌++◌, Option, Some, None, refl, sym, ap, ◌∙◌, subst, arith, cell_at, Rom, rom_word, Point, Holds, ADDRESS_END, End, Rel, Abs, Lost, Entry, Key, LitBox, Empty, LeadsTo, next_address, callee_at, target, HoldsAll, IsLeast, absolute_points, InBox, absolute_corners, relative_corners, seen_at, Cursor, Item, Shape, Known, Seen, IsJoined, all_append, Stand, AreAll, Lit, IsLitFrom, keyed, relative_part, absolute_part, Context, IsNearPlace, first_cursor, known_before, lit_points, seen_with, all_left, all_right, next_further, append_assoc, seen_by, IsNearBox, first_seen, known_over, IsNearBox-joined, box_more, ITEM_REACH, IsNearBox-moved}
+use Rattle.dvg_survey.proofs.Common.{Machine, ◌≡◌, ℕ, pos, ◌+◌, ◌-◌, ◌<◌, ◌≤◌, List, [], ◌∷◌, ◌++◌, Option, Some, None, refl, sym, ap, ◌∙◌, subst, arith, cell_at, Rom, rom_word, Point, Holds, ADDRESS_END, End, Rel, Entry, Key, LitBox, Empty, LeadsTo, next_address, callee_at, target, HoldsAll, IsLeast, absolute_points, InBox, absolute_corners, relative_corners, seen_at, Cursor, Item, Shape, Known, Seen, IsJoined, all_append, AreAll, Lit, IsLitFrom, keyed, relative_part, absolute_part, Context, IsNearPlace, first_cursor, known_before, lit_points, seen_with, all_left, all_right, next_further, append_assoc, seen_by, IsNearBox, first_seen, known_over, IsNearBox-joined, box_more, ITEM_REACH, IsNearBox-moved}
 use Rattle.dvg_check.proofs.TailLaws.{seen_over, seen_by_over, over_none}
-use Rattle.dvg_survey.proofs.TailPoints.{relative_from, absolute_from, relative_from_both, absolute_from_both, relative_over, absolute_over, relative_least, absolute_least, both_least, and_none, relative_none, no_absolute}
+use Rattle.std.proofs.lemmas.List.{append-nil}
+use Rattle.dvg_survey.proofs.TailPoints.{relative_from, absolute_from, relative_from_both, absolute_from_both, relative_over, absolute_over, relative_least, absolute_least, both_least}
 use Rattle.dvg_survey.proofs.Walking.{least_none}
 
 -- what is seen of the first item doesn't depend on where it stands
@@ -12,9 +13,7 @@ seen_first machine list key i named to begin v value begins names leads = grind 
 
 -- a tail's part is no further than the tail, and the place
 pub part_near : (place : End) (box : LitBox) (n : ℕ) → IsNearPlace 1 place → IsNearBox n box → IsNearBox (n + 1) (relative_part place box)
-part_near (Rel x y) box n near h = IsNearBox-moved n box (record { x = x; y = y }) h near
-part_near (Abs x y) box n near h = tt
-part_near Lost box n near h = tt
+part_near place box n near h = grind (arith, IsNearBox-moved)
 
 module _ (rom : Rom) (list : List Entry) (key behind_key : Key) (i : Item) (next : ℕ) (is : cell_at (rom_word rom) i.at ≡ Holds i.format i.instr) (goes : next_address Shape i ≡ Some next) (scale : behind_key ≡ (first_seen rom.machine list key i).after.scale) where
   abbrev past : Known
@@ -30,11 +29,8 @@ module _ (rom : Rom) (list : List Entry) (key behind_key : Key) (i : Item) (next
   lead_back [] p h = let e : Some p ≡ Some next = sym h.2 ∙ goes in cc e
   lead_back (j ∷ rest) p h = (lead_back rest j.at h.0, h.1, h.2)
 
-  stand_over : (items : List Item) → Stand Shape (rom_word rom) next items → Stand Shape (rom_word rom) i.at (items ++ i ∷ [])
-  stand_over items h = grind (arith, lead_over)
-
   pub all_over : (items : List Item) → AreAll Shape (rom_word rom) next items → AreAll Shape (rom_word rom) i.at (items ++ i ∷ [])
-  all_over items a = record { stand = stand_over items a.stand; last = λ n h. a.last n (lead_back items n.at h.0, h.1) }
+  all_over items a = record { stand = grind (arith, lead_over); last = λ n h. a.last n (lead_back items n.at h.0, h.1) }
 
   -- ---- what is known of them
 
@@ -75,7 +71,7 @@ module _ (rom : Rom) (list : List Entry) (key behind_key : Key) (i : Item) (next
 
   -- at relative places: what the tail lights, seen from before the first, and what the first lights
   relative_all : (rest : List Item) → lit_points in_whole (rest ++ i ∷ []) ≡ relative_from past.place (lit_points in_tail rest) ++ alone
-  relative_all [] = sym (and_none alone) ∙ ap (λ (l : List Point). l ++ alone) (sym (relative_none past.place))
+  relative_all [] = grind (arith, append-nil)
   relative_all (j ∷ rest) = grind (arith, seen_at, relative_from, (relative_all rest), relative_one, append_assoc, relative_from_both)
 
   -- at absolute places: what the tail lights there, and the part of what it lights at relative ones that is at absolute ones by now
@@ -84,25 +80,16 @@ module _ (rom : Rom) (list : List Entry) (key behind_key : Key) (i : Item) (next
     absolute_into [] h k = tt
     absolute_into (j ∷ rest) h k =
         let here : List Point = absolute_of (seen_at in_tail rest j) in
-        let part : List Point = relative_of (seen_at in_tail rest j) in
-        let both = subst (HoldsAll box) (absolute_from_both past.place part (lit_points in_tail rest)) k in
-        let parts = all_left (InBox box) (absolute_from past.place part) (absolute_from past.place (lit_points in_tail rest)) both in
-        let one = subst (HoldsAll box) (sym (absolute_one rest j)) (all_append (InBox box) here (absolute_from past.place part) (all_left (InBox box) here (absolute_points in_tail rest) h) parts) in
-        let more = absolute_into rest (all_right (InBox box) here (absolute_points in_tail rest) h) (all_right (InBox box) (absolute_from past.place part) (absolute_from past.place (lit_points in_tail rest)) both) in
-        all_append (InBox box) (absolute_of (seen_at in_whole (rest ++ i ∷ []) j)) (absolute_points in_whole (rest ++ i ∷ [])) one more
+        let part : List Point = absolute_from past.place (relative_of (seen_at in_tail rest j)) in
+        let behind : List Point = absolute_from past.place (lit_points in_tail rest) in
+        let both = subst (HoldsAll box) (absolute_from_both past.place (relative_of (seen_at in_tail rest j)) (lit_points in_tail rest)) k in
+        subst (λ (ps : List Point). HoldsAll box (ps ++ absolute_points in_whole (rest ++ i ∷ []))) (sym (absolute_one rest j))
+        (all_append (InBox box) (here ++ part) (absolute_points in_whole (rest ++ i ∷ [])) (all_append (InBox box) here part (all_left (InBox box) here (absolute_points in_tail rest) h) (all_left (InBox box) part behind both))
+        (absolute_into rest (all_right (InBox box) here (absolute_points in_tail rest) h) (all_right (InBox box) part behind both)))
 
     absolute_back : (rest : List Item) → HoldsAll box (absolute_points in_whole (rest ++ i ∷ [])) → HoldsAll box (absolute_points in_tail rest) × HoldsAll box (absolute_from past.place (lit_points in_tail rest))
-    absolute_back [] h = (tt, no_absolute box past.place)
-    absolute_back (j ∷ rest) h =
-        let whole : List Point = absolute_of (seen_at in_whole (rest ++ i ∷ []) j) in
-        let here : List Point = absolute_of (seen_at in_tail rest j) in
-        let part : List Point = relative_of (seen_at in_tail rest j) in
-        let one = subst (HoldsAll box) (absolute_one rest j) (all_left (InBox box) whole (absolute_points in_whole (rest ++ i ∷ [])) h) in
-        let more = absolute_back rest (all_right (InBox box) whole (absolute_points in_whole (rest ++ i ∷ [])) h) in (
-          all_append (InBox box) here (absolute_points in_tail rest) (all_left (InBox box) here (absolute_from past.place part) one) more.0,
-          subst (HoldsAll box) (sym (absolute_from_both past.place part (lit_points in_tail rest)))
-              (all_append (InBox box) (absolute_from past.place part) (absolute_from past.place (lit_points in_tail rest)) (all_right (InBox box) here (absolute_from past.place part) one) more.1),
-        )
+    absolute_back [] h = (tt, grind (arith))
+    absolute_back (j ∷ rest) h = grind (arith, all_append, all_left, all_right, absolute_one, absolute_from_both, (absolute_back rest))
 
   -- ---- the tail
 
@@ -130,9 +117,13 @@ module _ (rom : Rom) (list : List Entry) (key behind_key : Key) (i : Item) (next
 
 -- an item that ends a shape is a tail alone
 module _ (rom : Rom) (list : List Entry) (key : Key) (i : Item) (is : cell_at (rom_word rom) i.at ≡ Holds i.format i.instr) (ends : next_address Shape i ≡ None) where
-  all_alone : AreAll Shape (rom_word rom) i.at (i ∷ [])
-  all_alone = record { stand = (refl, is); last = λ n h. let no : None ≡ Some n.at = sym ends ∙ h.0.2 in cc no }
-
   pub ending : (lit : LitBox) → i.at < ADDRESS_END → IsLeast (relative_corners (first_seen rom.machine list key i).extent (Rel (pos 0) (pos 0))) lit → IsNearBox 1 lit
       → IsLitFrom rom list i.at key (record { relative = lit; absolute = Empty })
-  ending lit near lone small = search (i ∷ [], all_alone, subst (λ (l : List Point). IsLeast l lit) (and_none (relative_corners (first_seen rom.machine list key i).extent (Rel (pos 0) (pos 0)))) lone, least_none, box_more ITEM_REACH 1 (ADDRESS_END + 2 - i.at) lit (omega (arith, near)) small)
+  ending lit near lone small =
+      record {
+        items = i ∷ [];
+        all = record { stand = (refl, is); last = λ n h. let no : None ≡ Some n.at = sym ends ∙ h.0.2 in cc no };
+        relative = subst (λ (l : List Point). IsLeast l lit) (sym (append-nil (relative_corners (first_seen rom.machine list key i).extent (Rel (pos 0) (pos 0))))) lone;
+        absolute = least_none;
+        near = box_more ITEM_REACH 1 (ADDRESS_END + 2 - i.at) lit (omega (arith, near)) small;
+      }

@@ -1,6 +1,7 @@
 -- What is lit behind an item, from the points that a tail lights.
-use Rattle.dvg_survey.proofs.Common.{◌≡◌, List, [], ◌∷◌, ◌++◌, refl, ap, arith, Point, End, Rel, Abs, Lost, LitBox, Empty, Span, HoldsAll, IsLeast, LitExtent, InBox, absolute_corners, relative_corners, IsJoined, all_map, relative_part, absolute_part, rules, common_steps, ints, map, origin, shift, IsInside, corners, in_wider, origin_shift, shift_shift, moved, place_over}
+use Rattle.dvg_survey.proofs.Common.{◌≡◌, sym, List, [], ◌∷◌, ◌++◌, refl, arith, Point, End, Rel, Abs, Lost, LitBox, Empty, Span, HoldsAll, IsLeast, LitExtent, InBox, absolute_corners, relative_corners, IsJoined, all_map, relative_part, absolute_part, rules, common_steps, ints, map, origin, shift, IsInside, corners, in_wider, origin_shift, shift_shift, moved, place_over}
 use Rattle.std.specs.Prelude.{◌-ℤ◌}
+use Rattle.std.proofs.lemmas.List.{map-append, append-nil}
 use Rattle.dvg_items.specs.declared.lit.LitExtent.TheVariants.{Between}
 use Rattle.dvg_survey.proofs.Walking.{least_none}
 
@@ -16,27 +17,11 @@ absolute_from (Rel x y) ps = []
 absolute_from (Abs x y) ps = map (shift (record { x = x; y = y })) ps
 absolute_from Lost ps = []
 
-map_over : (f : Point → Point) (xs ys : List Point) → map f (xs ++ ys) ≡ map f xs ++ map f ys
-map_over f [] ys = refl
-map_over f (x ∷ xs) ys = ap (λ (l : List Point). f x ∷ l) (map_over f xs ys)
-
 pub relative_from_both : (place : End) (xs ys : List Point) → relative_from place (xs ++ ys) ≡ relative_from place xs ++ relative_from place ys
-relative_from_both place xs ys = grind (arith, map_over)
+relative_from_both place xs ys = grind (arith, map-append)
 
 pub absolute_from_both : (place : End) (xs ys : List Point) → absolute_from place (xs ++ ys) ≡ absolute_from place xs ++ absolute_from place ys
-absolute_from_both place xs ys = grind (arith, map_over)
-
-pub relative_none : (place : End) → relative_from place [] ≡ []
-relative_none (Rel x y) = refl
-relative_none (Abs x y) = refl
-relative_none Lost = refl
-
-pub no_absolute : (box : LitBox) (place : End) → HoldsAll box (absolute_from place [])
-no_absolute box place = grind (arith)
-
-pub and_none : (xs : List Point) → xs ≡ xs ++ []
-and_none [] = refl
-and_none (x ∷ xs) = ap (λ (l : List Point). x ∷ l) (and_none xs)
+absolute_from_both place xs ys = grind (arith, map-append)
 
 corners_over : (lit : LitExtent) (a q : Point) → corners lit (shift a q) ≡ map (shift a) (corners lit q)
 corners_over lit a q = grind (arith, shift_shift)
@@ -45,23 +30,15 @@ pub relative_over : (lit : LitExtent) (place q : End) → relative_corners lit (
 relative_over lit (Rel a b) (Rel x y) = corners_over lit (record { x = a; y = b }) (record { x = x; y = y })
 relative_over lit (Rel a b) (Abs x y) = refl
 relative_over lit (Rel a b) Lost = refl
-relative_over lit (Abs a b) (Rel x y) = refl
-relative_over lit (Abs a b) (Abs x y) = refl
-relative_over lit (Abs a b) Lost = refl
-relative_over lit Lost (Rel x y) = refl
-relative_over lit Lost (Abs x y) = refl
-relative_over lit Lost Lost = refl
+relative_over lit (Abs a b) q = grind (arith)
+relative_over lit Lost q = grind (arith)
 
 pub absolute_over : (lit : LitExtent) (place q : End) → absolute_corners lit (place_over place q) ≡ absolute_corners lit q ++ absolute_from place (relative_corners lit q)
-absolute_over lit (Rel a b) (Rel x y) = refl
-absolute_over lit (Rel a b) (Abs x y) = and_none (corners lit (record { x = x; y = y }))
-absolute_over lit (Rel a b) Lost = refl
+absolute_over lit (Rel a b) q = grind (arith, append-nil)
 absolute_over lit (Abs a b) (Rel x y) = corners_over lit (record { x = a; y = b }) (record { x = x; y = y })
-absolute_over lit (Abs a b) (Abs x y) = and_none (corners lit (record { x = x; y = y }))
+absolute_over lit (Abs a b) (Abs x y) = sym (append-nil (corners lit (record { x = x; y = y })))
 absolute_over lit (Abs a b) Lost = refl
-absolute_over lit Lost (Rel x y) = refl
-absolute_over lit Lost (Abs x y) = and_none (corners lit (record { x = x; y = y }))
-absolute_over lit Lost Lost = refl
+absolute_over lit Lost q = grind (arith, append-nil)
 
 -- ---- least boxes
 
@@ -87,10 +64,7 @@ all_moved_back box d [] h = tt
 all_moved_back box d (p ∷ ps) h = (in_moved_back box d p h.0, all_moved_back box d ps h.1)
 
 inside_moved : (box other : LitBox) (d : Point) → IsInside box (moved_back other d) → IsInside (moved box d) other
-inside_moved Empty other d h = tt
-inside_moved (Span l r b t) Empty d h = absurd h
-inside_moved (Span l r b t) (Span e f g k) d h =
-    (omega (arith, ints, h.0), omega (arith, ints, h.1), omega (arith, ints, h.2), omega (arith, ints, h.3))
+inside_moved box other d h = grind (arith, ints)
 
 moved_least : (d : Point) (ps : List Point) (box : LitBox) → IsLeast ps box → IsLeast (map (shift d) ps) (moved box d)
 moved_least d ps box h = grind (arith, (all_moved box d ps h.holds), inside_moved, all_moved_back)
@@ -105,7 +79,8 @@ absolute_least (Rel x y) ps box h = least_none
 absolute_least (Abs x y) ps box h = moved_least (record { x = x; y = y }) ps box h
 absolute_least Lost ps box h = least_none
 
-wider : (a b : LitBox) (ps : List Point) → IsInside a b → HoldsAll a ps → HoldsAll b ps
+-- what one box has, a wider one has
+pub wider : (a b : LitBox) (ps : List Point) → IsInside a b → HoldsAll a ps → HoldsAll b ps
 wider a b ps inside h = all_map (InBox a) (InBox b) ps (λ p. in_wider a b p inside) h
 
 -- of two points, seen from the place 0, 0

@@ -44,11 +44,9 @@ module _ (c : Context) (word : Source) (first : ℕ) where
       pub at_last : (step : Step) (known : Known) → step ≡ Last known → step ≡ step_past c.kind v → AreAll c.kind word first (v.item ∷ items)
       at_last step known is goes = grind (arith, ends_at)
 
-      pub place_lost_on : (old new : Option Item) → old ≡ place_lost_by c items → new ≡ place_loss v.item here.known.place v.after.place old → new ≡ place_lost_by c (v.item ∷ items)
-      place_lost_on old new h e = grind (arith)
-
-      pub scale_lost_on : (old new : Option Item) → old ≡ scale_lost_by c items → new ≡ scale_loss v.item here.known.scale v.after.scale old → new ≡ scale_lost_by c (v.item ∷ items)
-      scale_lost_on old new h e = grind (arith, scale_before)
+      pub losses_on : (place more_place scale more_scale : Option Item) → place ≡ place_lost_by c items → more_place ≡ place_loss v.item here.known.place v.after.place place
+          → scale ≡ scale_lost_by c items → more_scale ≡ scale_loss v.item here.known.scale v.after.scale scale → (more_place ≡ place_lost_by c (v.item ∷ items)) × (more_scale ≡ scale_lost_by c (v.item ∷ items))
+      losses_on place more_place scale more_scale h e k f = grind (arith, scale_before)
 
       pub lit_on : (old new : LitBox) → IsLeast (absolute_points c items) old → ((ps : List Point) → IsLeast ps old → IsLeast (absolute_corners v.extent v.place ++ ps) new)
           → IsLeast (absolute_points c (v.item ∷ items)) new

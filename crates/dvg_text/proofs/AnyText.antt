@@ -1,9 +1,11 @@
 -- Each text may stand, or has a first byte that cannot come.
-use Rattle.dvg_text.proofs.Common.{◌≡◌, ◌≢◌, ℕ, ◌+◌, ◌-◌, ◌<◌, ◌≤◌, Bool, true, false, List, [], ◌∷◌, ◌++◌, length, Option, Some, None, refl, sym, ap, subst, ◌∙◌, append_assoc, arith, inl, inr, ◌⊎◌, ◌==◌, nat_lt, bytes_eq, append-nil, length-append, eqb-true, nat_tests, bytes_eq-Decides, none-some, MemoryMap, asteroids, MOST_ENTRIES, LONGEST_LINE, LINE_FEED, Line, EntryLine, DoneLine, CertWhy, Form, Order, Count, After, TooLong, Memory, Entry, Before, StandsAfter, first_version_line, second_version_line, done_line, begun_with, ended, text_of, IsLine, Taken, Nothing, Versioned, Begun, Whole, text_taken, line_number, Holds, MayStand, IsUnended, IsWrong, Meets, StopsAt, IsRefusal, certificate_push, no_entry_yet, small_map}
+use Rattle.dvg_text.proofs.Common.{cases_lt, IsTaken, IsRest, ◌≡◌, ◌≢◌, ℕ, ◌-◌, Bool, true, false, List, [], ◌∷◌, ◌++◌, length, Option, Some, None, refl, sym, ap, subst, ◌∙◌, append_assoc, arith, inl, inr, ◌⊎◌, ◌==◌, nat_lt, bytes_eq, append-nil, length-append, eqb-true, nat_tests, bytes_eq-Decides, none-some, MemoryMap, asteroids, MOST_ENTRIES, LONGEST_LINE, LINE_FEED, Line, EntryLine, DoneLine, CertWhy, Form, Order, Count, After, TooLong, Memory, Entry, Before, StandsAfter, first_version_line, second_version_line, ended, IsLine, Taken, Nothing, Versioned, Begun, Whole, text_taken, line_number, Holds, MayStand, IsUnended, IsWrong, Meets, StopsAt, IsRefusal, certificate_push, no_entry_yet, small_map}
+use Rattle.std.proofs.lemmas.Bool.{cases_eq, ne_eqb}
+use Rattle.std.proofs.lemmas.Bool.Decides.{not_from_Decides}
 use Rattle.dvg_text.proofs.Graphics.{Without-append}
 use Rattle.dvg_text.proofs.WholeLines.{said, line_takes, line_again}
 use Rattle.dvg_text.proofs.FirstLines.{first_taken, rom_taken, elsewhere_or}
-use Rattle.dvg_text.proofs.Refusals.{rest_of, rest_is, entry_taken, meets_long}
+use Rattle.dvg_text.proofs.Refusals.{rest_of, rest_free, entry_taken, meets_long}
 use Rattle.dvg_text.proofs.OneAnswerLemmas.{stuck_stands}
 
 before_at : (lt same : Bool) (e f : Entry) → nat_lt e.addr f.addr ≡ lt → (e.addr == f.addr) ≡ same → Before e f ⊎ (Before e f → ⊥)
@@ -19,26 +21,23 @@ stands_or (f ∷ g ∷ es) e = stands_or (g ∷ es) e
 abbrev pub OneMore : List ℕ → Taken → List ℕ → ℕ → Type 0
 OneMore prefix taken rest b = MayStand (prefix ++ b ∷ []) ⊎ ((why : CertWhy) × Meets taken rest b why)
 
-next_parts : (prefix text rest next : List ℕ) (b : ℕ) → prefix ≡ text ++ rest → b ≡ LINE_FEED → next ≡ text ++ ended rest → prefix ++ b ∷ [] ≡ next ++ []
-next_parts prefix text rest next b e lf n = grind (arith, append_assoc, append-nil)
+-- a line whose LF has come, and that is taken
+line_taken : (prefix : List ℕ) (old new : Taken) (rest : List ℕ) (b : ℕ) → Holds prefix old rest → b ≡ LINE_FEED → IsTaken new → IsRest new [] → text_taken new ≡ text_taken old ++ ended rest → OneMore prefix old rest b
+line_taken prefix old new rest b h lf lines begun text = inl (new, [], record { parts = ap (λ (x : List ℕ). x ++ b ∷ []) h.parts ∙ rw (lf, text) (simp (append_assoc, append-nil)); lines = lines; begun = begun })
 
 -- the LF of the first line
 first_end : (t v : Bool) (prefix rest : List ℕ) (b : ℕ) → bytes_eq rest first_version_line ≡ t → bytes_eq rest second_version_line ≡ v → Holds prefix Nothing rest → b ≡ LINE_FEED → OneMore prefix Nothing rest b
 first_end true v prefix rest b t u h lf =
-    let line : rest ≡ first_version_line = (bytes_eq-Decides rest first_version_line).0 t in
-    inl (Begun asteroids [], [], record { parts = next_parts prefix [] rest (begun_with asteroids []) b h.parts lf (first_taken rest line); lines = no_entry_yet asteroids (record { past_frames = omega arith; ordered = omega arith; inside = omega arith }); begun = (tt, omega arith) })
-first_end false true prefix rest b t u h lf = grind (arith, second_version_line, bytes_eq-Decides, next_parts, ended)
+    line_taken prefix Nothing (Begun asteroids []) rest b h lf (no_entry_yet asteroids (record { past_frames = omega arith; ordered = omega arith; inside = omega arith })) (tt, omega arith) (first_taken rest ((bytes_eq-Decides rest first_version_line).0 t))
+first_end false true prefix rest b t u h lf = line_taken prefix Nothing Versioned rest b h lf tt (tt, omega arith) (ap ended (sym ((bytes_eq-Decides rest second_version_line).0 u)))
 first_end false false prefix rest b t u h lf =
-    inr (Form, inr (lf, ((λ e. differs (bytes_eq rest first_version_line) t ((bytes_eq-Decides rest first_version_line).1 e)), (λ e. differs (bytes_eq rest second_version_line) u ((bytes_eq-Decides rest second_version_line).1 e)))))
-  where
-    differs : (t : Bool) → t ≡ false → t ≡ true → ⊥
-    differs t p q = cc
+    inr (Form, inr (lf, (not_from_Decides (bytes_eq rest first_version_line) (bytes_eq-Decides rest first_version_line) t, not_from_Decides (bytes_eq rest second_version_line) (bytes_eq-Decides rest second_version_line) u)))
 
 -- the LF of the line of a ROM
 rom_end : (prefix rest : List ℕ) (b : ℕ) → Holds prefix Versioned rest → b ≡ LINE_FEED → OneMore prefix Versioned rest b
 rom_end prefix rest b h lf =
     elim (elsewhere_or rest) [
-      | inl s ↦ inl (Begun s.0 [], [], record { parts = next_parts prefix (ended second_version_line) rest (begun_with s.0 []) b h.parts lf (rom_taken s.0 rest s.1.1 s.2); lines = no_entry_yet s.0 s.1.0; begun = (tt, omega arith) })
+      | inl s ↦ line_taken prefix Versioned (Begun s.0 []) rest b h lf (no_entry_yet s.0 s.1.0) (tt, omega arith) (rom_taken s.0 rest s.1.1 s.2)
       | inr n ↦ inr (Form, inr (lf, n))
     ]
 
@@ -46,58 +45,53 @@ rom_end prefix rest b h lf =
 entry_end : (map : MemoryMap) (es : List Entry) (prefix rest : List ℕ) (b : ℕ) (e : Entry) → Holds prefix (Begun map es) rest → b ≡ LINE_FEED → IsLine map.rom_first map.rom_last (EntryLine e) rest → OneMore prefix (Begun map es) rest b
 entry_end map es prefix rest b e h lf line =
     elim (stands_or es e) [
-      | inl s ↦ room (nat_lt (length es) MOST_ENTRIES) refl s
+      | inl s ↦ elim (cases_lt (length es) MOST_ENTRIES) [
+        | inl room ↦ line_taken prefix (Begun map es) (Begun map (es ++ e ∷ [])) rest b h lf (certificate_push map es e h.lines line.0 s room) (tt, omega arith) (entry_taken map es rest e line.1)
+        | inr full ↦ let few = h.lines.few in inr (TooLong, inr (lf, (e, line, s, omega (arith, few, full))))
+      ]
       | inr n ↦ inr (Order, inr (lf, (e, line, n)))
     ]
-  where
-    room : (t : Bool) → nat_lt (length es) MOST_ENTRIES ≡ t → StandsAfter es e → OneMore prefix (Begun map es) rest b
-    room true t s =
-        let k = certificate_push map es e h.lines line.0 s (grind (arith, nat_tests)) in
-        inl (Begun map (es ++ e ∷ []), [], record { parts = next_parts prefix (begun_with map es) rest (begun_with map (es ++ e ∷ [])) b h.parts lf (entry_taken map es rest e line.1); lines = k; begun = (tt, omega arith) })
-    room false t s =
-        let few = h.lines.few in
-        let least : MOST_ENTRIES ≤ length es = grind (arith, nat_tests) in
-        inr (TooLong, inr (lf, (e, line, s, omega (arith, few, least))))
 
 -- the LF of a last line
-done_end : (t : Bool) (map : MemoryMap) (es : List Entry) (prefix rest : List ℕ) (b n : ℕ) → (n == length es) ≡ t → Holds prefix (Begun map es) rest → b ≡ LINE_FEED → IsLine map.rom_first map.rom_last (DoneLine n) rest → OneMore prefix (Begun map es) rest b
-done_end true map es prefix rest b n t h lf line =
-    let same : n ≡ length es = eqb-true n (length es) t in
-    let spelled : text_of map es ≡ begun_with map es ++ ended rest = ap (λ (x : List ℕ). begun_with map es ++ ended x) (ap done (sym same) ∙ sym line.1) in
-    inl (Whole map es, [], record { parts = next_parts prefix (begun_with map es) rest (text_of map es) b h.parts lf spelled; lines = h.lines; begun = refl })
-  where
-    done : ℕ → List ℕ
-    done n = done_line n
-done_end false map es prefix rest b n t h lf line = inr (Count, inr (lf, (n, line, λ e. absurd (grind (arith, nat_tests)))))
+done_end : (map : MemoryMap) (es : List Entry) (prefix rest : List ℕ) (b n : ℕ) → Holds prefix (Begun map es) rest → b ≡ LINE_FEED → IsLine map.rom_first map.rom_last (DoneLine n) rest → OneMore prefix (Begun map es) rest b
+done_end map es prefix rest b n h lf line =
+    elim (cases_eq n (length es)) [
+      | inl same ↦ line_taken prefix (Begun map es) (Whole map es) rest b h lf h.lines refl (rw (line.1, same) refl)
+      | inr other ↦ inr (Count, inr (lf, (n, line, other)))
+    ]
 
 -- the LF of a later line
 later_end : (r : Option Line) (map : MemoryMap) (es : List Entry) (prefix rest : List ℕ) (b : ℕ) → said map.rom_first map.rom_last rest ≡ r → Holds prefix (Begun map es) rest → b ≡ LINE_FEED → OneMore prefix (Begun map es) rest b
 later_end None map es prefix rest b r h lf =
     inr (Form, inr (lf, λ l k. none-some l (sym r ∙ line_again map.rom_first map.rom_last rest l (small_map map h.lines.map_is) k)))
 later_end (Some (EntryLine e)) map es prefix rest b r h lf = entry_end map es prefix rest b e h lf (line_takes map.rom_first map.rom_last rest (EntryLine e) (small_map map h.lines.map_is) r)
-later_end (Some (DoneLine n)) map es prefix rest b r h lf = done_end (n == length es) map es prefix rest b n refl h lf (line_takes map.rom_first map.rom_last rest (DoneLine n) (small_map map h.lines.map_is) r)
+later_end (Some (DoneLine n)) map es prefix rest b r h lf = done_end map es prefix rest b n h lf (line_takes map.rom_first map.rom_last rest (DoneLine n) (small_map map h.lines.map_is) r)
 
-at_end : (prefix : List ℕ) (taken : Taken) (rest : List ℕ) (b : ℕ) → IsUnended taken → Holds prefix taken rest → b ≡ LINE_FEED → OneMore prefix taken rest b
-at_end prefix Nothing rest b u h lf = first_end (bytes_eq rest first_version_line) (bytes_eq rest second_version_line) prefix rest b refl refl h lf
-at_end prefix Versioned rest b u h lf = rom_end prefix rest b h lf
-at_end prefix (Begun map es) rest b u h lf = later_end (said map.rom_first map.rom_last rest) map es prefix rest b refl h lf
-at_end prefix (Whole map es) rest b u h lf = absurd u
+at_end : (prefix : List ℕ) (taken : Taken) (rest : List ℕ) (b : ℕ) → Holds prefix taken rest → b ≡ LINE_FEED → OneMore prefix taken rest b
+at_end prefix Nothing rest b h lf = first_end (bytes_eq rest first_version_line) (bytes_eq rest second_version_line) prefix rest b refl refl h lf
+at_end prefix Versioned rest b h lf = rom_end prefix rest b h lf
+at_end prefix (Begun map es) rest b h lf = later_end (said map.rom_first map.rom_last rest) map es prefix rest b refl h lf
+at_end prefix (Whole map es) rest b h lf = inr (After, refl)
 
--- a byte within a line, or its LF
-in_line : (lf full : Bool) (prefix : List ℕ) (taken : Taken) (rest : List ℕ) (b : ℕ) → (b == LINE_FEED) ≡ lf → (length rest == LONGEST_LINE - 1) ≡ full → IsUnended taken → Holds prefix taken rest → OneMore prefix taken rest b
-in_line true full prefix taken rest b e f u h = at_end prefix taken rest b u h (eqb-true b LINE_FEED e)
-in_line false true prefix taken rest b e f u h = inr (TooLong, meets_long taken rest b u (λ x. absurd (grind (arith, nat_tests))) (eqb-true (length rest) (LONGEST_LINE - 1) f))
-in_line false false prefix taken rest b e f u h =
-    let s = rest_is taken rest u h.begun in
-    let short : length (rest ++ b ∷ []) < LONGEST_LINE = shorter (length rest) (length (rest ++ b ∷ [])) f s.1 (length-append rest (b ∷ [])) in
-    inl (taken, rest ++ b ∷ [], record { parts = ap (λ (x : List ℕ). x ++ b ∷ []) h.parts ∙ append_assoc (text_taken taken) rest (b ∷ []); lines = h.lines; begun = rest_of taken (rest ++ b ∷ []) u (Without-append LINE_FEED rest (b ∷ []) s.0 (e, tt)) short })
-  where
-    shorter : (n m : ℕ) → (n == LONGEST_LINE - 1) ≡ false → n < LONGEST_LINE → m ≡ n + 1 → m < LONGEST_LINE
-    shorter n m d lt e = grind (arith, nat_tests)
+-- a byte within a line
+in_line : (prefix : List ℕ) (taken : Taken) (rest : List ℕ) (b : ℕ) → IsUnended taken → Holds prefix taken rest → b ≢ LINE_FEED → OneMore prefix taken rest b
+in_line prefix taken rest b u h other =
+    elim (cases_eq (length rest) (LONGEST_LINE - 1)) [
+      | inl full ↦ inr (TooLong, meets_long taken rest b u other full)
+      | inr room ↦
+          let s = rest_free taken rest h.begun in
+          let free = Without-append LINE_FEED rest (b ∷ []) s.0 (ne_eqb b LINE_FEED other, tt) in
+          let more = rest_of taken (rest ++ b ∷ []) u free (omega (arith, s.1, room, length-append rest (b ∷ []))) in
+          inl (taken, rest ++ b ∷ [], record { parts = ap (λ (x : List ℕ). x ++ b ∷ []) h.parts ∙ append_assoc (text_taken taken) rest (b ∷ []); lines = h.lines; begun = more })
+    ]
 
 one_more : (prefix : List ℕ) (taken : Taken) (rest : List ℕ) (b : ℕ) → Holds prefix taken rest → OneMore prefix taken rest b
 one_more prefix (Whole map es) rest b h = inr (After, refl)
-one_more prefix taken rest b h = in_line (b == LINE_FEED) (length rest == LONGEST_LINE - 1) prefix taken rest b refl refl tt h
+one_more prefix taken rest b h =
+    elim (cases_eq b LINE_FEED) [
+      | inl lf ↦ at_end prefix taken rest b h lf
+      | inr other ↦ in_line prefix taken rest b tt h other
+    ]
 
 -- the text may stand, or a byte stops it
 abbrev pub Judged : List ℕ → Type 0

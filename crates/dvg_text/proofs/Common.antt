@@ -1,11 +1,11 @@
 -- The names that these proofs share, passed on from one place, the most cited first. Declares nothing.
-pub use Rattle.std.proofs.Common.{◌≢◌, append_assoc, eqb, ltb, leb, map, replicate, get_or-drop, drop-cons, length-drop, lit<, lit≤, drop_of_length-le, w64, Result, Err, Ok}
-pub use Rattle.std.specs.Prelude.{slice_index, decimal, codes, nat_le, pos, neg_ℤ, negsuc, ℤ, OnErr, count_by, int_le}
+pub use Rattle.std.proofs.Common.{◌≢◌, append_assoc, eqb, ltb, leb, map, replicate, drop-cons, length-drop, lit<, lit≤, drop_of_length-le, w64, Result, Err, Ok}
+pub use Rattle.std.specs.Prelude.{decimal, codes, nat_le, pos, neg_ℤ, negsuc, ℤ, OnErr, count_by, int_le}
 pub use Rattle.std.proofs.lemmas.List.{append-nil, length-append, take-append-drop, length-map, take-take, get_or-take, length-replicate, nil_from_length, take-append-le, take_rest}
 pub use Rattle.std.specs.Str.Parse.{AllDigits, digits_value}
 pub use Rattle.std.proofs.lemmas.Option.{none-some, cond_some, some_pair_parts, same_Some, option_and_then_some}
 pub use Rattle.std.proofs.lemmas.Fmt.{decimal_is_IsNumeral, decimal-digits_value, length-decimal-le, decimal_digit, decimal-digits_of}
-pub use Rattle.std.proofs.lemmas.Bool.{eqb-true, agree_below_at, and_parts}
+pub use Rattle.std.proofs.lemmas.Bool.{cases_lt, eqb-true, agree_below_at, and_parts}
 pub use Rattle.std.specs.List.{prefix_len, flat_map, join_with_byte}
 pub use Rattle.std.proofs.lemmas.Str.Parse.{digit_from_value, digits_value_short, IsNumeralModel}
 pub use Rattle.std.specs.Option.{option_map, option_map_or, option_or}

@@ -12,15 +12,6 @@ other x = leb 10 ((x + 208) % 256)
 is_other : (x : ℕ) → x < 256 → other x ≡ not (ltb (digit_value x) 10)
 is_other x lt = agree_below_at other (λ y. not (ltb (digit_value y) 10)) 256 x refl lt
 
--- all are bytes
-abbrev pub AllBytes : List ℕ → Type 0
-AllBytes [] = Unit {0}
-AllBytes (x ∷ xs) = (x < 256) × AllBytes xs
-
-pub bytes_of : (xs : List ℕ) → ((k : ℕ) → get_or xs k 0 < 256) → AllBytes xs
-bytes_of [] h = tt
-bytes_of (x ∷ xs) h = (h 0, bytes_of xs (λ k. h (suc k)))
-
 -- before the first other byte there are digits alone
 abbrev run_len : List ℕ → ℕ
 run_len xs = prefix_len (λ x. not (other x)) xs
@@ -32,9 +23,9 @@ step : (t : Bool) (x : ℕ) (xs : List ℕ) → x < 256 → other x ≡ t → Is
 step true x xs lt e rest = (tt, λ small. absurd (grind (arith, nat_tests, is_other x lt, e)))
 step false x xs lt e rest = rw (one-add (run_len xs)) ((grind (arith, nat_tests, is_other x lt, e), rest.0), rest.1)
 
-pub run : (xs : List ℕ) → AllBytes xs → IsRun xs (run_len xs)
+pub run : (xs : List ℕ) → ((k : ℕ) → get_or xs k 0 < 256) → IsRun xs (run_len xs)
 run [] h = (tt, tt)
-run (x ∷ xs) h = step (other x) x xs h.0 refl (run xs h.1)
+run (x ∷ xs) h = step (other x) x xs (h 0) refl (run xs (λ k. h (suc k)))
 
 -- ---- the mask of a load
 

@@ -1,7 +1,11 @@
 -- The number that digits in the bytes of a word write.
-use Rattle.dvg_text.proofs.Common.{◌≡◌, ℕ, zero, suc, ◌+◌, ◌-◌, ◌*◌, ◌/◌, ◌%◌, ◌^◌, ◌<◌, ◌≤◌, List, [], ◌∷◌, ◌++◌, map, replicate, length, length-append, take, drop, get_or, subst, get_or-drop, drop-cons, length-drop, refl, sym, ap, ◌∙◌, arith, digit_value, AllDigits, digits_value, take-take, length-take-le, get_or-take, length-replicate, digits_value_more, digit_value_digit, digit_from_value, digits_value_short, NoDigitFirst, rules, common_steps, and_block, and_mask}
+use Rattle.std.specs.Str.Parse.{digits_value_after}
+use Rattle.dvg_text.proofs.Common.{take-add, ◌≡◌, ℕ, zero, suc, ◌+◌, ◌-◌, ◌*◌, ◌/◌, ◌%◌, ◌^◌, ◌<◌, ◌≤◌, List, [], ◌∷◌, ◌++◌, map, replicate, length, length-append, take, drop, subst, drop-cons, length-drop, refl, sym, ap, ◌∙◌, arith, digit_value, AllDigits, digits_value, take-take, length-take-le, get_or-take, length-replicate, digit_value_digit, digit_from_value, digits_value_short, NoDigitFirst, rules, common_steps, and_block, and_mask}
 use Rattle.std.specs.List.{slice_index}
 use Rattle.std.specs.Int.Bits.{bit_and}
+use Rattle.std.proofs.lemmas.Nat.{mul-mod_first, pow-add}
+use Rattle.std.proofs.Math.Nat.{add-mul, add-mul-mod_self_right, mul_assoc, pow-succ'}
+use Rattle.std.proofs.Math.Pow.{shl_exact}
 use Rattle.dvg_text.proofs.Digits.{own}
 
 -- eight numbers as the bytes of a word, the first in the lowest
@@ -59,9 +63,6 @@ number_is a b c d e f g h w A B C D E F G H is =
 
 -- ---- of bytes
 
-digit : (x : ℕ) → digit_value x < 10 → x ≡ 48 + digit_value x
-digit x h = let d = digit_value_digit x (digit_from_value x h) in omega (arith, d)
-
 -- bytes as a number, the first the lowest
 abbrev word : List ℕ → ℕ
 word [] = 0
@@ -75,11 +76,16 @@ shifted (suc k) v = 256 * shifted k v
 abbrev values : ℕ → List ℕ → ℕ
 values n xs = word (map digit_value (take n xs))
 
-parts : (n : ℕ) (xs : List ℕ) → n ≤ length xs → AllDigits 10 (take n xs)
-    → (word xs ≡ values n xs + word (replicate n 48) + shifted n (word (drop n xs))) × (values n xs < shifted n 1)
-parts zero xs le ds = (omega arith, omega arith)
-parts (suc n) [] le ds = absurd (omega arith)
-parts (suc n) (x ∷ xs) le ds = let r = parts n xs (omega arith) ds.1 in (omega (arith, digit x ds.0, r.0), omega (arith, ds.0, r.1))
+-- with 1 more, what takes 48 off each of so many bytes
+abbrev zeros : ℕ → ℕ
+zeros zero = 0
+zeros (suc k) = 207 + 256 * zeros k
+
+parts : (n j : ℕ) (xs : List ℕ) → n ≤ length xs → AllDigits 10 (take n xs)
+    → (word xs + zeros (n + j) + 1 ≡ values n xs + shifted n (word (drop n xs) + zeros j + 1)) × (values n xs < shifted n 1)
+parts zero j xs le ds = (omega (arith, ap zeros {x = 0 + j} {y = j} (omega arith)), omega arith)
+parts (suc n) j [] le ds = absurd (omega arith)
+parts (suc n) j (x ∷ xs) le ds = let r = parts n j xs (omega arith) ds.1 in (omega (arith, digit_value_digit x (digit_from_value x ds.0), r.0, ap zeros {x = suc n + j} {y = suc (n + j)} (omega arith)), omega (arith, ds.0, r.1))
 
 abbrev little : List ℕ → ℕ
 little xs = slice_index xs 0 + slice_index xs 1 * 256 + slice_index xs 2 * 65536 + slice_index xs 3 * 16777216 + slice_index xs 4 * 4294967296
@@ -94,17 +100,19 @@ Zeros = 14974415777481871312
 abbrev moved : ℕ → ℕ → ℕ
 moved count w = (w + Zeros) % 2 ^ 64 * 2 ^ (64 - 8 * count) % 2 ^ 64
 
+shifted_is : (k j v : ℕ) → j ≡ 8 * k → shifted k v ≡ v * 2 ^ j
+shifted_is zero j v is = rw is (omega arith)
+shifted_is (suc k) j v is = let pow : 2 ^ j ≡ 256 * 2 ^ (8 * k) = ap (λ (i : ℕ). 2 ^ i) {y = 8 + 8 * k} (omega (arith, is)) ∙ pow-add 2 8 (8 * k) in rw pow (omega (arith, shifted_is k (8 * k) v refl))
+
 -- the digits, moved up behind zeros
-moved_is : (k v r w : ℕ) → 1 ≤ k → k ≤ 8 → v < shifted k 1 → w ≡ v + word (replicate k 48) + shifted k r → moved k w ≡ shifted (8 - k) v
-moved_is (suc zero) v r w some few lt is = omega arith
-moved_is (suc (suc zero)) v r w some few lt is = omega arith
-moved_is (suc (suc (suc zero))) v r w some few lt is = omega arith
-moved_is (suc (suc (suc (suc zero)))) v r w some few lt is = omega arith
-moved_is (suc (suc (suc (suc (suc zero))))) v r w some few lt is = omega arith
-moved_is (suc (suc (suc (suc (suc (suc zero)))))) v r w some few lt is = omega arith
-moved_is (suc (suc (suc (suc (suc (suc (suc zero))))))) v r w some few lt is = omega arith
-moved_is (suc (suc (suc (suc (suc (suc (suc (suc zero)))))))) v r w some few lt is = omega arith
-moved_is k v r w some few lt is = absurd (omega arith)
+moved_is : (k v t w : ℕ) → k ≤ 8 → v < shifted k 1 → w + Zeros ≡ v + shifted k t → moved k w ≡ shifted (8 - k) v
+moved_is k v t w few lt is =
+    let a : ℕ = 8 * k in
+    let b : ℕ = 64 - 8 * k in
+    let all : 2 ^ a * 2 ^ b ≡ 2 ^ 64 = sym (pow-add 2 a b) ∙ ap (λ (i : ℕ). 2 ^ i) {y = 64} (omega arith) in
+    let spread : (v + t * 2 ^ a) * 2 ^ b ≡ v * 2 ^ b + t * 2 ^ 64 = grind (arith, all) in
+    rw (is, shifted_is k a t refl) (mul-mod_first (v + t * 2 ^ a) (2 ^ b) (2 ^ 64)) ∙ ap (λ (x : ℕ). x % 2 ^ 64) spread ∙ add-mul-mod_self_right (v * 2 ^ b) t (2 ^ 64)
+    ∙ shl_exact a b 64 (omega (arith, lt, shifted_is k a 1 refl)) (omega arith) ∙ sym (shifted_is (8 - k) b v (omega arith))
 
 -- zeros before the digits
 padded : (k : ℕ) (ds : List ℕ) → AllDigits 10 ds → AllDigits 10 (replicate k 48 ++ ds)
@@ -113,62 +121,51 @@ padded zero ds all = (all, refl, refl)
 padded (suc k) ds all = let r = padded k ds all in ((omega arith, r.0), omega (arith, r.1), r.2)
 
 number_of : (xs : List ℕ) (w : ℕ) → length xs ≡ 8 → AllDigits 10 xs → w ≡ word (map digit_value xs) → number w ≡ digits_value 10 xs
-number_of (a ∷ b ∷ c ∷ d ∷ e ∷ f ∷ g ∷ h ∷ []) w long (A, (B, (C, (D, (E, (F, (G, (H, _)))))))) is = grind (arith, (number_is (digit_value a) (digit_value b) (digit_value c) (digit_value d) (digit_value e) (digit_value f) (digit_value g) (digit_value h) w A B C D E F G H (omega arith)), (digit_value a), (digit_value b), (digit_value c), (digit_value d), (digit_value e), (digit_value f), (digit_value g), (digit_value h))
+number_of (a ∷ b ∷ c ∷ d ∷ e ∷ f ∷ g ∷ h ∷ []) w long (A, (B, (C, (D, (E, (F, (G, (H, _)))))))) is = number_is _ _ _ _ _ _ _ _ w A B C D E F G H (omega (arith, is)) ∙ omega arith
 number_of xs w long ds is = absurd (omega arith)
 
 pub value_of : (xs : List ℕ) (count w : ℕ) → length xs ≡ 8 → 1 ≤ count → count ≤ 8 → AllDigits 10 (take count xs) → w ≡ little xs → number (moved count w) ≡ digits_value 10 (take count xs)
 value_of xs count w long some few ds is =
     let p = padded (8 - count) (take count xs) ds in
-    let q = parts count xs (omega arith) ds in
+    let q = parts count (8 - count) xs (omega arith) ds in
+    let all : zeros (count + (8 - count)) ≡ zeros 8 = ap zeros {y = 8} (omega arith) in
     let full : length (replicate (8 - count) 48 ++ take count xs) ≡ 8 = simp (length-append, length-replicate) (omega (arith, length-take-le count xs (omega arith))) in
-    let up = moved_is count (values count xs) (word (drop count xs)) w some few q.1 (is ∙ little_is xs long ∙ q.0) in
+    let up = moved_is count (values count xs) (word (drop count xs) + zeros (8 - count) + 1) w few q.1 (omega (arith, is, little_is xs long, q.0, all)) in
     number_of (replicate (8 - count) 48 ++ take count xs) (moved count w) full p.0 (up ∙ sym p.1) ∙ p.2
 
 -- ---- more than eight digits
 
-pub all_take : (n k : ℕ) (xs : List ℕ) → k ≤ n → AllDigits 10 (take n xs) → AllDigits 10 (take k xs)
-all_take n zero xs le h = tt
-all_take zero (suc k) xs le h = absurd (omega arith)
-all_take (suc n) (suc k) [] le h = tt
-all_take (suc n) (suc k) (x ∷ xs) le h = (h.0, all_take n k xs (omega arith) h.1)
+both_digits : (xs ys : List ℕ) → AllDigits 10 (xs ++ ys) → AllDigits 10 xs × AllDigits 10 ys
+both_digits [] ys h = (tt, h)
+both_digits (x ∷ xs) ys h = let r = both_digits xs ys h.1 in ((h.0, r.0), r.1)
 
-pub all_drop : (n k : ℕ) (xs : List ℕ) → AllDigits 10 (take (k + n) xs) → AllDigits 10 (take n (drop k xs))
-all_drop n zero xs h = subst (λ (m : ℕ). AllDigits 10 (take m xs)) {y = n} (omega arith) h
-all_drop zero (suc k) [] h = tt
-all_drop (suc n) (suc k) [] h = tt
-all_drop n (suc k) (x ∷ xs) h =
-    let more : AllDigits 10 (take (suc (k + n)) (x ∷ xs)) = subst (λ (m : ℕ). AllDigits 10 (take m (x ∷ xs))) {y = suc (k + n)} (omega arith) h in
-    all_drop n k xs more.1
+-- digits after a number
+after : (n : ℕ) (ds : List ℕ) → digits_value_after 10 n ds ≡ n * 10 ^ length ds + digits_value 10 ds
+after n [] = omega arith
+after n (d ∷ ds) =
+    let p : ℕ = 10 ^ length ds in
+    omega (arith, after (n * 10 + digit_value d) ds, after (0 * 10 + digit_value d) ds, add-mul (n * 10) (digit_value d) p, mul_assoc n 10 p, ap (λ (x : ℕ). n * x) (pow-succ' 10 (length ds)))
 
-one_more : (xs : List ℕ) (i m : ℕ) → i < length xs → m ≡ i + 1 → digits_value 10 (take m xs) ≡ digits_value 10 (take i xs) * 10 + digit_value (get_or xs i 0)
-one_more xs i m lt e = ap (λ (j : ℕ). digits_value 10 (take j xs)) e ∙ digits_value_more 10 xs i lt
-
--- the number of digits after which there are more, all 0
-abbrev tenfold : ℕ → ℕ → ℕ
-tenfold zero v = v
-tenfold (suc n) v = 10 * tenfold n v
-
--- digits after some others
-more : (n k : ℕ) (xs : List ℕ) → k + n ≤ length xs → digits_value 10 (take (k + n) xs) ≡ tenfold n (digits_value 10 (take k xs)) + digits_value 10 (take n (drop k xs))
-more zero k xs le = ap (λ (m : ℕ). digits_value 10 (take m xs)) {y = k} (omega arith) ∙ omega arith
-more (suc n) k xs le =
-    let longer = one_more xs (k + n) (k + suc n) (omega arith) (omega arith) in
-    let one = one_more (drop k xs) n (suc n) (omega (arith, length-drop k xs)) (omega arith) in
-    omega (arith, longer, one, ap digit_value (get_or-drop k xs n 0), more n k xs (omega arith))
-
-pub eight_more : (k : ℕ) (xs : List ℕ) → k + 8 ≤ length xs → digits_value 10 (take (k + 8) xs) ≡ digits_value 10 (take k xs) * 100000000 + digits_value 10 (take 8 (drop k xs))
-eight_more k xs le = more 8 k xs le ∙ omega arith
+after_both : (n : ℕ) (xs ys : List ℕ) → digits_value_after 10 n (xs ++ ys) ≡ digits_value_after 10 n xs * 10 ^ length ys + digits_value 10 ys
+after_both n [] ys = after n ys
+after_both n (x ∷ xs) ys = after_both (n * 10 + digit_value x) xs ys
 
 pub first_digits : (n : ℕ) (xs ys : List ℕ) → n ≤ 8 → ys ≡ take 8 (drop 0 xs) → take n ys ≡ take n xs
 first_digits n xs ys le e = ap (take n) e ∙ take-take n 8 xs le
 
-pub small : (n : ℕ) (xs : List ℕ) → n ≤ 8 → n ≤ length xs → AllDigits 10 (take n xs) → digits_value 10 (take n xs) < 100000000
-small n xs le within h = digits_value_short own (take n xs) 8 h (omega (arith, length-take-le n xs within))
+-- the first of some digits, and the last eight
+pub halves : (count : ℕ) (xs a b : List ℕ) → 8 ≤ count → count ≤ 16 → count ≤ length xs → AllDigits 10 (take count xs) → a ≡ take 8 (drop 0 xs) → b ≡ take 8 (drop (count - 8) xs)
+    → AllDigits 10 (take (count - 8) a) × AllDigits 10 (take 8 b) × (digits_value 10 (take (count - 8) a) < 100000000) × (digits_value 10 (take 8 b) < 100000000)
+    × (digits_value 10 (take count xs) ≡ digits_value 10 (take (count - 8) a) * 100000000 + digits_value 10 (take 8 b))
+halves count xs a b more few le h is_a is_b =
+    let k : ℕ = count - 8 in
+    let whole : take count xs ≡ take k a ++ take 8 b = ap (λ (n : ℕ). take n xs) {y = k + 8} (omega arith) ∙ take-add k 8 xs ∙ rw (first_digits k xs a (omega arith) is_a, is_b, take-take 8 8 (drop k xs) (omega arith)) refl in
+    let d = both_digits (take k a) (take 8 b) (subst (AllDigits 10) whole h) in
+    let eight : length (take 8 b) ≡ 8 = rw is_b (grind (arith, take-take, length-take-le, length-drop)) in
+    let short : length (take k a) ≤ 8 = rw is_a (grind (arith, take-take, length-take-le)) in
+    (d.0, d.1, digits_value_short own (take k a) 8 d.0 short, digits_value_short own (take 8 b) 8 d.1 (omega (arith, eight)), ap (digits_value 10) whole ∙ rw eight at (after_both 0 (take k a) (take 8 b)))
 
 -- ---- the digits among the first sixteen bytes
-
-pub window_digits : (n : ℕ) (xs : List ℕ) → n ≤ 16 → AllDigits 10 (take n (take 16 xs)) → AllDigits 10 (take n xs)
-window_digits n xs le h = subst (AllDigits 10) (take-take n 16 xs le) h
 
 pub window_ends : (n : ℕ) (xs : List ℕ) → 16 ≤ length xs → n < 16 → NoDigitFirst (drop n (take 16 xs)) → NoDigitFirst (drop n xs)
 window_ends n xs long lt h = grind (arith, (length-take-le 16 xs long), (get_or-take 16 xs n 0 lt), drop-cons, digit_value)

@@ -1,5 +1,5 @@
 -- Tokens of digits, byte by byte.
-use Rattle.dvg_text.proofs.Common.{◌≡◌, ℕ, zero, suc, ◌+◌, ◌-◌, ◌*◌, ◌^◌, ◌<◌, ◌≤◌, List, [], ◌∷◌, length, get_or, take, refl, sym, ap, ◌∙◌, arith, add-one, decimal, nat_lt, nat_tests, digit_value, AllDigits, digits_value, digit_value_digit, IsNumeralModel, digits_value_short, digits_value-lt, digits_value_more, decimal_is_IsNumeral, decimal-digits_value, length-decimal-le, MOST_MAGNITUDE, rules, common_steps}
+use Rattle.dvg_text.proofs.Common.{decimal_digit, ◌≡◌, ℕ, zero, suc, ◌+◌, ◌-◌, ◌*◌, ◌^◌, ◌<◌, ◌≤◌, List, [], ◌∷◌, length, get_or, take, refl, sym, ap, ◌∙◌, arith, add-one, decimal, nat_lt, nat_tests, digit_value, AllDigits, digits_value, digit_value_digit, IsNumeralModel, digits_value_short, digits_value-lt, digits_value_more, decimal_is_IsNumeral, decimal-digits_value, length-decimal-le, MOST_MAGNITUDE, rules, common_steps}
 use Rattle.dvg_text.proofs.FieldValues.{first_digit}
 
 pub own : IsNumeralModel (λ ds. AllDigits 10 ds) (digits_value 10)
@@ -27,3 +27,9 @@ spells ds h some z le = sym (decimal-digits_value own ds h some z (omega (arith,
 
 pub same_decimal : (m n : ℕ) → m < 2 ^ 64 → n < 2 ^ 64 → decimal m ≡ decimal n → m ≡ n
 same_decimal m n h k e = sym (decimal_is_IsNumeral m h).1 ∙ ap (digits_value 10) e ∙ (decimal_is_IsNumeral n k).1
+
+-- a number above 0 does not begin with 0
+pub not_zero : (n : ℕ) (ds : List ℕ) → 1 ≤ n → n ≤ MOST_MAGNITUDE → ds ≡ decimal n → get_or ds 0 0 ≡ 48 → ⊥
+not_zero n [] some le e z = omega arith
+not_zero n (c ∷ []) some le e z = let same = same_decimal n 0 (omega arith) (omega arith) (sym e ∙ ap (λ (x : ℕ). x ∷ []) z ∙ sym (decimal_digit 0 (omega arith))) in omega (arith, same)
+not_zero n (c ∷ d ∷ ds) some le e z = let one = no_zero (c ∷ d ∷ ds) n le e z in omega arith

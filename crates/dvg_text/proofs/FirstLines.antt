@@ -1,9 +1,9 @@
 -- The lines before the entries: which map they say, and that they say one.
-use Rattle.dvg_text.proofs.Common.{◌≡◌, ◌≢◌, ℕ, ◌-◌, ◌≤◌, ◌⊎◌, inl, inr, Bool, true, false, if◌then◌else◌, List, [], ◌∷◌, ◌++◌, length, get_or, Option, Some, None, IfNone, refl, sym, ap, subst, ◌∙◌, arith, lit<, flat_map, nat_le, codes, append-nil, and_parts, nat_tests, some_pair_parts, none-some, MemoryMap, IsMap, asteroids, is_asteroids, LINE_FEED, ADDRESS_END, SPACE, address_token, first_version_line, second_version_line, rom_line, heading, ended, begun_with, Without, IsElsewhere, rom_at, nothing_left, append_assoc, Entry, entry_line, flat_map-append}
+use Rattle.dvg_text.proofs.Common.{past, ◌≡◌, ◌≢◌, ℕ, ◌-◌, ◌≤◌, ◌⊎◌, inl, inr, Bool, true, false, if◌then◌else◌, List, [], ◌∷◌, ◌++◌, length, get_or, Option, Some, None, refl, sym, ap, subst, ◌∙◌, arith, lit<, flat_map, nat_le, codes, append-nil, and_parts, nat_tests, some_pair_parts, none-some, MemoryMap, IsMap, asteroids, is_asteroids, LINE_FEED, ADDRESS_END, SPACE, address_token, first_version_line, second_version_line, rom_line, heading, ended, begun_with, Without, IsElsewhere, rom_at, nothing_left, append_assoc, Entry, entry_line, flat_map-append}
 use Rattle.dvg_text.proofs.Leading.{Text}
 use Rattle.dvg_text.proofs.Graphics.{line_free, graphic_hex}
-use Rattle.dvg_text.proofs.Steps.{past_takes, past_again, address_found, address_spelled}
-use Rattle.dvg_text.proofs.WholeLines.{bind_then, all_taken}
+use Rattle.dvg_text.proofs.Steps.{read_then, past_takes, address_found, address_spelled}
+use Rattle.dvg_text.proofs.WholeLines.{all_taken}
 
 pub asteroids_is : (m : MemoryMap) → is_asteroids m ≡ true → m ≡ asteroids
 asteroids_is m h = grind (arith, and_parts, asteroids, nat_tests)
@@ -16,15 +16,11 @@ map_of p = record { rom_first = p.0; rom_last = p.1 }
 pub rom_found : (bytes : Text) (p : ℕ × ℕ) → nothing_left (rom_at bytes) ≡ Some p → bytes ≡ rom_line (map_of p)
 unfolding rom_at
 rom_found bytes p e =
-    bind_then (all_taken (rom_at bytes) p e) (λ s1 e1 r1.
-    bind_then r1 (λ x e2 r2.
-    bind_then r2 (λ s2 e3 r3.
-    bind_then r3 (λ y e4 r4.
+    read_then (all_taken (rom_at bytes) p e) (past_takes (codes "rom ") bytes) (λ s1 q1 r1.
+    read_then r1 (address_found 0 (ADDRESS_END - 1) s1 (omega arith)) (λ x q2 r2.
+    read_then r2 (past_takes (codes " ") x.1) (λ s2 q3 r3.
+    read_then r3 (address_found 0 (ADDRESS_END - 1) s2 (omega arith)) (λ y q4 r4.
     let same = some_pair_parts (x.0, y.0) p y.1 [] r4 in
-    let q1 = past_takes (codes "rom ") bytes s1 e1 in
-    let q2 = address_found 0 (ADDRESS_END - 1) s1 x.0 x.1 (omega arith) e2 in
-    let q3 = past_takes (codes " ") x.1 s2 e3 in
-    let q4 = address_found 0 (ADDRESS_END - 1) s2 y.0 y.1 (omega arith) e4 in
     let parts : bytes ≡ rom_line (map_of (x.0, y.0)) = rw (q1, q2.0, q3, q4.0, same.1) (joined (address_token x.0) (address_token y.0)) in
     parts ∙ ap (λ (q : ℕ × ℕ). rom_line (map_of q)) same.0))))
   where
@@ -32,16 +28,12 @@ rom_found bytes p e =
     joined a b = simp append-nil
 
 pub rom_again : (map : MemoryMap) → IsMap map → nothing_left (rom_at (rom_line map)) ≡ Some (map.rom_first, map.rom_last)
-unfolding rom_at
+unfolding rom_at past
 rom_again map is =
-    let first : Text = address_token map.rom_first in
-    let last : Text = address_token map.rom_last in
-    let line : rom_line map ≡ codes "rom " ++ (first ++ (codes " " ++ (last ++ []))) = simp append-nil in
+    let last : Text = address_token map.rom_last ++ [] in
     rw (
-      line,
-      past_again (codes "rom ") (first ++ (codes " " ++ (last ++ []))),
-      address_spelled 0 (ADDRESS_END - 1) map.rom_first (codes " " ++ (last ++ [])) (omega arith) (omega arith) (omega (arith, is.ordered, is.inside)),
-      past_again (codes " ") (last ++ []),
+      ← append-nil (address_token map.rom_last),
+      address_spelled 0 (ADDRESS_END - 1) map.rom_first (codes " " ++ last) (omega arith) (omega arith) (omega (arith, is.ordered, is.inside)),
       address_spelled 0 (ADDRESS_END - 1) map.rom_last [] (omega arith) (omega arith) (omega (arith, is.inside)),
     ) refl
 
@@ -78,9 +70,6 @@ elsewhere_or line = by (nothing_left (rom_at line)) refl
     by None e = inr (nowhere_said line (sym e))
     by (Some p) e = elsewhere_by line p (is_asteroids (map_of p)) e refl (map_or (map_of p))
 
-pub if_none : {X P : Type 0} (r : Option X) → P → IfNone r P
-if_none r p = grind (arith)
-
 -- ---- its bytes
 
 pub version_free : Without LINE_FEED first_version_line × Without LINE_FEED second_version_line
@@ -103,26 +92,17 @@ heads here map = if here then first_version_line ∷ [] else second_version_line
 
 heads_by : (s t : Bool) (m n : MemoryMap) (xs ys : List Text) → is_asteroids m ≡ s → is_asteroids n ≡ t → IsMap m → IsMap n → heads s m ++ xs ≡ heads t n ++ ys → (m ≡ n) × (xs ≡ ys)
 heads_by true true m n xs ys p q h k e = (asteroids_is m p ∙ sym (asteroids_is n q), (cons_parts first_version_line first_version_line xs ys e).1)
-heads_by true false m n xs ys p q h k e = absurd (versions_differ (cons_parts first_version_line second_version_line xs (rom_line n ∷ ys) e).0)
-heads_by false true m n xs ys p q h k e = absurd (versions_differ (sym (cons_parts second_version_line first_version_line (rom_line m ∷ xs) ys e).0))
 heads_by false false m n xs ys p q h k e =
     let r = cons_parts (rom_line m) (rom_line n) xs ys (cons_parts second_version_line second_version_line (rom_line m ∷ xs) (rom_line n ∷ ys) e).1 in
     (same_rom_line m n h k r.0, r.1)
+heads_by s t m n xs ys p q h k e = grind (arith, versions_differ, cons_parts, first_version_line, second_version_line, rom_line)
 
 -- two maps whose first lines begin one list are one
 pub heads_once : (m n : MemoryMap) (xs ys : List Text) → IsMap m → IsMap n → heading m ++ xs ≡ heading n ++ ys → (m ≡ n) × (xs ≡ ys)
 heads_once m n xs ys h k e = heads_by (is_asteroids m) (is_asteroids n) m n xs ys refl refl h k e
 
 pub heads_elsewhere : (map : MemoryMap) → is_asteroids map ≡ false → heading map ≡ second_version_line ∷ rom_line map ∷ []
-heads_elsewhere map is = ap (λ (b : Bool). heads b map) is
-
--- the first of the lines
-pub first_of : (map : MemoryMap) → (rest : List Text) × ((heading map ≡ first_version_line ∷ rest) ⊎ (heading map ≡ second_version_line ∷ rest))
-first_of map = by (is_asteroids map)
-  where
-    by : (b : Bool) → (rest : List Text) × ((heads b map ≡ first_version_line ∷ rest) ⊎ (heads b map ≡ second_version_line ∷ rest))
-    by true = ([], inl refl)
-    by false = (rom_line map ∷ [], inr refl)
+heads_elsewhere map is = rw is refl
 
 -- what follows the first line of version 2
 pub second_of : (map : MemoryMap) (xs more : List Text) → heading map ++ xs ≡ second_version_line ∷ more → (is_asteroids map ≡ false) × (more ≡ rom_line map ∷ xs)

@@ -1,5 +1,5 @@
 -- Lines: a spelled line has no line end inside.
-use Rattle.dvg_text.proofs.Common.{ℕ, ◌/◌, ◌%◌, ◌^◌, ◌<◌, ◌≤◌, List, [], ◌∷◌, ◌++◌, refl, arith, lit≤, codes, decimal, pos, negsuc, true, digit_glyph, AllDigits, join_with_byte, digit_from_value, nat_tests, LINE_FEED, SPACE, Key, End, LitBox, Entry, IsKey, IsEnd, IsBox, IsEntry, address_token, key_token, end_tokens, box_tokens, entry_tokens, Without}
+use Rattle.dvg_text.proofs.Common.{AllByRecursion, ℕ, ◌/◌, ◌%◌, ◌^◌, ◌<◌, ◌≤◌, List, [], ◌∷◌, ◌++◌, refl, arith, lit≤, codes, decimal, pos, negsuc, true, digit_glyph, AllDigits, join_with_byte, digit_from_value, nat_tests, LINE_FEED, SPACE, Key, End, LitBox, Entry, IsKey, IsEnd, IsBox, IsEntry, address_token, key_token, end_tokens, box_tokens, entry_tokens, Without}
 use Rattle.dvg_text.proofs.FieldValues.{first_digit}
 use Rattle.dvg_text.proofs.Leading.{Text}
 
@@ -9,12 +9,11 @@ Graphic [] = Unit {0}
 Graphic (b ∷ bs) = (SPACE < b) × Graphic bs
 
 abbrev pub Graphics : List Text → Type 0
-Graphics [] = Unit {0}
-Graphics (w ∷ ws) = Graphic w × Graphics ws
+Graphics ws = AllByRecursion Graphic ws
 
-Graphics-append : (ws vs : List Text) → Graphics ws → Graphics vs → Graphics (ws ++ vs)
-Graphics-append [] vs h k = k
-Graphics-append (w ∷ ws) vs h k = (h.0, Graphics-append ws vs h.1 k)
+pub each_append : {X : Type 0} (P : X → Type 0) (xs ys : List X) → AllByRecursion P xs → AllByRecursion P ys → AllByRecursion P (xs ++ ys)
+each_append P [] ys h k = k
+each_append P (x ∷ xs) ys h k = (h.0, each_append P xs ys h.1 k)
 
 pub graphic_without : (c : ℕ) (w : Text) → c ≤ SPACE → Graphic w → Without c w
 graphic_without c [] le h = tt
@@ -42,11 +41,8 @@ graphics_end e h = grind (arith, pos, graphic_decimal, negsuc)
 graphics_box : (b : LitBox) → IsBox b → Graphics (box_tokens b)
 graphics_box b h = grind (arith, pos, graphic_decimal, negsuc)
 
-five : (a b c d e : ℕ) → SPACE < a → SPACE < b → SPACE < c → SPACE < d → SPACE < e → Graphic (a ∷ b ∷ c ∷ d ∷ e ∷ [])
-five a b c d e p q r s t = (p, (q, (r, (s, (t, tt)))))
-
 pub graphics_entry : (first last : ℕ) (e : Entry) → IsEntry first last e → Graphics (entry_tokens e)
-graphics_entry first last e h = grind (arith, codes, address_token, key_token, end_tokens, five, graphic_hex, graphic_key, graphics_end, box_tokens, graphics_box, decimal, graphic_decimal)
+graphics_entry first last e h = grind (arith, codes, address_token, key_token, end_tokens, graphic_hex, graphic_key, graphics_end, box_tokens, graphics_box, decimal, graphic_decimal)
 
 pub Without-append : (c : ℕ) (xs ys : Text) → Without c xs → Without c ys → Without c (xs ++ ys)
 Without-append c [] ys h k = k

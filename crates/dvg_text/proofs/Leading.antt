@@ -1,7 +1,6 @@
 -- The digits that bytes begin with.
-use Rattle.dvg_text.proofs.Common.{◌≡◌, ℕ, ◌+◌, ◌^◌, ◌<◌, ◌≤◌, List, [], ◌∷◌, ◌++◌, length, take, drop, Some, None, refl, sym, ap, subst, ◌∙◌, arith, decimal, get_or, drop-cons, drop_of_length-le, AllDigits, digits_value, append-nil, nil_from_length, take-append-drop, length-take-le, digit_from_value, MOST_MAGNITUDE, natural_in, NoDigitFirst}
-use Rattle.dvg_text.proofs.NaturalNumbers.{natural_some, natural_none}
-use Rattle.dvg_text.proofs.FieldValues.{first_digit}
+use Rattle.dvg_text.proofs.Common.{◌≡◌, ℕ, ◌+◌, ◌^◌, ◌<◌, ◌≤◌, List, [], ◌∷◌, ◌++◌, length, take, drop, Some, None, refl, sym, ap, subst, ◌∙◌, arith, decimal, get_or, drop_of_length-le, AllDigits, digits_value, append-nil, nil_from_length, take-append-drop, length-take-le, MOST_MAGNITUDE, natural_in, NoDigitFirst}
+use Rattle.dvg_text.proofs.FieldValues.{natural_some, natural_none, first_digit}
 use Rattle.dvg_text.proofs.Digits.{same_decimal, spells, below, no_zero, not_long}
 
 abbrev pub Text : Type 0
@@ -32,9 +31,6 @@ zero_led count bytes more within z all stop n rest le free e = grind (arith, (le
 pub digits_lead : (count number : ℕ) (bytes : Text) → AllDigits 10 (take count bytes) → number ≡ digits_value 10 (take count bytes) → count ≤ 13 → count ≤ length bytes → NoDigitFirst (drop count bytes) → 0 < count → (get_or bytes 0 0 ≡ 48 → count ≤ 1)
     → (bytes ≡ decimal number ++ drop count bytes) × (number < 10 ^ 13) × NoDigitFirst (drop count bytes)
 digits_lead count number bytes all value few within stop some short = grind (arith, length-take-le, decimal, digits_value, spells, below, take-append-drop)
-
-pub stops : (bytes : Text) (i c : ℕ) → i < length bytes → c ≡ get_or bytes i 0 → ((48 ≤ c) × (c ≤ 57) → ⊥) → NoDigitFirst (drop i bytes)
-stops bytes i c lt e out = rw (drop-cons bytes i 0 lt) (λ h. let r = digit_from_value (get_or bytes i 0) h in out (omega arith, omega arith))
 
 pub ends : (bytes : Text) (i : ℕ) → length bytes ≤ i → NoDigitFirst (drop i bytes)
 ends bytes i le = rw (drop_of_length-le bytes le) tt

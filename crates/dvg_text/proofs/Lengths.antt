@@ -1,5 +1,6 @@
 -- How long a line is.
 use Rattle.dvg_text.proofs.Common.{◌≡◌, ℕ, suc, ◌+◌, ◌≤◌, List, [], ◌∷◌, ◌++◌, length, arith, w64, MOST_ENTRIES, SPACE, codes, decimal, ℤ, pos, negsuc, signed_decimal, join_with_byte, length-append, length-decimal-le, ints, Key, End, LitBox, Entry, IsNumber, IsKey, IsEnd, IsBox, IsEntry, key_token, end_tokens, box_tokens, entry_tokens, entry_line, done_line}
+use Rattle.std.proofs.Math.Nat.{le_trans}
 use mir.Val.{SFits}
 
 -- the bytes of tokens, each with one more
@@ -43,10 +44,7 @@ length_entry first last e h =
     let m : weight (end_tokens e.stop ++ codes "box" ∷ box_tokens e.lit) ≤ 98 = omega (arith, weight-append (end_tokens e.stop) (codes "box" ∷ box_tokens e.lit), end_le e.stop h.stop, box_le e.lit h.lit) in
     let all = weight-append (end_tokens e.stop ++ codes "box" ∷ box_tokens e.lit) back in
     let t : weight (entry_tokens e) ≤ 148 = omega arith in
-    at_most (length (entry_line e)) (weight (entry_tokens e)) (join_le (entry_tokens e)) t
-  where
-    at_most : (a b : ℕ) → a ≤ b → b ≤ 148 → a ≤ 148
-    at_most a b h k = omega arith
+    le_trans (join_le (entry_tokens e)) t
 
 pub length_done : (n : ℕ) → n ≤ MOST_ENTRIES → length (done_line n) ≤ 10
 length_done n h = omega (arith, length-decimal-le 4 n (omega arith) (omega arith) (omega arith), join_le (codes "done" ∷ decimal n ∷ []))

@@ -1,5 +1,4 @@
 pub mod Common
-pub mod NaturalNumbers
 pub mod Cutting
 pub mod DigitLanes
 pub mod DigitSums

@@ -1,10 +1,7 @@
 -- A text is cut into lines in one way, and says one thing.
-use Rattle.dvg_text.proofs.Common.{◌≡◌, ℕ, ◌<◌, ◌≤◌, List, [], ◌∷◌, ◌++◌, length, Bool, true, false, map, refl, sym, subst, ◌∙◌, append_assoc, arith, inl, inr, ◌⊎◌, AllByRecursion, length-append, nat_tests, MemoryMap, IsMap, MOST_ENTRIES, LONGEST_LINE, LINE_FEED, ADDRESS_END, Entry, IsEntry, IsCertificate, StandsAfter, entry_line, first_version_line, second_version_line, rom_line, heading, done_line, IsWrong, IsLine, IsElsewhere, Nothing, Versioned, Begun, Whole, Taken, Without, IsTaken, Line, EntryLine, DoneLine, CertWhy, Form, Order, Count, Unended, After, TooLong, Memory, small_map, each_mid, rising_mid}
-use Rattle.dvg_text.proofs.FirstLines.{cons_parts, heads_once, first_of, second_of}
+use Rattle.dvg_text.proofs.Common.{is_asteroids, ◌≡◌, ℕ, ◌<◌, ◌≤◌, List, [], ◌∷◌, ◌++◌, length, Bool, true, false, map, refl, sym, subst, ◌∙◌, append_assoc, arith, inl, inr, ◌⊎◌, AllByRecursion, length-append, nat_tests, MemoryMap, MOST_ENTRIES, LONGEST_LINE, LINE_FEED, ADDRESS_END, Entry, IsEntry, IsCertificate, StandsAfter, entry_line, first_version_line, second_version_line, rom_line, heading, done_line, IsWrong, IsLine, IsElsewhere, Nothing, Versioned, Begun, Whole, Taken, Without, IsTaken, Line, EntryLine, DoneLine, CertWhy, Form, Order, Count, TooLong, small_map, each_mid, rising_mid}
+use Rattle.dvg_text.proofs.FirstLines.{cons_parts, heads_once, second_of}
 use Rattle.dvg_text.proofs.WholeLines.{line_again}
-
-Text : Type 0
-Text = List ℕ
 
 -- cutting at the first line end
 pub cut_once : (a b c d : List ℕ) → Without LINE_FEED a → Without LINE_FEED c → a ++ LINE_FEED ∷ b ≡ c ++ LINE_FEED ∷ d → (a ≡ c) × (b ≡ d)
@@ -96,16 +93,13 @@ after done map map' es fs more h k e =
       ],
     )
 
-no_cons : (l : List ℕ) (ls : List (List ℕ)) → [] ≡ l ∷ ls → ⊥
-no_cons l ls e = absurd cc
-
 -- no first lines stand alone
 no_heads : (map : MemoryMap) (xs : List (List ℕ)) → [] ≡ heading map ++ xs → ⊥
-no_heads map xs e = grind (arith, first_of, no_cons, first_version_line, second_version_line)
+no_heads map xs e = grind (arith, is_asteroids, first_version_line, second_version_line)
 
 -- the first line of version 2 alone is no first lines
 no_version : (map : MemoryMap) (xs : List (List ℕ)) → second_version_line ∷ [] ≡ heading map ++ xs → ⊥
-no_version map xs e = no_cons (rom_line map) xs (second_of map xs [] (sym e)).1
+no_version map xs e = let none : [] ≡ rom_line map ∷ xs = (second_of map xs [] (sym e)).1 in absurd cc
 
 -- the first lines and entries, with the last line or without
 abbrev pub body : Bool → MemoryMap → List Entry → Taken
@@ -116,18 +110,10 @@ bodies_once : (one other : Bool) (map map' : MemoryMap) (es fs : List Entry) →
 bodies_once one other map map' es fs h k e = grind (arith, after, no_entry_behind, small_map)
 
 pub lines_once : (t u : Taken) → IsTaken t → IsTaken u → lines_of t ≡ lines_of u → t ≡ u
-lines_once Nothing Nothing h k e = refl
-lines_once Nothing Versioned h k e = absurd (no_cons second_version_line [] e)
-lines_once Nothing (Begun map' fs) h k e = absurd (no_heads map' _ e)
-lines_once Nothing (Whole map' fs) h k e = absurd (no_heads map' _ e)
-lines_once Versioned Nothing h k e = absurd (no_cons second_version_line [] (sym e))
-lines_once Versioned Versioned h k e = refl
-lines_once Versioned (Begun map' fs) h k e = absurd (no_version map' _ e)
-lines_once Versioned (Whole map' fs) h k e = absurd (no_version map' _ e)
-lines_once (Begun map es) Nothing h k e = absurd (no_heads map _ (sym e))
-lines_once (Begun map es) Versioned h k e = absurd (no_version map _ (sym e))
-lines_once (Whole map es) Nothing h k e = absurd (no_heads map _ (sym e))
-lines_once (Whole map es) Versioned h k e = absurd (no_version map _ (sym e))
+lines_once Nothing u h k e = grind (arith, no_heads)
+lines_once Versioned u h k e = grind (arith, no_heads, no_version)
+lines_once t Nothing h k e = grind (arith, no_heads)
+lines_once t Versioned h k e = grind (arith, no_version)
 lines_once (Begun map es) (Begun map' fs) h k e = bodies_once false false map map' es fs h k e
 lines_once (Begun map es) (Whole map' fs) h k e = bodies_once false true map map' es fs h k e
 lines_once (Whole map es) (Begun map' fs) h k e = bodies_once true false map map' es fs h k e
@@ -140,41 +126,21 @@ GoesOn Versioned line = (map : MemoryMap) × IsElsewhere map × (line ≡ rom_li
 GoesOn (Begun map es) line = ((e : Entry) × IsLine map.rom_first map.rom_last (EntryLine e) line × StandsAfter es e × (length es < MOST_ENTRIES)) ⊎ IsLine map.rom_first map.rom_last (DoneLine (length es)) line
 GoesOn (Whole map es) line = ⊥
 
--- the line after nothing
-goes_first : (map : MemoryMap) (xs ms : List (List ℕ)) (line : List ℕ) → heading map ++ xs ≡ line ∷ ms → GoesOn Nothing line
-goes_first map xs ms line e = grind (arith, first_of, cons_parts, first_version_line, second_version_line)
-
--- the line after the first one of version 2
-goes_second : (map : MemoryMap) (xs ms : List (List ℕ)) (line : List ℕ) → IsMap map → heading map ++ xs ≡ second_version_line ∷ line ∷ ms → GoesOn Versioned line
-goes_second map xs ms line is e = grind (arith, second_of, cons_parts, rom_line)
-
 none_more : (ls ms : List (List ℕ)) (line : List ℕ) → [] ≡ ls ++ line ∷ ms → ⊥
 none_more [] ms line e = absurd cc
 none_more (l ∷ ls) ms line e = absurd cc
-
--- one line is not the first lines and one more
-one_more_line : (map : MemoryMap) (xs ms : List (List ℕ)) (line : List ℕ) → second_version_line ∷ [] ≡ (heading map ++ xs) ++ line ∷ ms → ⊥
-one_more_line map xs ms line e = no_version map (xs ++ line ∷ ms) (e ∙ append_assoc (heading map) xs (line ∷ ms))
 
 bodies_go : (one other : Bool) (map map' : MemoryMap) (es fs : List Entry) (line : List ℕ) (ms : List (List ℕ)) → IsCertificate map es → IsCertificate map' fs
     → heading map' ++ (entry_lines fs ++ behind other fs) ≡ (heading map ++ (entry_lines es ++ behind one es)) ++ line ∷ ms → GoesOn (body one map es) line
 bodies_go one other map map' es fs line ms h k e = grind (arith, after, append_assoc, done_line, entry_line, one_line, small_map, none_more)
 
 pub goes_on : (t u : Taken) (line : List ℕ) (ms : List (List ℕ)) → IsTaken t → IsTaken u → lines_of u ≡ lines_of t ++ line ∷ ms → GoesOn t line
-goes_on Nothing Nothing line ms h k e = absurd (no_cons line ms e)
-goes_on Nothing Versioned line ms h k e = inr (sym (cons_parts second_version_line line [] ms e).0)
-goes_on Nothing (Begun map' fs) line ms h k e = goes_first map' _ ms line e
-goes_on Nothing (Whole map' fs) line ms h k e = goes_first map' _ ms line e
-goes_on Versioned Nothing line ms h k e = absurd (no_cons second_version_line (line ∷ ms) e)
-goes_on Versioned Versioned line ms h k e = absurd (no_cons line ms (cons_parts second_version_line second_version_line [] (line ∷ ms) e).1)
-goes_on Versioned (Begun map' fs) line ms h k e = goes_second map' _ ms line k.map_is e
-goes_on Versioned (Whole map' fs) line ms h k e = goes_second map' _ ms line k.map_is e
-goes_on (Begun map es) Nothing line ms h k e = absurd (none_more (lines_of (Begun map es)) ms line e)
-goes_on (Begun map es) Versioned line ms h k e = absurd (one_more_line map _ ms line e)
+goes_on Nothing u line ms h k e = grind (arith, is_asteroids, cons_parts, first_version_line, second_version_line)
+goes_on Versioned u line ms h k e = grind (arith, second_of, cons_parts, second_version_line, rom_line)
+goes_on t Nothing line ms h k e = grind (arith, none_more)
+goes_on t Versioned line ms h k e = grind (arith, no_version, append_assoc)
 goes_on (Begun map es) (Begun map' fs) line ms h k e = bodies_go false false map map' es fs line ms h k e
 goes_on (Begun map es) (Whole map' fs) line ms h k e = bodies_go false true map map' es fs line ms h k e
-goes_on (Whole map es) Nothing line ms h k e = absurd (none_more (lines_of (Whole map es)) ms line e)
-goes_on (Whole map es) Versioned line ms h k e = absurd (one_more_line map _ ms line e)
 goes_on (Whole map es) (Begun map' fs) line ms h k e = bodies_go true false map map' es fs line ms h k e
 goes_on (Whole map es) (Whole map' fs) line ms h k e = bodies_go true true map map' es fs line ms h k e
 
@@ -184,21 +150,13 @@ not_both first last e n line small h k = let s = one_line first last line (Entry
 pub same_entry : (first last : ℕ) (e f : Entry) (line : List ℕ) → last < ADDRESS_END → IsLine first last (EntryLine e) line → IsLine first last (EntryLine f) line → e ≡ f
 same_entry first last e f line small h k = let s = one_line first last line (EntryLine e) (EntryLine f) small h k in cc
 
--- what no other reason has, has the form for its reason
-pub only_form : (P : CertWhy → Type 0) → (P Order → ⊥) → (P Count → ⊥) → (P Unended → ⊥) → (P After → ⊥) → (P TooLong → ⊥) → (P Memory → ⊥) → (why : CertWhy) → P why → why ≡ Form
-only_form P order count unended after long memory h7 h = grind (arith)
-
 -- what is wrong may not stand
 pub wrong_goes : (why : CertWhy) (t : Taken) (line : List ℕ) → IsTaken t → IsWrong t line why → GoesOn t line → ⊥
-wrong_goes why (Whole map es) line t w g = g
-wrong_goes why Nothing line t w g = grind (arith, only_form)
-wrong_goes why Versioned line t w g = grind (arith, only_form)
 wrong_goes Form (Begun map es) line t w (inl g) = w (EntryLine g.0) g.1
 wrong_goes Form (Begun map es) line t w (inr g) = w (DoneLine (length es)) g
 wrong_goes Order (Begun map es) line t w (inl g) = w.2 (subst (λ (x : Entry). StandsAfter es x) (same_entry map.rom_first map.rom_last g.0 w.0 line (small_map map t.map_is) g.1 w.1) g.2)
 wrong_goes Order (Begun map es) line t w (inr g) = not_both map.rom_first map.rom_last w.0 (length es) line (small_map map t.map_is) w.1 g
-wrong_goes TooLong (Begun map es) line t w (inl g) = absurd (omega (arith, g.3, w.3))
 wrong_goes TooLong (Begun map es) line t w (inr g) = not_both map.rom_first map.rom_last w.0 (length es) line (small_map map t.map_is) w.1 g
 wrong_goes Count (Begun map es) line t w (inl g) = not_both map.rom_first map.rom_last g.0 w.0 line (small_map map t.map_is) g.1 w.1
 wrong_goes Count (Begun map es) line t w (inr g) = grind (arith, (one_line map.rom_first map.rom_last line (DoneLine w.0) (DoneLine (length es)) (small_map map t.map_is) w.1 g), (small_map map t.map_is))
-wrong_goes why (Begun map es) line t w g = w
+wrong_goes why taken line t w g = grind (arith)

@@ -1,25 +1,22 @@
 -- A text has one answer.
-use Rattle.dvg_text.proofs.Common.{◌≡◌, ◌≢◌, ℕ, ◌-◌, ◌<◌, ◌≤◌, List, [], ◌∷◌, ◌++◌, length, Bool, true, false, refl, sym, ap, subst, ◌∙◌, append_assoc, arith, lit<, inl, inr, ◌⊎◌, decimal, codes, flat_map, AllByRecursion, append-nil, length-append, nat_tests, MemoryMap, is_asteroids, MOST_ENTRIES, LONGEST_LINE, LINE_FEED, Entry, IsEntry, Certificate, IsCertificate, StandsAfter, entry_line, entry_tokens, heading, begun_with, text_of, ended, done_line, Spells, IsRefusal, EndsOpen, StopsAt, IsWrong, Nothing, Versioned, Begun, Whole, Taken, Without, text_taken, line_number, IsTaken, IsUnended, IsRest, Holds, Meets, EntryLine, DoneLine, CertWhy, Form, Order, Count, Unended, After, TooLong, Memory, small_map, each_mid}
+use Rattle.dvg_text.proofs.Common.{◌≡◌, ◌≢◌, ℕ, ◌-◌, ◌<◌, ◌≤◌, List, [], ◌∷◌, ◌++◌, length, Bool, true, false, refl, sym, ap, subst, ◌∙◌, append_assoc, arith, lit<, inl, inr, ◌⊎◌, decimal, codes, flat_map, AllByRecursion, append-nil, length-append, nat_tests, MemoryMap, is_asteroids, MOST_ENTRIES, LONGEST_LINE, LINE_FEED, Entry, IsEntry, Certificate, IsCertificate, StandsAfter, entry_line, entry_tokens, heading, begun_with, text_of, ended, done_line, Spells, IsRefusal, EndsOpen, StopsAt, IsWrong, Nothing, Versioned, Begun, Whole, Taken, Without, text_taken, line_number, IsTaken, IsUnended, IsRest, Holds, Meets, EntryLine, DoneLine, CertWhy, Form, Order, Count, Unended, TooLong, Memory, small_map, each_mid}
 use Rattle.std.proofs.lemmas.Grind.{flat_map-append}
 use Rattle.std.proofs.lemmas.List.Folds.{flat_map-map}
-use Rattle.dvg_text.proofs.Graphics.{line_free, graphics_entry, graphic_decimal}
+use Rattle.dvg_text.proofs.Graphics.{each_append, line_free, graphics_entry, graphic_decimal}
 use Rattle.dvg_text.proofs.Lengths.{length_entry, length_done}
 use Rattle.dvg_text.proofs.FirstLines.{version_free, rom_free}
-use Rattle.dvg_text.proofs.LinesOfTexts.{only_form, cut_once, no_cut, lines_text, Fits, lines_prefix, behind, entry_lines, lines_of, lines_once, goes_on, wrong_goes, same_entry, not_both}
+use Rattle.dvg_text.proofs.Refusals.{rest_free}
+use Rattle.dvg_text.proofs.LinesOfTexts.{cut_once, no_cut, lines_text, Fits, lines_prefix, behind, entry_lines, lines_of, lines_once, goes_on, wrong_goes, same_entry, not_both}
 
 done_free : (n : ℕ) → n ≤ MOST_ENTRIES → Without LINE_FEED (done_line n)
 done_free n h = line_free (codes "done" ∷ decimal n ∷ []) ((lit< tt, (lit< tt, (lit< tt, (lit< tt, tt)))), (graphic_decimal n (omega arith), tt))
-
-fits-append : (ls ms : List (List ℕ)) → AllByRecursion Fits ls → AllByRecursion Fits ms → AllByRecursion Fits (ls ++ ms)
-fits-append [] ms h k = k
-fits-append (l ∷ ls) ms h k = (h.0, fits-append ls ms h.1 k)
 
 entries_fit : (first last : ℕ) (es : List Entry) → AllByRecursion (IsEntry first last) es → AllByRecursion Fits (entry_lines es)
 entries_fit first last [] h = tt
 entries_fit first last (e ∷ es) h = ((line_free (entry_tokens e) (graphics_entry first last e h.0), omega (arith, length_entry first last e h.0)), entries_fit first last es h.1)
 
 body_fits : (done : Bool) (map : MemoryMap) (es : List Entry) → IsCertificate map es → AllByRecursion Fits (heading map ++ (entry_lines es ++ behind done es))
-body_fits done map es h = grind (arith, fits-append, heading, version_free, rom_free, is_asteroids, entry_lines, entries_fit, done_free, length_done)
+body_fits done map es h = grind (arith, (each_append Fits), heading, version_free, rom_free, is_asteroids, entry_lines, entries_fit, done_free, length_done)
 
 pub taken_fits : (t : Taken) → IsTaken t → AllByRecursion Fits (lines_of t)
 taken_fits Nothing h = tt
@@ -42,9 +39,6 @@ taken_lines (Begun map es) = sym (append-nil (begun_with map es)) ∙ body_text 
 taken_lines (Whole map es) = ap (λ (t : List ℕ). begun_with map es ++ t) (sym (append-nil (ended (done_line (length es))))) ∙ body_text map es (done_line (length es) ∷ [])
 taken_lines t = refl
 
-pub rest_free : (t : Taken) (rest : List ℕ) → IsRest t rest → Without LINE_FEED rest × (length rest < LONGEST_LINE)
-rest_free t rest h = grind (arith)
-
 -- a cut at a byte that is not LF, with no LF before it, comes earlier than a cut at an LF
 longer : (a b c d : List ℕ) (x : ℕ) → Without LINE_FEED a → x ≢ LINE_FEED → a ++ x ∷ b ≡ c ++ LINE_FEED ∷ d → length a < length c
 longer [] b [] d x h n e = absurd (n cc)
@@ -65,15 +59,6 @@ holds_once text t u rest rest' h k = same (prefix_of text text [] t u rest rest'
     same ((m ∷ ms), l, r) = absurd (no_cut m (lines_text ms ++ rest') rest (rest_free t rest h.begun).0 (sym (append_assoc m (LINE_FEED ∷ lines_text ms) rest') ∙ sym r ∙ append-nil rest))
 
 same_meets : (t : Taken) (line : List ℕ) (why why' : CertWhy) → IsTaken t → IsWrong t line why → IsWrong t line why' → why ≡ why'
-same_meets Nothing line why why' small h k = grind (arith, only_form)
-same_meets Versioned line why why' small h k = grind (arith, only_form)
-same_meets (Whole map es) line why why' small h k = absurd h
-same_meets (Begun map es) line Unended why' t h k = absurd h
-same_meets (Begun map es) line After why' t h k = absurd h
-same_meets (Begun map es) line Memory why' t h k = absurd h
-same_meets (Begun map es) line why Unended t h k = absurd k
-same_meets (Begun map es) line why After t h k = absurd k
-same_meets (Begun map es) line why Memory t h k = absurd k
 same_meets (Begun map es) line Form Order t h k = absurd (h (EntryLine k.0) k.1)
 same_meets (Begun map es) line Form TooLong t h k = absurd (h (EntryLine k.0) k.1)
 same_meets (Begun map es) line Form Count t h k = absurd (h (DoneLine k.0) k.1)
@@ -86,7 +71,7 @@ same_meets (Begun map es) line TooLong Count t h k = absurd (not_both map.rom_fi
 same_meets (Begun map es) line Count Form t h k = absurd (k (DoneLine h.0) h.1)
 same_meets (Begun map es) line Count Order t h k = absurd (not_both map.rom_first map.rom_last k.0 h.0 line (small_map map t.map_is) k.1 h.1)
 same_meets (Begun map es) line Count TooLong t h k = absurd (not_both map.rom_first map.rom_last k.0 h.0 line (small_map map t.map_is) k.1 h.1)
-same_meets (Begun map es) line why why' t h k = refl
+same_meets taken line why why' t h k = grind (arith)
 
 abbrev pub Stops : Taken → List ℕ → ℕ → CertWhy → Type 0
 Stops t rest b why = ((b ≢ LINE_FEED) × (length rest ≡ LONGEST_LINE - 1) × (why ≡ TooLong)) ⊎ ((b ≡ LINE_FEED) × IsWrong t rest why)
@@ -122,9 +107,6 @@ pub no_meet : (prefix text after : List ℕ) (t u : Taken) (rest rest' : List �
 no_meet prefix text after (Whole map es) u rest rest' b why h k e m = after_not map es u rest rest' after b h.lines k.lines k.begun (prefix_of prefix text (b ∷ after) (Whole map es) u rest rest' h k e)
 no_meet prefix text after t u rest rest' b why h k e m = stops_not t u rest rest' after b why h.lines k.lines h.begun.0 k.begun m (prefix_of prefix text (b ∷ after) t u rest rest' h k e)
 
-fault_is : (why : CertWhy) (text : List ℕ) (line : ℕ) → why ≢ Memory → IsRefusal text line why → ((why ≡ Unended) × EndsOpen text line) ⊎ StopsAt text line why
-fault_is why text line never h = grind (arith)
-
 -- a text that stands has no byte that cannot
 pub stuck_stands : (text : List ℕ) (line : ℕ) (why : CertWhy) (u : Taken) (rest' : List ℕ) → StopsAt text line why → Holds text u rest' → ⊥
 stuck_stands text line why u rest' s k = no_meet s.0 text s.2 s.3 u s.4 rest' s.1 why s.6 k s.5 s.7
@@ -148,24 +130,17 @@ stuck_once text line line' why why' s r =
     ]
 
 pub fault_once : (text : List ℕ) (line line' : ℕ) (why why' : CertWhy) → why ≢ Memory → why' ≢ Memory → IsRefusal text line why → IsRefusal text line' why' → (line ≡ line') × (why ≡ why')
-fault_once text line line' why why' n n' h k =
-    elim (fault_is why text line n h) [
-      | inl s ↦ elim (fault_is why' text line' n' k) [
-        | inl r ↦ let t = holds_once text s.1.0 r.1.0 s.1.1 r.1.1 s.1.2 r.1.2 in (s.1.4 ∙ ap line_number t.0 ∙ sym r.1.4, s.0 ∙ sym r.0)
-        | inr r ↦ absurd (stuck_stands text line' why' s.1.0 s.1.1 r s.1.2)
-      ]
-      | inr s ↦ elim (fault_is why' text line' n' k) [
-        | inl r ↦ absurd (stuck_stands text line why r.1.0 r.1.1 s r.1.2)
-        | inr r ↦ stuck_once text line line' why why' s r
-      ]
-    ]
+fault_once text line line' Memory why' n n' h k = absurd (n refl)
+fault_once text line line' why Memory n n' h k = absurd (n' refl)
+fault_once text line line' Unended Unended n n' h k = let t = holds_once text h.0 k.0 h.1 k.1 h.2 k.2 in (h.4 ∙ ap line_number t.0 ∙ sym k.4, refl)
+fault_once text line line' Unended why' n n' h k = absurd (stuck_stands text line' why' h.0 h.1 k h.2)
+fault_once text line line' why Unended n n' h k = absurd (stuck_stands text line why k.0 k.1 h k.2)
+fault_once text line line' why why' n n' h k = stuck_once text line line' why why' h k
 
 pub standing_fault : (text : List ℕ) (taken : Taken) (rest : List ℕ) (line : ℕ) (why : CertWhy) → Holds text taken rest → why ≢ Memory → IsRefusal text line why → (why ≡ Unended) × EndsOpen text line
-standing_fault text taken rest line why h n k =
-    elim (fault_is why text line n k) [
-      | inl s ↦ s
-      | inr s ↦ absurd (stuck_stands text line why taken rest s h)
-    ]
+standing_fault text taken rest line Memory h n k = absurd (n refl)
+standing_fault text taken rest line Unended h n k = (refl, k)
+standing_fault text taken rest line why h n k = absurd (stuck_stands text line why taken rest k h)
 
 spelled_holds : (c : Certificate) (text : List ℕ) → Spells c text → Holds text (Whole c.map c.entries) []
 spelled_holds c text h = record { parts = h.1 ∙ sym (append-nil (text_of c.map c.entries)); lines = h.0; begun = refl }
@@ -176,11 +151,6 @@ spelled_fault c text line why h n k =
     let o = (standing_fault text (Whole c.map c.entries) [] line why s n k).1 in
     let t = holds_once text o.0 (Whole c.map c.entries) o.1 [] o.2 s in
     subst (λ (x : Taken). IsUnended x) t.0 o.3
-
--- the certificate of lines that are all taken
-abbrev whole_of : Certificate → Taken → Certificate
-whole_of c (Whole map es) = record { map = map; entries = es }
-whole_of c t = c
 
 pub spelled_once : (c d : Certificate) (text : List ℕ) → Spells c text → Spells d text → c ≡ d
 spelled_once c d text h k = grind (arith, (holds_once text (Whole c.map c.entries) (Whole d.map d.entries) [] [] (spelled_holds c text h) (spelled_holds d text k)), (spelled_holds c text h), (spelled_holds d text k))

@@ -11,8 +11,8 @@ not_whole taken h = grind (arith)
 pub rest_of : (taken : Taken) (rest : List ℕ) → IsUnended taken → Without LINE_FEED rest → length rest < LONGEST_LINE → IsRest taken rest
 rest_of taken rest u free short = grind (arith)
 
-pub rest_is : (taken : Taken) (rest : List ℕ) → IsUnended taken → IsRest taken rest → Without LINE_FEED rest × (length rest < LONGEST_LINE)
-rest_is taken rest u h = grind (arith)
+pub rest_free : (taken : Taken) (rest : List ℕ) → IsRest taken rest → Without LINE_FEED rest × (length rest < LONGEST_LINE)
+rest_free taken rest h = grind (arith)
 
 regroup : (a b c : List ℕ) → a ++ (b ++ LINE_FEED ∷ c) ≡ (a ++ (b ++ LINE_FEED ∷ [])) ++ c
 regroup a b c = simp append_assoc
@@ -21,21 +21,10 @@ regroup a b c = simp append_assoc
 pub entry_taken : (map : MemoryMap) (es : List Entry) (line : List ℕ) (e : Entry) → line ≡ entry_line e → begun_with map (es ++ e ∷ []) ≡ begun_with map es ++ ended line
 entry_taken map es line e l = begun_push map es e ∙ ap (λ (t : List ℕ). begun_with map es ++ ended t) (sym l)
 
-no_memory : (taken : Taken) (line after : List ℕ) → IsTaken taken → IsLineRefused taken line Memory → IsRefusal (text_taken taken ++ (line ++ LINE_FEED ∷ after)) (line_number taken) Memory
-no_memory (Begun map es) line after h w = grind (arith, (length-append es (w.0 ∷ [])), (regroup (begun_with map es) line after), (begun_with map es), (entry_taken map es line w.0 w.1.1))
-no_memory taken line after h w = absurd w
-
-never_unended : (taken : Taken) (line : List ℕ) → IsLineRefused taken line Unended → ⊥
-never_unended taken line w = grind (arith)
-
-never_after : (taken : Taken) (line : List ℕ) → IsLineRefused taken line After → ⊥
-never_after taken line w = grind (arith)
-
 -- a whole line that is refused
 pub line_fault : (why : CertWhy) (taken : Taken) (line after : List ℕ) → IsTaken taken → IsUnended taken → Without LINE_FEED line → length line < LONGEST_LINE → IsLineRefused taken line why → IsRefusal (text_taken taken ++ (line ++ LINE_FEED ∷ after)) (line_number taken) why × (why ≢ Unended)
-line_fault Memory taken line after h u free short w = (no_memory taken line after h w, λ e. absurd cc)
-line_fault Unended taken line after h u free short w = absurd (never_unended taken line w)
-line_fault After taken line after h u free short w = absurd (never_after taken line w)
+line_fault Memory (Begun map es) line after h u free short w = grind (arith, (length-append es (w.0 ∷ [])), (regroup (begun_with map es) line after), (begun_with map es), (entry_taken map es line w.0 w.1.1))
+line_fault Memory taken line after h u free short w = absurd w
 line_fault why taken line after h u free short w = grind (arith, (text_taken taken), (append_assoc (text_taken taken) line (LINE_FEED ∷ after)), (rest_of taken line u free short))
 
 -- a prefix of what is free, and the element after it
@@ -62,24 +51,21 @@ long_at k taken begun rest h u clear n lt free =
 
 -- no line end where a line must have one
 pub end_fault : (why : CertWhy) (room : ℕ) (taken : Taken) (begun rest : List ℕ) → IsTaken taken → IsUnended taken → IsRest taken begun → room ≡ LONGEST_LINE - length begun → EndsLine room rest (Err why) → IsRefusal (text_taken taken ++ (begun ++ rest)) (line_number taken) why × (why ≢ Unended)
-end_fault why room taken begun rest h u r n e = grind (arith, rest_is, long_at, text_taken, line_number)
+end_fault why room taken begun rest h u r n e = grind (arith, rest_free, long_at, text_taken, line_number)
 
 -- a line begun
 pub begins : (taken : Taken) (begun rest new : List ℕ) → IsTaken taken → IsUnended taken → IsRest taken begun → Without LINE_FEED rest → length rest < LONGEST_LINE - length begun → new ≡ begun ++ rest → Holds (text_taken taken ++ (begun ++ rest)) taken new
 begins taken begun rest new h u r free short e =
-    let s = rest_is taken begun u r in
+    let s = rest_free taken begun r in
     subst (λ (t : List ℕ). Holds (text_taken taken ++ (begun ++ rest)) taken t) (sym e) (record { parts = refl; lines = h; begun = rest_of taken (begun ++ rest) u (Without-append LINE_FEED begun rest s.0 free) (omega (arith, length-append begun rest)) })
 
 -- bytes after the last line
-after_fault : (taken : Taken) (begun rest : List ℕ) → IsTaken taken → IsRest taken begun → (IsUnended taken → ⊥) → 0 < length rest → IsRefusal (text_taken taken ++ (begun ++ rest)) (line_number taken) After × (After ≢ Unended)
-after_fault (Whole map es) begun [] h r u some = absurd (omega arith)
-after_fault (Whole map es) begun (b ∷ more) h r u some =
-    ((text_of map es, b, more, Whole map es, [], ap (λ (t : List ℕ). text_of map es ++ (t ++ b ∷ more)) r, record { parts = sym (append-nil (text_of map es)); lines = h; begun = refl }, refl, refl), λ e. absurd cc)
-after_fault taken begun rest h r u some = absurd (u tt)
-
 pub after_refused : (line : ℕ) (f : CertFault) (taken : Taken) (begun rest : List ℕ) → IsTaken taken → IsRest taken begun → (IsUnended taken → ⊥) → line ≡ line_number taken → 0 < length rest → f ≡ record { line = line; why = After }
     → IsRefusal (text_taken taken ++ (begun ++ rest)) f.line f.why × (f.why ≢ Unended)
-after_refused line f taken begun rest h r u n some e = grind (arith, text_taken, after_fault)
+after_refused line f (Whole map es) begun [] h r u n some e = absurd (omega arith)
+after_refused line f (Whole map es) begun (b ∷ more) h r u n some e =
+    rw (e, n, r) ((text_of map es, b, more, Whole map es, [], refl, record { parts = sym (append-nil (text_of map es)); lines = h; begun = refl }, refl, refl), λ e. absurd cc)
+after_refused line f taken begun rest h r u n some e = absurd (u tt)
 
 -- the first line of all
 pub first_at : (stage after : Stage) (map : MemoryMap) (es : List Entry) (taken : Taken) (line : List ℕ) → stage ≡ First → taken_of map es stage ≡ taken → IsStaged map es stage → StartsWith line (Ok after) → IsTaken (taken_of map es after) × (text_taken (taken_of map es after) ≡ text_taken taken ++ ended line) × IsStaged map es after
@@ -93,7 +79,7 @@ rom_at_line stage old map es taken line s v h is l = grind (arith, no_entry_yet,
 pub line_refused : (why : CertWhy) (taken : Taken) (begun rest prefix after : List ℕ) → IsTaken taken → IsUnended taken → IsRest taken begun → rest ≡ prefix ++ LINE_FEED ∷ after → Without LINE_FEED prefix → length prefix < LONGEST_LINE - length begun → IsLineRefused taken (begun ++ prefix) why
     → IsRefusal (text_taken taken ++ (begun ++ rest)) (line_number taken) why × (why ≢ Unended)
 line_refused why taken begun rest prefix after h u r e free short w =
-    let s = rest_is taken begun u r in
+    let s = rest_free taken begun r in
     let f = line_fault why taken (begun ++ prefix) after h u (Without-append LINE_FEED begun prefix s.0 free) (omega (arith, length-append begun prefix)) w in
     let parts : text_taken taken ++ (begun ++ rest) ≡ text_taken taken ++ ((begun ++ prefix) ++ LINE_FEED ∷ after) = ap (λ (t : List ℕ). text_taken taken ++ t) (ap (λ (t : List ℕ). begun ++ t) e ∙ sym (append_assoc begun prefix (LINE_FEED ∷ after))) in
     subst (λ (t : List ℕ). IsRefusal t (line_number taken) why × (why ≢ Unended)) (sym parts) f

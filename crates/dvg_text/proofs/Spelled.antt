@@ -91,11 +91,14 @@ elsewhere_held map held is h = grind (arith, ended, second_version_line, codes, 
 
 -- one more entry is held
 pub entry_held : (old mid new : Option (List ℕ)) (map : MemoryMap) (es : List Entry) (i : ℕ) (d : Entry) (held rest more : List ℕ) → i < length es → more ≡ rest ++ ended (entry_line (get_or es i d)) → Buffered old mid held (begun_with map (take i es)) → Buffered mid new rest held → Buffered old new more (begun_with map (take (i + 1) es))
-entry_held old mid new map es i d held rest more lt m h k = grind (arith, rules, common_steps, (ended (entry_line (get_or es i d))), (entry_line (get_or es i d)), (begun_with map (take i es)), buffered_more, (buffered_on old mid new held rest (begun_with map (take i es)) h k), (begun_with map (take (i + 1) es)), (begun_next map es i d lt), ended, entry_line, begun_with, buffered_on, begun_next)
+entry_held old mid new map es i d held rest more lt m h k =
+    rw (m, begun_next map es i d lt) (buffered_more old new rest (ended (entry_line (get_or es i d))) (begun_with map (take i es)) (buffered_on old mid new held rest (begun_with map (take i es)) h k))
 
 -- the last line is held
 pub done_held : (old mid new : Option (List ℕ)) (map : MemoryMap) (es cert : List Entry) (i n : ℕ) (held rest more : List ℕ) → es ≡ cert → i ≡ length es → n ≡ length es → more ≡ rest ++ ended (done_line n) → Buffered old mid held (begun_with map (take i es)) → Buffered mid new rest held → Buffered old new more (text_of map cert)
-done_held old mid new map es cert i n held rest more same all m p h k = grind (arith, rules, common_steps, (ended (done_line n)), (done_line n), (begun_with map (take i es)), buffered_more, (buffered_on old mid new held rest (begun_with map (take i es)) h k), (begun_with map cert), (begun_with map), (take-length es), (ended (done_line (length cert))), (done_line (length cert)), ended, done_line, (text_of map cert), begun_with, buffered_on, take-length, text_of)
+done_held old mid new map es cert i n held rest more same all m p h k =
+    let on = buffered_more old new rest (ended (done_line n)) (begun_with map (take i es)) (buffered_on old mid new held rest (begun_with map (take i es)) h k) in
+    rw (p, ← same, ← m) (rw (all, take-length es) at on)
 
 -- a write failed before the last line was held
 pub begun_in_part : (old mid new : Option (List ℕ)) (map : MemoryMap) (es cert : List Entry) (i : ℕ) (held : List ℕ) → es ≡ cert → Buffered old mid held (begun_with map (take i es)) → AppendsPrefix mid new held → AppendsPrefix old new (text_of map cert)

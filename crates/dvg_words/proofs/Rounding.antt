@@ -1,6 +1,7 @@
 -- Rounding half up by one multiplication: the size once more, in units of 1/2048, makes halves go away from 0.
-use Rattle.dvg_words.proofs.Common.{◌≡◌, ℕ, ℤ, pos, negsuc, neg_ℤ, suc, ◌+◌, ◌*◌, ◌/◌, ◌%◌, ◌^◌, ◌≤◌, ◌<◌, nat_le, ◌+ℤ◌, ◌*ℤ◌, ◌∙◌, arith, ints, nat_tests, Board, effective_scale, axis_move, rounded_move}
+use Rattle.dvg_words.proofs.Common.{◌≡◌, ℕ, ℤ, pos, negsuc, neg_ℤ, suc, ◌+◌, ◌*◌, ◌/◌, ◌%◌, ◌^◌, ◌≤◌, ◌+ℤ◌, ◌*ℤ◌, arith, rules, ints, rounded_move}
 use Rattle.std.proofs.Common.{◌≤ℤ◌}
+use Rattle.std.proofs.lemmas.Grind.{common_steps}
 use Rattle.std.specs.Int.{int_div_euclid}
 use Rattle.std.proofs.Math.Pow.{pow_mono}
 use Rattle.std.proofs.Math.Nat.{pow-suc, mod-eq_of_lt, mul-add, mul_left_comm, mul-le-mul}
@@ -30,18 +31,7 @@ finer_near size f low high few = grind (arith, pos, product, spread, negsuc)
 
 -- a shift by at most nine places loses no bit
 pub lossless : (t : ℕ) → t ≤ 9 → (2 * 2 ^ t % 65536 ≡ 2 ^ (t + 1)) × (2 ^ (t + 1) ≤ 1024)
-lossless t h =
-    let small : 2 ^ t ≤ 2 ^ 9 = pow_mono h in
-    let e : t + 1 ≡ suc t = omega arith in
-    let twice : 2 ^ (t + 1) ≡ 2 * 2 ^ t = rw (e, pow-suc 2 t) (omega arith) in
-    (mod-eq_of_lt (omega arith) ∙ omega arith, omega arith)
-
-pub lossless_finer : (t : ℕ) → t ≤ 9 → (4096 * 2 ^ t % 4294967296 ≡ 2048 * 2 ^ (t + 1)) × (2 ^ (t + 1) ≤ 1024)
-lossless_finer t h =
-    let small : 2 ^ t ≤ 2 ^ 9 = pow_mono h in
-    let e : t + 1 ≡ suc t = omega arith in
-    let twice : 2 ^ (t + 1) ≡ 2 * 2 ^ t = rw (e, pow-suc 2 t) (omega arith) in
-    (mod-eq_of_lt (omega arith) ∙ omega arith, omega arith)
+lossless t h = grind (arith, rules, common_steps, pow_mono, pow-suc, mod-eq_of_lt)
 
 -- what is shown of a size at an effective scale
 pub record Rounds (size : ℤ) (scale : ℕ) : Type 0 where
@@ -51,11 +41,3 @@ pub record Rounds (size : ℤ) (scale : ℕ) : Type 0 where
 
 pub rounds_at : (size : ℤ) (scale : ℕ) → negsuc 1022 ≤ℤ size → size ≤ℤ pos 1023 → scale ≤ 9 → Rounds size scale
 rounds_at size scale low high few = grind (arith, (near size (2 ^ (scale + 1)) low high (lossless scale few).1), (lossless scale few), (rounds size (2 ^ (scale + 1)) low high))
-
--- ---- a draw of the board
-
-pub board_moves_by : (size : ℤ) (local global scale : ℕ) → scale ≡ effective_scale local global → scale ≤ 9 → rounded_move (size *ℤ pos (2 ^ (scale + 1))) ≡ axis_move Board size local global
-board_moves_by size local global scale same small = grind (arith, nat_le, nat_tests)
-
-pub board_stays : (size : ℤ) (local global scale : ℕ) → scale ≡ effective_scale local global → 9 < scale → pos 0 ≡ axis_move Board size local global
-board_stays size local global scale same great = grind (arith, nat_le, nat_tests)

@@ -126,7 +126,7 @@ IsForSome map done = (rom : Rom) × (rom.map ≡ map) × (roots : List (ℕ × K
 abbrev pub MakesFor : MemoryMap → List Entry → List Entry → Type 0
 MakesFor map done list =
     (rom : Rom) (roots : List (ℕ × Key)) (frames : List (List ℕ)) → rom.map ≡ map → AllFramed rom roots frames done
-        → FramesMade rom roots frames list
+    → FramesMade rom roots frames list
 
 -- the certificate is made for these roots and frames, and the map has its entries
 pub record IsMadeFor (rom : Rom) (roots : List (ℕ × Key)) (frames : List (List ℕ)) (made : MadeCert) : Type 0 where

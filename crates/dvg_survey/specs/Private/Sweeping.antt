@@ -34,7 +34,7 @@ IsCleanItem w marks v = LitInWindow w v.extent v.place × IsUnbroken marks v.cal
 abbrev pub IsClean : Window → Rom → List Entry → List Bool → Entry → Type 0
 IsClean w rom list marks e =
     (earlier : List Item) (i : Item) → LeadsTo Shape (rom_word rom) e.addr earlier i.at
-        → cell_at (rom_word rom) i.at ≡ Holds i.format i.instr
+    → cell_at (rom_word rom) i.at ≡ Holds i.format i.instr
     → IsCleanItem w marks (seen_at (shape_context rom.machine list e) earlier i)
 
 -- an item of the entry's shape does not
@@ -69,4 +69,4 @@ pub record IsSwept (w : Window) (rom : Rom) (list swept left : List Entry) (old 
 abbrev pub TellsBroken : Window → Rom → List Entry → List Bool → Type 0
 TellsBroken w rom list marks =
     (e : Entry) → Contains list e
-        → (is_broken marks e ≡ false → ShapesKeepWindow w rom list e) × (is_broken marks e ≡ true → ShapesKeepWindow w rom list e → ⊥)
+    → (is_broken marks e ≡ false → ShapesKeepWindow w rom list e) × (is_broken marks e ≡ true → ShapesKeepWindow w rom list e → ⊥)

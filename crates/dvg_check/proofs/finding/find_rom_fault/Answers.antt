@@ -1,7 +1,6 @@
 use Rattle.dvg_check.proofs.Common.{ℕ, List, length, Window, Machine, Mode, arith, rom_on, IsRomLength, Certificate}
 use Rattle.std.proofs.Common.{Result}
 use Rattle.dvg_check.specs.Verdict.{Yes, Refusal, PartsVerdict, RomVerdict}
-use Rattle.dvg_check.specs.declared.verdict.Refusal.TheVariants as refusal
 use Rattle.dvg_check.proofs.finding.find_rom_fault.Goals as goal
 
 -- what a ROM of the right length comes to

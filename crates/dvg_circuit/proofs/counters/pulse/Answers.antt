@@ -1,5 +1,4 @@
-use Rattle.dvg_circuit.proofs.Common.{◌-◌, arith, nat_tests, shr_and_one}
-use Rattle.dvg_circuit.proofs.Multipliers.{none_through}
+use Rattle.dvg_circuit.proofs.Common.{arith, nat_tests, shr_and_one}
 use Rattle.dvg_circuit.proofs.Ones.{counted_ones}
 use Rattle.dvg_circuit.proofs.counters.pulse.Goals as goal
 
@@ -7,4 +6,4 @@ pub returns-then-ones-le9-clause-value : goal.returns-then-ones-le9-clause-value
 returns-then-ones-le9-clause-value c = grind (arith, nat_tests, shr_and_one, counted_ones)
 
 pub returns-else-ones-le9-clause-value : goal.returns-else-ones-le9-clause-value
-returns-else-ones-le9-clause-value c = grind (arith, none_through, counted_ones)
+returns-else-ones-le9-clause-value c = grind (arith, nat_tests, counted_ones)

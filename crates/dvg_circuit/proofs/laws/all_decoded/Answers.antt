@@ -1,5 +1,6 @@
-use Rattle.dvg_circuit.proofs.Reading.{all_decoded as law}
+use Rattle.dvg_circuit.proofs.Common.{arith, instruction_of, decoded}
 use Rattle.dvg_circuit.proofs.laws.all_decoded.Goals as goal
 
 pub returns : goal.returns
-returns c = law
+unfolding instruction_of
+returns c first second = (decoded first second, grind (arith))

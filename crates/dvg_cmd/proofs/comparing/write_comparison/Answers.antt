@@ -1,4 +1,4 @@
-use Rattle.dvg_cmd.proofs.Common.{◌+◌, ◌++◌, ◌∙◌, ap, append-nil, string_bytes, of_each, joined, arith, codes, comparison_lines}
+use Rattle.dvg_cmd.proofs.Common.{◌++◌, ◌∙◌, ap, append-nil, string_bytes, of_each, joined, arith, codes, comparison_lines}
 use Rattle.dvg_cmd.proofs.LineByLine.{on_err, first_cut, one_sent, one_cut, all_sent}
 use Rattle.dvg_cmd.proofs.ReachingLines.{lines_from, pass_frame, next_frame, no_frame, some_text}
 use Rattle.dvg_cmd.proofs.comparing.write_comparison.Goals as goal

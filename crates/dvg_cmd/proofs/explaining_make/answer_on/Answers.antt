@@ -1,15 +1,12 @@
-use Rattle.dvg_cmd.proofs.Common.{sym, subst, ap, length, IfErr, FramesFaultMeans}
+use Rattle.dvg_cmd.proofs.Common.{sym, subst, ap, length, FramesFaultMeans}
 use Rattle.dvg_make.proofs.Causes.{account_cause}
 use Rattle.dvg_cmd.proofs.FramesRuns.{with_words, frames_made, frames_refused}
 use Rattle.dvg_cmd.proofs.explaining_make.answer_on.Goals as goal
 
 pub returns-in-Err-clause-refused : goal.returns-in-Err-clause-refused
-returns-in-Err-clause-refused c =
-    λ held readers read. subst (λ r. IfErr r (FramesFaultMeans c.args.machine held c.args.map c.args.roots.now readers)) (sym c.unasked.ensures)
-    (c.in-Err.ensures.refused held readers read c.args.roots.now)
+returns-in-Err-clause-refused c = λ held readers read. (rw c.unasked.ensures (c.in-Err.ensures.refused held readers read c.args.roots.now))
 
-pub returns-in-Ok-explain_making-clause-made :
-    goal.returns-in-Ok-explain_making-clause-made
+pub returns-in-Ok-explain_making-clause-made : goal.returns-in-Ok-explain_making-clause-made
 returns-in-Ok-explain_making-clause-made c =
     λ held readers read. search (c.in-Ok-explain_making.cert.entries, frames_made (with_words (c.in-Ok.ensures.images held readers read) c.deref.ensures.value) c.args.roots.now c.in-Ok-explain_making.cert.entries c.in-Ok-explain_making.ensures.ok, ap length c.entries.ensures.value)
 

@@ -1,4 +1,4 @@
-use Rattle.dvg_cmd.proofs.Common.{◌-◌, arith, common_steps, rules}
+use Rattle.dvg_cmd.proofs.Common.{arith, common_steps, rules}
 use Rattle.dvg_cmd.proofs.Pieces.{take_filled}
 use Rattle.dvg_cmd.proofs.reading.fill.Goals as goal
 

@@ -1,12 +1,12 @@
-use Rattle.dvg_cmd.proofs.Common.{◌++◌, arith, take, Consumes-trans, common_steps, rules}
-use Rattle.dvg_cmd.proofs.Pieces.{fed_on, fed_more, fed_refused}
+use Rattle.dvg_cmd.proofs.Common.{length-append, ◌++◌, arith, take, Consumes-trans, common_steps, rules}
+use Rattle.dvg_cmd.proofs.Pieces.{fed_on, fed_refused}
 use Rattle.dvg_cmd.proofs.reading.read_certificate.Goals as goal
 
 pub returns-in-Err-clause-answer : goal.returns-in-Err-clause-answer
 returns-in-Err-clause-answer g c = grind (arith, rules, common_steps, fed_refused)
 
 pub feeding-smaller : goal.feeding-smaller
-feeding-smaller g c = grind (arith, rules, common_steps, fed_on, fed_more)
+feeding-smaller g c = grind (arith, rules, common_steps, fed_on, length-append)
 
 pub feeding-preserved : goal.feeding-preserved
 feeding-preserved g c =

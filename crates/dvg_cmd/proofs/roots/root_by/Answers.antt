@@ -1,5 +1,4 @@
 use Rattle.dvg_cmd.proofs.Common.{arith}
-use Rattle.std.proofs.Common.{Err}
 use Rattle.dvg_cmd.proofs.roots.root_by.Goals as goal
 
 pub returns-in-Err-clause-err : goal.returns-in-Err-clause-err

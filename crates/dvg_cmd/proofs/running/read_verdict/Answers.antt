@@ -1,4 +1,4 @@
-use Rattle.dvg_cmd.proofs.Common.{Ok, Err, words_of, arith}
+use Rattle.dvg_cmd.proofs.Common.{words_of, arith}
 use Rattle.dvg_cmd.proofs.Reporting.{judges_range, judges_refused, judges_cert}
 use Rattle.dvg_cmd.proofs.running.read_verdict.Goals as goal
 

@@ -1,5 +1,5 @@
 use Rattle.dvg_cmd.proofs.Common.{Judges, arith}
-use Rattle.dvg_cmd.proofs.Reported.{writes_report, reports, reports_accepted}
+use Rattle.dvg_cmd.proofs.Reported.{reports, reports_accepted}
 use Rattle.dvg_cmd.proofs.running.run_check_in.Given.{Over}
 use Rattle.dvg_cmd.proofs.running.run_check_in.Goals.{After-write_report}
 use Rattle.dvg_cmd.proofs.running.run_check_in.Goals as goal
@@ -10,7 +10,7 @@ judged : (g : Over) (c : After-write_report g)
 judged g c = (rw (c.as_slice.ensures.value, c.as_slice-2.ensures.value) at c.in-Ok-read_verdict.ensures.verdict) _ _ c.in-Ok.ensures.bytes c.in-Ok-read_frame.ensures.bytes
 
 pub returns-clause-report : goal.returns-clause-report
-returns-clause-report g c = grind (arith, (reports c.args.options.now.machine c.write_report.result), (judged g (goal.at.returns-clause-report g c).After-write_report), (writes_report c.args.detail c.account_of-behind.result c.account_of-behind.ensures c.in-Ok-read_verdict.judged.verdict))
+returns-clause-report g c = grind (arith, (reports c.args.detail c.account_of-behind.result c.account_of-behind.ensures c.in-Ok-read_verdict.judged.verdict), (judged g (goal.at.returns-clause-report g c).After-write_report))
 
 pub returns-clause-safe : goal.returns-clause-safe
 returns-clause-safe g c = grind (arith, (reports_accepted c.args.detail c.account_of-behind.result c.account_of-behind.ensures c.in-Ok-read_verdict.judged.verdict), (judged g (goal.at.returns-clause-safe g c).After-write_report))

@@ -1,16 +1,14 @@
-use Rattle.dvg_cmd.proofs.Common.{◌≡◌, ◌++◌, ◌∷◌, [], subst, arith, Result, OnErr, opened, rules}
+use Rattle.dvg_cmd.proofs.Common.{◌≡◌, ◌++◌, ◌∷◌, [], subst, opened, rules}
 use Rattle.std.specs.Iterator.{Drains, Yields}
 use Rattle.std.proofs.iter.Next.{Yields-more}
+use Rattle.dvg_cmd.proofs.LineByLine.{on_err}
 use Rattle.dvg_cmd.proofs.SeveralLines.{more_lines, cut_lines, with_summary, cut_summary}
 use Rattle.dvg_cmd.proofs.several_frames.run_frames.Goals as goal
-
-on_err : {A E : Type 0} (r : Result A E) (P : Type 0) → P → OnErr r P
-on_err r P p = grind (arith)
 
 pub returns-in_err-run_named-clause-prefix : goal.returns-in_err-run_named-clause-prefix
 returns-in_err-run_named-clause-prefix g c =
     let same : c.into_iter-frame-iterator.result ≡ c.args.frames = cc in
-    on_err c.from_residual.result _ (
+    on_err c.from_residual.result (
       c.loop-frame.yielded ++ c.in-Some.frame ∷ [],
       c.next.new.self,
       subst (λ it. Yields g.I.Iterator.next_gives it (c.loop-frame.yielded ++ c.in-Some.frame ∷ []) c.next.new.self) same
@@ -24,7 +22,7 @@ loop-frame-preserved g c = search (rules, more_lines _ c.args.listing c.args.sta
 pub returns-in_err-write_summary-clause-prefix : goal.returns-in_err-write_summary-clause-prefix
 returns-in_err-write_summary-clause-prefix g c =
     let all : Drains g.I.Iterator.next_gives c.args.frames c.loop-frame.yielded = search rules in
-    on_err c.from_residual-in_err-write_summary.result _ (
+    on_err c.from_residual-in_err-write_summary.result (
       c.loop-frame.yielded,
       all.1.0,
       all.1.1,

@@ -3,7 +3,7 @@ use Rattle.dvg_diff.proofs.EachFrame.{memory_told, next_frame}
 use Rattle.dvg_diff.proofs.comparing.compare.Goals as goal
 
 pub returns-in_default-clause-told : goal.returns-in_default-clause-told
-returns-in_default-clause-told c = memory_told c.args.rom.now c.args.roots.now c.args.frames.now c.no_memory.result c.no_memory.ensures
+returns-in_default-clause-told c = grind (arith, memory_told)
 
 pub returns-in_default-frame_reaches-clause-told : goal.returns-in_default-frame_reaches-clause-told
 returns-in_default-frame_reaches-clause-told c = grind (arith, memory_told)

@@ -1,5 +1,5 @@
 use Rattle.dvg_diff.proofs.Common.{sym, ◌∙◌, arith}
-use Rattle.dvg_diff.proofs.Walking.{goes_on, ends, found, none_left}
+use Rattle.dvg_diff.proofs.Walking.{goes_on, ends, none_left}
 use Rattle.dvg_diff.proofs.touched.first_differing.Goals as goal
 
 pub loop-format-preserved : goal.loop-format-preserved
@@ -11,7 +11,7 @@ returns-in-None-clause-none c = grind (arith, (ends c.args.rom.now c.args.other.
 pub returns : goal.returns
 returns c =
     record {
-      some = found c.args.rom.now c.args.other.now c.args.addr c.loop-format.at c.loop-format.invariant c.differing_at-2.result c.differing_at-2.ensures.some;
+      some = grind (arith, c.loop-format.invariant, c.differing_at-2.ensures.some);
       none = none_left c.args.rom.now c.args.other.now c.args.addr c.loop-format.at c.loop-format.invariant
           (λ format instr is. c.in_default.not-Holds _ _ (c.read_cell.ensures.value ∙ is)) c.differing_at-2.result c.differing_at-2.ensures.none;
     }

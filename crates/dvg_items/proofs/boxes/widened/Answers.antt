@@ -1,10 +1,12 @@
-use Rattle.dvg_items.proofs.LeastBoxes.{two_points}
+use Rattle.dvg_items.proofs.LeastBoxes.{in_wider}
+use Rattle.dvg_items.proofs.Lists.{all_map}
 use Rattle.dvg_items.proofs.boxes.widened.Goals as goal
 
 pub returns : goal.returns
-returns c =
+returns c ps h =
     let span = c.spanning.ensures in
     let join = c.joined.ensures in
-    two_points c.args.p.now c.args.q.now c.args.lit.now c.spanning.result c.joined.result
-    (record { first = span.first; second = span.second; least = span.least })
-    (record { first = join.first; second = join.second; least = join.least })
+    record {
+      holds = (in_wider _ _ _ join.second span.first, (in_wider _ _ _ join.second span.second, all_map _ _ ps (λ x. in_wider _ _ x join.first) h.holds));
+      least = λ other k. join.least other (h.least other k.1.1) (span.least other k.0 k.1.0);
+    }

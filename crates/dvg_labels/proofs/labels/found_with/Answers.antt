@@ -1,9 +1,9 @@
-use Rattle.dvg_labels.proofs.Common.{refl, subst, named_of, IsFound}
-use Rattle.dvg_labels.proofs.Naming.{keep_other, first_found, two_found, not_true}
+use Rattle.dvg_labels.proofs.Common.{arith, refl, subst, named_of, IsFound}
+use Rattle.dvg_labels.proofs.Naming.{keep_other, first_found, two_found}
 use Rattle.dvg_labels.proofs.labels.found_with.Goals as goal
 
 pub returns-then-not-has_name-clause-ok : goal.returns-then-not-has_name-clause-ok
-returns-then-not-has_name-clause-ok c = λ labels h. keep_other labels (named_of c.args.label.now) c.args.name.now c.args.found (λ e. not_true (c.if-not-has_name.ensures.1 e)) h
+returns-then-not-has_name-clause-ok c = λ labels h. keep_other labels (named_of c.args.label.now) c.args.name.now c.args.found (λ e. grind (arith, (c.if-not-has_name.ensures.1 e))) h
 
 pub returns-in-None-clause-ok : goal.returns-in-None-clause-ok
 returns-in-None-clause-ok c = λ labels h.

@@ -13,7 +13,8 @@ find_made_entry_fault-requires-clause-made c =
     subst (λ (l : List Entry). MadeEntry c.args.rom.now l entry) (sym c.requires.made.entries) (c.requires.made.list.each entry listed)
 
 pub returns-in-Err-clause-err : goal.returns-in-Err-clause-err
-returns-in-Err-clause-err c = grind (arith, (faulty_found Exact c.args.window.now c.args.rom.now c.args.made.now.cert.entries c.entries-list.result.now c.args.made.now.entries c.entries.index none c.in-Err.finding c.entries-list.ensures.value c.requires.made.entries c.entries-test.true c.entries.invariant.good c.in-Err.ensures.err c.in-Err.ensures.place.0 c.in-Err.ensures.place.1 c.in-Err.ensures.entry))
+returns-in-Err-clause-err c =
+    grind (arith, (faulty_found Exact c.args.window.now c.args.rom.now c.args.made.now.cert.entries c.entries-list.result.now c.args.made.now.entries c.entries.index none c.in-Err.finding c.entries-list.ensures.value c.requires.made.entries c.entries-test.true c.entries.invariant.good c.in-Err.ensures.err c.in-Err.ensures.place.0 c.in-Err.ensures.place.1 c.in-Err.ensures.entry))
 
 pub entries-preserved : goal.entries-preserved
 entries-preserved c = grind (arith, (good_more Exact c.args.window.now c.args.rom.now c.args.made.now.cert.entries c.entries-list.result.now c.args.made.now.entries c.entries.index (c.entries.index + 1) none c.entries-list.ensures.value c.requires.made.entries (omega arith) c.entries-test.true c.entries.invariant.good c.in_default.ensures.ok))

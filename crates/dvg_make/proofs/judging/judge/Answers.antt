@@ -1,4 +1,4 @@
-use Rattle.dvg_make.proofs.Common.{ℕ, [], List, Err, sym, subst, ap, ◌∙◌, FrameRefused, rules, arith, refusal_by, IsRefused, blocked_fault}
+use Rattle.dvg_make.proofs.Common.{ℕ, [], List, sym, subst, ap, ◌∙◌, FrameRefused, rules, arith, refusal_by, IsRefused, blocked_fault}
 use Rattle.dvg_make.proofs.OwnCertificate.{made_refused, made_verdict}
 use Rattle.dvg_make.proofs.Causes.{call_cause, stuck_cause}
 use Rattle.dvg_make.proofs.judging.judge.Goals as goal

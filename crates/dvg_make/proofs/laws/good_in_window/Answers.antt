@@ -1,5 +1,9 @@
-use Rattle.dvg_make.proofs.Windows.{good_in_window as law}
+use Rattle.dvg_make.proofs.Common.{in_bound, Bound, Exact}
+use Rattle.dvg_make.proofs.Windows.{in_window, in_exact}
 use Rattle.dvg_make.proofs.laws.good_in_window.Goals as goal
 
 pub returns : goal.returns
-returns c = law
+returns c = λ rom roots list w made. (
+  (in_window rom list w Bound, λ all. in_bound w rom list Exact (in_exact rom list w made.each all)),
+  (in_window rom list w Exact, in_exact rom list w made.each),
+)

@@ -1,4 +1,4 @@
-use Rattle.dvg_make.proofs.Boxes.{one_least as law}
+use Rattle.dvg_make.proofs.Ends.{one_least as law}
 use Rattle.dvg_make.proofs.laws.one_least.Goals as goal
 
 pub returns : goal.returns

@@ -1,10 +1,11 @@
+use Rattle.std.proofs.lemmas.Option.{slice_get_cases}
 use Rattle.dvg_survey.proofs.Common.{arith, length, ◌≡◌, ap, sym, ◌∙◌, true, false, slice_get_within}
 use Rattle.dvg_survey.proofs.SameEntry.{entry_decides}
-use Rattle.dvg_survey.proofs.Complete.{begun, gone_on, none_past, none_at_end, reached_claim, is_none}
+use Rattle.dvg_survey.proofs.Complete.{begun, gone_on, no_chain, reached_claim}
 use Rattle.dvg_survey.proofs.chains.find_chain.Goals as goal
 
 pub loop-next-init : goal.loop-next-init
-loop-next-init g c = grind (arith, (begun c.args.rom.now c.args.frame.now c.args.cert.now.entries c.args.goal.now (g.E.Entries.list c.args.entries.now) c.in_ok-reached.reached c.in_ok-visited.visited c.requires (rw c.machine.ensures at c.in_ok-reached.ensures) c.in_ok-visited.ensures))
+loop-next-init g c = begun c.args.rom.now c.args.frame.now c.args.cert.now.entries c.args.goal.now c.in_ok-reached.reached c.in_ok-visited.visited (rw (c.machine.ensures, c.requires) at c.in_ok-reached.ensures) c.in_ok-visited.ensures
 
 pub chain-requires-clause-last : goal.chain-requires-clause-last
 chain-requires-clause-last g c = slice_get_within c.loop-next.reached c.loop-next.next c.in-Some.link (sym c.get.ensures ∙ c.in-Some.is)
@@ -17,12 +18,15 @@ reach_from-requires-clause-entry g c = grind (arith, (reached_claim c.args.rom.n
 
 pub loop-next-preserved : goal.loop-next-preserved
 loop-next-preserved g c =
-    gone_on c.args.rom.now c.args.frame.now c.args.cert.now.entries c.args.goal.now (g.E.Entries.list c.args.entries.now) c.loop-next.reached c.reach_from.new.reached c.loop-next.visited c.reach_from.new.visited c.loop-next.next c.in-Some.link
+    gone_on c.args.rom.now c.args.frame.now c.args.cert.now.entries c.args.goal.now c.loop-next.reached c.loop-next.visited c.reach_from.new.visited c.loop-next.next c.in-Some.link c.reach_from.new.reached
     c.loop-next.invariant (sym c.get.ensures ∙ c.in-Some.is)
-    (λ e. let no : true ≡ false = sym ((entry_decides c.in-Some.link.call.entry c.args.goal.now).1 e) ∙ sym c.eq.ensures ∙ c.if-eq.false in cc no) c.requires c.in_ok-reach_from.ensures
+    (λ e. let no : true ≡ false = sym ((entry_decides c.in-Some.link.call.entry c.args.goal.now).1 e) ∙ sym c.eq.ensures ∙ c.if-eq.false in cc no) (rw c.requires at c.in_ok-reach_from.ensures)
 
 pub returns-in_default-clause-none : goal.returns-in_default-clause-none
-returns-in_default-clause-none g c = grind (arith, (none_past c.args.rom.now c.args.frame.now c.args.cert.now.entries c.args.goal.now c.loop-next.reached c.loop-next.visited c.loop-next.next c.loop-next.invariant (sym c.get.ensures ∙ is_none c.get.result c.in_default.not-Some)), (is_none c.get.result c.in_default.not-Some))
+returns-in_default-clause-none g c =
+    no_chain c.args.rom.now c.args.frame.now c.args.cert.now.entries c.args.goal.now c.loop-next.reached c.loop-next.visited c.loop-next.next c.loop-next.invariant (grind (arith, (slice_get_cases c.loop-next.reached c.loop-next.next), c.get.ensures, c.in_default.not-Some))
 
 pub returns-clause-none : goal.returns-clause-none
-returns-clause-none g c = grind (arith, (none_at_end c.args.rom.now c.args.frame.now c.args.cert.now.entries c.args.goal.now c.loop-next.reached c.loop-next.visited c.loop-next.next c.loop-next.invariant (omega (arith, c.loop-next-test.false, ap length c.entries-listed.ensures.value))))
+returns-clause-none g c =
+    no_chain c.args.rom.now c.args.frame.now c.args.cert.now.entries c.args.goal.now c.loop-next.reached c.loop-next.visited c.loop-next.next c.loop-next.invariant
+    (omega (arith, c.loop-next-test.false, ap length c.entries-listed.ensures.value, c.loop-next.invariant.sound.counted))

@@ -4,7 +4,9 @@ use Rattle.dvg_survey.proofs.Walking.{goes_on, at_last, at_nothing, where_none}
 use Rattle.dvg_survey.proofs.deepest.first_bearing.Goals as goal
 
 pub returns-in-Some-call_under-clause-some : goal.returns-in-Some-call_under-clause-some
-returns-in-Some-call_under-clause-some g c = grind (arith, (first_bears c.args.rom.now (g.E.Entries.list c.args.entries.now) c.args.entry.now c.loop-seen.invariant.0 c.loop-seen.cursor c.loop-seen.invariant.1 c.in-Some.seen c.in-Some.ensures.some c.loop-seen.invariant.2 (omega (arith, c.if-entry-eq0.false)) c.in-Some-call_under.call c.in-Some-call_under.ensures.some.0 c.in-Some-call_under.ensures.some.1 c.in-Some-call_under.ensures.some.2))
+returns-in-Some-call_under-clause-some g c =
+    first_bears c.args.rom.now (g.E.Entries.list c.args.entries.now) c.args.entry.now c.loop-seen.invariant.0 c.loop-seen.cursor c.loop-seen.invariant.1 c.in-Some.seen c.in-Some.ensures.some c.loop-seen.invariant.2
+    (omega (arith, c.if-entry-eq0.false)) c.in-Some-call_under.call c.in-Some-call_under.ensures.some.0 c.in-Some-call_under.ensures.some.1 c.in-Some-call_under.ensures.some.2
 
 pub loop-seen-preserved : goal.loop-seen-preserved
 loop-seen-preserved g c =

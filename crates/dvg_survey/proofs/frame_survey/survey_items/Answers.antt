@@ -28,8 +28,5 @@ returns-in-Last g c =
 pub returns : goal.returns
 returns g c =
     let k = frame_context c.args.frame.now.machine (g.E.Entries.list c.args.entries.now) in
-    let word = frame_word c.args.frame.now.machine c.args.frame.now.frame in (
-      c.loop-seen.invariant.0,
-      at_nothing k word 0 c.loop-seen.invariant.0 c.loop-seen.cursor c.loop-seen.invariant.1 (where_none c.see.result c.in_default.not-Some c.see.ensures.none),
-      c.loop-seen.invariant.2,
-    )
+    let word = frame_word c.args.frame.now.machine c.args.frame.now.frame in
+    (c.loop-seen.invariant.0, at_nothing k word 0 c.loop-seen.invariant.0 c.loop-seen.cursor c.loop-seen.invariant.1 (where_none c.see.result c.in_default.not-Some c.see.ensures.none), c.loop-seen.invariant.2)

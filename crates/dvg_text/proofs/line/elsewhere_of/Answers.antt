@@ -1,12 +1,13 @@
-use Rattle.dvg_text.proofs.Common.{◌≡◌, sym, ap, subst, ◌∙◌, IsMap, is_asteroids, rom_line, arith}
-use Rattle.dvg_text.proofs.FirstLines.{map_of, rom_found, nowhere_said, other_said, if_none}
+use Rattle.dvg_text.proofs.Common.{refl, ◌≡◌, sym, ap, subst, ◌∙◌, IsMap, is_asteroids, rom_line, arith}
+use Rattle.dvg_text.proofs.FieldValues.{none_as}
+use Rattle.dvg_text.proofs.FirstLines.{map_of, rom_found, nowhere_said, other_said}
 use Rattle.dvg_text.proofs.line.elsewhere_of.Goals as goal
 
 pub returns-in_err-first-clause-none : goal.returns-in_err-first-clause-none
-returns-in_err-first-clause-none c = if_none c.from_residual.result (nowhere_said c.args.line.now (sym c.in_err-first.was ∙ c.whole_rom.ensures))
+returns-in_err-first-clause-none c = none_as c.from_residual.result refl (λ e. nowhere_said c.args.line.now (sym c.in_err-first.was ∙ c.whole_rom.ensures))
 
 pub returns-in_err-map-clause-none : goal.returns-in_err-map-clause-none
-returns-in_err-map-clause-none c = if_none c.from_residual-in_err-map.result (λ map is same.
+returns-in_err-map-clause-none c = none_as c.from_residual-in_err-map.result refl (λ e map is same.
     let here : map ≡ map_of (c.in_ok-first.first, c.in_ok-first.last) = other_said c.args.line.now (c.in_ok-first.first, c.in_ok-first.last) (sym c.in_ok-first.was ∙ c.whole_rom.ensures) map is same in
     c.in_err-map.ensures.none (subst IsMap here is.0))
 

@@ -1,6 +1,5 @@
 use Rattle.dvg_text.proofs.Common.{arith, natural_in}
-use Rattle.dvg_text.proofs.FieldValues.{natural_takes}
-use Rattle.dvg_text.proofs.NaturalNumbers.{natural_some}
+use Rattle.dvg_text.proofs.FieldValues.{natural_some, natural_takes}
 use Rattle.dvg_text.proofs.numerals.read_decimal.Goals as goal
 
 pub returns-in_err-number-clause-none : goal.returns-in_err-number-clause-none

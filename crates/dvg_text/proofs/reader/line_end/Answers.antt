@@ -1,4 +1,4 @@
-use Rattle.dvg_text.proofs.Common.{◌≡◌, ◌<◌, ℕ, List, Option, Some, None, Ok, length, refl, sym, arith, position, ◌==◌, LINE_FEED, EndsLine}
+use Rattle.dvg_text.proofs.Common.{◌≡◌, ◌<◌, ℕ, List, Option, Ok, length, refl, sym, arith, position, ◌==◌, LINE_FEED, EndsLine}
 use Rattle.dvg_text.proofs.Cutting.{found_at, found_in_prefix, free_none}
 use Rattle.dvg_text.proofs.reader.line_end.Goals as goal
 

@@ -1,5 +1,5 @@
-use Rattle.dvg_text.proofs.Common.{◌-◌, Some, None, Ok, take, arith, rules, length-take-le, LONGEST_LINE, EndsLine}
-use Rattle.dvg_text.proofs.Refusals.{not_whole, rest_is, line_refused, end_fault, begins, after_refused}
+use Rattle.dvg_text.proofs.Common.{◌-◌, None, Ok, arith, rules, length-take-le, LONGEST_LINE, EndsLine}
+use Rattle.dvg_text.proofs.Refusals.{not_whole, rest_free, line_refused, end_fault, begins, after_refused}
 use Rattle.dvg_text.proofs.reader.take_next.Goals as goal
 
 pub returns-in-Some : goal.returns-in-Some
@@ -15,4 +15,4 @@ pub returns-in-Err : goal.returns-in-Err
 returns-in-Err c = grind (arith, not_whole, end_fault)
 
 pub returns-in-Err-take_begun : goal.returns-in-Err-take_begun
-returns-in-Err-take_begun c = grind (arith, not_whole, rest_is, line_refused, length-take-le)
+returns-in-Err-take_begun c = grind (arith, not_whole, rest_free, line_refused, length-take-le)

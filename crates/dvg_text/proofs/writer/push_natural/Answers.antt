@@ -1,4 +1,4 @@
-use Rattle.dvg_text.proofs.Common.{length, arith, length-decimal-le}
+use Rattle.dvg_text.proofs.Common.{arith, length-decimal-le}
 use Rattle.dvg_text.proofs.writer.push_natural.Goals as goal
 
 pub push_token-requires : goal.push_token-requires

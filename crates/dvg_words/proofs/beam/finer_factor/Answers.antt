@@ -1,6 +1,8 @@
-use Rattle.dvg_words.proofs.Common.{rules}
-use Rattle.dvg_words.proofs.Rounding.{lossless_finer}
+use Rattle.dvg_words.proofs.Common.{arith, rules}
+use Rattle.std.proofs.lemmas.Grind.{common_steps}
+use Rattle.std.proofs.Math.Pow.{pow_mono}
+use Rattle.std.proofs.Math.Nat.{pow-suc, mod-eq_of_lt}
 use Rattle.dvg_words.proofs.beam.finer_factor.Goals as goal
 
 pub returns : goal.returns
-returns c = let t = lossless_finer c.args.scale c.requires in search rules
+returns c = grind (arith, rules, common_steps, pow_mono, pow-suc, mod-eq_of_lt)

@@ -1,5 +1,5 @@
-use Rattle.dvg_words.proofs.Machines.{half_place as law}
+use Rattle.dvg_words.proofs.Common.{arith, ints, nat_tests}
 use Rattle.dvg_words.proofs.laws.half_place.Goals as goal
 
 pub returns : goal.returns
-returns c = law
+returns c size local global le = grind (arith, nat_tests, ints)

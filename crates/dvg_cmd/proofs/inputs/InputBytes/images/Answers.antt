@@ -1,13 +1,11 @@
-use Rattle.dvg_cmd.proofs.Common.{sym, subst, words_of, of_each, FramesFaultMeans, arith, RefusesLengths}
-use Rattle.dvg_cmd.proofs.MakerRuns.{wrong_length}
+use Rattle.dvg_cmd.proofs.Common.{subst, words_of, of_each, FramesFaultMeans, arith, RefusesLengths}
+use Rattle.dvg_cmd.proofs.Whole.{wrong_length}
 use Rattle.dvg_cmd.proofs.FramesRuns.{told_err, images_read, lengths_refused}
 use Rattle.dvg_cmd.proofs.inputs.InputBytes.images.Goals as goal
 
 pub returns-in_err-rom-clause-refused : goal.returns-in_err-rom-clause-refused
 returns-in_err-rom-clause-refused c =
-    λ held readers read roots. told_err c.from_residual.result _ (FramesFaultMeans c.args.machine held c.args.map roots readers) c.from_residual.ensures.1
-    (subst (λ f. FramesFaultMeans c.args.machine held c.args.map roots readers f) (sym c.in_err-rom.ensures.image.1)
-    (wrong_length c.args.machine c.args.map c.in_err-rom.ensures.map held roots c.args.self.now.rom.items read.rom_prefix c.in_err-rom.ensures.image.0))
+    λ held readers read roots. grind (arith, told_err, (wrong_length c.args.machine c.args.map c.in_err-rom.ensures.map held roots c.args.self.now.rom.items read.rom_prefix c.in_err-rom.ensures.image.0))
 
 pub returns-in_err-frames-clause-refused : goal.returns-in_err-frames-clause-refused
 returns-in_err-frames-clause-refused c =

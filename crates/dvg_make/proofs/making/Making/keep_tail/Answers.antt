@@ -1,5 +1,5 @@
 use Rattle.dvg_make.proofs.Common.{subst, arith, Advances}
-use Rattle.dvg_make.proofs.Marks.{tail_kept}
+use Rattle.dvg_make.proofs.Joining.{tail_kept}
 use Rattle.dvg_make.proofs.making.Making.keep_tail.Goals as goal
 
 pub returns-in_ok-add-clause-right : goal.returns-in_ok-add-clause-right

@@ -1,5 +1,4 @@
-use Rattle.dvg_make.proofs.Common.{AllFramed, IsRightFor}
-use Rattle.std.specs.Prelude.{take}
+use Rattle.dvg_make.proofs.Common.{AllFramed, IsRightFor, take}
 use Rattle.dvg_make.proofs.making.Making.make_calls.Given as goal
 
 abbrev pub invariant-loop-index : goal.invariant-loop-index

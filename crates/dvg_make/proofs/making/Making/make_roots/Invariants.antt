@@ -1,5 +1,4 @@
-use Rattle.dvg_make.proofs.Common.{Collected, IsRightFor}
-use Rattle.std.specs.Prelude.{take}
+use Rattle.dvg_make.proofs.Common.{Collected, IsRightFor, take}
 use Rattle.dvg_make.proofs.making.Making.make_roots.Given as goal
 
 abbrev pub invariant-loop-addr : goal.invariant-loop-addr

@@ -1,5 +1,5 @@
 use Rattle.dvg_make.proofs.Common.{arith}
-use Rattle.dvg_make.proofs.Marks.{claim_if_some}
+use Rattle.dvg_make.proofs.Onward.{claim_if_some}
 use Rattle.dvg_make.proofs.making.Making.marks.Goals as goal
 
 pub scale_past-scale-requires-clause-callee : goal.scale_past-scale-requires-clause-callee

@@ -1,5 +1,4 @@
-use Rattle.dvg_make.proofs.Common.{◌≡◌, refl, false, Option, None, sym, subst, ap, ◌∙◌, rules, Entry, PartialEntry, Obstacle, Bars, obstacle_fault, arith}
-use Rattle.std.specs.Prelude.{is_some}
+use Rattle.dvg_make.proofs.Common.{◌≡◌, refl, false, Option, None, sym, subst, ap, ◌∙◌, rules, Entry, PartialEntry, Obstacle, Bars, obstacle_fault, arith, is_some}
 use Rattle.dvg_make.proofs.Turns.{first_fault, first_ok, first_present, called_none}
 use Rattle.dvg_make.proofs.Telling.{room_of_none, tells_first, begin_no_root}
 use Rattle.dvg_make.proofs.making.Making.need.Goals as goal
@@ -18,14 +17,17 @@ returns-in-Err-clause-err c =
         extends = λ addr key e q. q;
         needed = called_none c.args.rom.now c.args.self.now.done (c.args.addr, c.args.key) c.begin.new.stack (c.in-Err.ensures.same ∙ c.new-stack.ensures);
         room = room_of_none c.args.self.now.done c.begin.new.stack (c.in-Err.ensures.same ∙ c.new-stack.ensures) c.requires.right.done.room;
-        tells = tells_first c.args.rom.now c.args.self.now.done c.args.addr c.args.key c.requires.right.done.unique (nothing_found _ _ c.find.ensures (search rules)) c.new-stack.result c.begin.new.stack c.new-stack.ensures c.in-Err.ensures.same c.obstacle-obstacle.result c.in-Err.cause (c.obstacle-obstacle.ensures ∙ ap (λ (w : PartialEntry). record { cursor = w.cursor; cause = c.in-Err.cause }) c.start.ensures) c.in-Err.ensures.err;
+        tells = tells_first c.args.rom.now c.args.self.now.done c.args.addr c.args.key c.requires.right.done.unique (nothing_found _ _ c.find.ensures (search rules)) c.new-stack.result c.begin.new.stack c.new-stack.ensures c.in-Err.ensures.same c.obstacle-obstacle.result c.in-Err.cause
+            (c.obstacle-obstacle.ensures ∙ ap (λ (w : PartialEntry). record { cursor = w.cursor; cause = c.in-Err.cause }) c.start.ensures) c.in-Err.ensures.err;
       };
       no_root = begin_no_root c.args.self.now.done c.new-stack.result c.args.addr c.args.key c.start.result.cursor c.obstacle-obstacle.result c.in-Err.cause c.obstacle-obstacle.ensures c.in-Err.ensures.err;
       call = refl;
     }
 
 pub loop-partial-init : goal.loop-partial-init
-loop-partial-init c = grind (arith, (first_ok c.args.rom.now c.args.self.now.done c.args.addr c.args.key c.requires.right.done c.requires.near c.requires.key (nothing_found _ _ c.find.ensures (search rules)) c.new-stack.result c.begin.new.stack c.new-stack.ensures c.in_default.ensures.ok), nothing_found, (first_present c.args.self.now.done c.args.addr c.args.key c.new-stack.result c.begin.new.stack c.new-stack.ensures c.in_default.ensures.ok))
+loop-partial-init c =
+    let made = first_ok c.args.rom.now c.args.self.now.done c.args.addr c.args.key c.requires.right.done c.requires.near c.requires.key (nothing_found _ _ c.find.ensures (search rules)) c.new-stack.result c.begin.new.stack c.new-stack.ensures c.in_default.ensures.ok in
+    grind (arith, made, nothing_found, (first_present c.args.self.now.done c.args.addr c.args.key c.new-stack.result c.begin.new.stack c.new-stack.ensures c.in_default.ensures.ok))
 
 pub loop-partial-preserved : goal.loop-partial-preserved
 loop-partial-preserved c = search (rules, c.in_default-turn.ensures.ok c.args.self.now.done (c.args.addr, c.args.key) c.loop-partial.invariant.making, c.in_default-turn.ensures.present c.args.addr c.args.key c.loop-partial.invariant.present)

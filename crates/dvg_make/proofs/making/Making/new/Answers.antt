@@ -1,7 +1,5 @@
 use Rattle.dvg_make.proofs.Common.{arith}
-use Rattle.dvg_make.proofs.Collecting.{none_collected}
-use Rattle.dvg_make.proofs.Joining.{no_tails}
 use Rattle.dvg_make.proofs.making.Making.new.Goals as goal
 
 pub returns-clause-right : goal.returns-clause-right
-returns-clause-right c = grind (arith, none_collected, no_tails)
+returns-clause-right c = grind (arith)

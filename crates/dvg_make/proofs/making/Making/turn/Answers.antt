@@ -19,7 +19,9 @@ returns-in_err-entry-clause-told c =
     (λ from root h. (subst (λ s. TellsObstacle c.args.rom.now c.args.self.now.done root s c.in_err-entry.field-0.0) (sym c.requires.top.1) (tells_stopped c.args.rom.now from root c.args.self.now.done c.requires.top.0 c.args.partial (subst (InProgress c.args.rom.now from root c.args.self.now.done) c.requires.top.1 h) c.in_err-entry.field-0.0 c.in_err-entry.ensures.err), h.needed, h.room))
 
 pub finish-requires-clause-new : goal.finish-requires-clause-new
-finish-requires-clause-new c = grind (arith, (finished_new c.args.rom.now c.requires.making.0 c.requires.making.1 c.args.self.now.done c.requires.top.0 c.args.partial (subst (InProgress c.args.rom.now c.requires.making.0 c.requires.making.1 c.args.self.now.done) c.requires.top.1 c.requires.making.2) c.in-Finished.entry (subst (Advances c.args.rom.now c.args.self.now.done c.args.partial) c.in-Finished.is c.in_ok-entry.ensures.ok)))
+finish-requires-clause-new c =
+    let w = subst (Advances c.args.rom.now c.args.self.now.done c.args.partial) c.in-Finished.is c.in_ok-entry.ensures.ok in
+    grind (arith, (finished_new c.args.rom.now c.requires.making.0 c.requires.making.1 c.args.self.now.done c.requires.top.0 c.args.partial (subst (InProgress c.args.rom.now c.requires.making.0 c.requires.making.1 c.args.self.now.done) c.requires.top.1 c.requires.making.2) c.in-Finished.entry w))
 
 pub finish-requires-clause-made : goal.finish-requires-clause-made
 finish-requires-clause-made c = grind (arith)
@@ -33,8 +35,12 @@ returns-else-is_err-clause-right c = not_err c.finish.result _ (sym c.if-is_err.
 pub returns-then-is_err-clause-told : goal.returns-then-is_err-clause-told
 returns-then-is_err-clause-told c =
     λ from root h.
-    let m = subst (InProgress c.args.rom.now from root c.args.self.now.done) c.requires.top.1 h in
-    (subst (λ s. TellsObstacle c.args.rom.now c.args.self.now.done root s c.obstacle.result) (sym c.requires.top.1) (tells_memory c.args.rom.now from root c.args.self.now.done c.requires.top.0 c.args.partial m c.obstacle.result c.obstacle.ensures (reached c.args.rom.now c.args.self.now.done c.args.partial (walks_last c.args.rom.now c.args.self.now.done c.requires.top.0 c.args.partial m.partials))), h.needed, h.room)
+    let m = subst (InProgress c.args.rom.now from root c.args.self.now.done) c.requires.top.1 h in (
+      subst (λ s. TellsObstacle c.args.rom.now c.args.self.now.done root s c.obstacle.result) (sym c.requires.top.1) (tells_memory c.args.rom.now from root c.args.self.now.done c.requires.top.0 c.args.partial m c.obstacle.result c.obstacle.ensures
+          (reached c.args.rom.now c.args.self.now.done c.args.partial (walks_last c.args.rom.now c.args.self.now.done c.requires.top.0 c.args.partial m.partials))),
+      h.needed,
+      h.room,
+    )
 
 pub returns-else-is_err-clause-ok : goal.returns-else-is_err-clause-ok
 returns-else-is_err-clause-ok c =
@@ -50,28 +56,36 @@ returns-else-is_err-clause-present c =
     let added = not_err c.finish.result _ (sym c.if-is_err.ensures.value) c.finish.ensures.ok in
     subst (λ d. IsPresent d c.pop.new.self addr key) (sym added)
     (subst (λ s. IsPresent (c.args.self.now.done ++ c.in-Finished.entry ∷ []) s addr key) (sym (c.pop.ensures c.requires.top.0 c.args.partial c.requires.top.1))
-    (present_finished c.args.rom.now c.requires.making.0 c.requires.making.1 c.args.self.now.done c.requires.top.0 c.args.partial (subst (InProgress c.args.rom.now c.requires.making.0 c.requires.making.1 c.args.self.now.done) c.requires.top.1 c.requires.making.2) c.in-Finished.entry (subst (Advances c.args.rom.now c.args.self.now.done c.args.partial) c.in-Finished.is c.in_ok-entry.ensures.ok) addr key (subst (λ s. IsPresent c.args.self.now.done s addr key) c.requires.top.1 p)))
+    (present_finished c.args.rom.now c.requires.making.0 c.requires.making.1 c.args.self.now.done c.requires.top.0 c.args.partial (subst (InProgress c.args.rom.now c.requires.making.0 c.requires.making.1 c.args.self.now.done) c.requires.top.1 c.requires.making.2) c.in-Finished.entry
+    (subst (Advances c.args.rom.now c.args.self.now.done c.args.partial) c.in-Finished.is c.in_ok-entry.ensures.ok) addr key (subst (λ s. IsPresent c.args.self.now.done s addr key) c.requires.top.1 p)))
 
 pub returns-in-Ok-clause-ok : goal.returns-in-Ok-clause-ok
 returns-in-Ok-clause-ok c =
-    λ from root h. begun_ok c.args.rom.now from root c.args.self.now.done c.requires.top.0 c.args.partial (subst (InProgress c.args.rom.now from root c.args.self.now.done) c.requires.top.1 h) c.in-Waiting.partial c.in-Waiting.addr (subst (Advances c.args.rom.now c.args.self.now.done c.args.partial) c.in-Waiting.is c.in_ok-entry.ensures.ok) c.replace_top.new.self (c.replace_top.ensures c.requires.top.0 c.args.partial c.requires.top.1) c.begin.new.stack c.in-Ok.ensures.ok
+    λ from root h. begun_ok c.args.rom.now from root c.args.self.now.done c.requires.top.0 c.args.partial (subst (InProgress c.args.rom.now from root c.args.self.now.done) c.requires.top.1 h) c.in-Waiting.partial c.in-Waiting.addr (subst (Advances c.args.rom.now c.args.self.now.done c.args.partial) c.in-Waiting.is c.in_ok-entry.ensures.ok) c.replace_top.new.self
+    (c.replace_top.ensures c.requires.top.0 c.args.partial c.requires.top.1) c.begin.new.stack c.in-Ok.ensures.ok
 
 pub returns-in-Ok-clause-present : goal.returns-in-Ok-clause-present
 returns-in-Ok-clause-present c =
-    λ addr key p. begun_present c.args.rom.now c.requires.making.0 c.requires.making.1 c.args.self.now.done c.requires.top.0 c.args.partial (subst (InProgress c.args.rom.now c.requires.making.0 c.requires.making.1 c.args.self.now.done) c.requires.top.1 c.requires.making.2) c.in-Waiting.partial c.in-Waiting.addr (subst (Advances c.args.rom.now c.args.self.now.done c.args.partial) c.in-Waiting.is c.in_ok-entry.ensures.ok) c.replace_top.new.self (c.replace_top.ensures c.requires.top.0 c.args.partial c.requires.top.1) c.begin.new.stack c.in-Ok.ensures.ok addr key (subst (λ s. IsPresent c.args.self.now.done s addr key) c.requires.top.1 p)
+    λ addr key p. begun_present c.args.rom.now c.requires.making.0 c.requires.making.1 c.args.self.now.done c.requires.top.0 c.args.partial (subst (InProgress c.args.rom.now c.requires.making.0 c.requires.making.1 c.args.self.now.done) c.requires.top.1 c.requires.making.2) c.in-Waiting.partial c.in-Waiting.addr
+    (subst (Advances c.args.rom.now c.args.self.now.done c.args.partial) c.in-Waiting.is c.in_ok-entry.ensures.ok) c.replace_top.new.self (c.replace_top.ensures c.requires.top.0 c.args.partial c.requires.top.1) c.begin.new.stack c.in-Ok.ensures.ok addr key (subst (λ s. IsPresent c.args.self.now.done s addr key) c.requires.top.1 p)
 
 pub returns-in-Err-clause-err : goal.returns-in-Err-clause-err
 returns-in-Err-clause-err c =
     λ from root h. subst (λ (obstacle : Obstacle). Bars c.args.rom.now from root (obstacle_fault obstacle)) (sym c.obstacle-in-Err.ensures)
-    (refused c.args.rom.now from root c.args.self.now.done c.requires.top.0 c.args.partial (subst (InProgress c.args.rom.now from root c.args.self.now.done) c.requires.top.1 h) c.in-Waiting.partial c.in-Waiting.addr (subst (Advances c.args.rom.now c.args.self.now.done c.args.partial) c.in-Waiting.is c.in_ok-entry.ensures.ok) c.replace_top.new.self (c.replace_top.ensures c.requires.top.0 c.args.partial c.requires.top.1) c.in-Waiting.partial.cursor.at c.in-Err.cause c.in-Err.ensures.err)
+    (refused c.args.rom.now from root c.args.self.now.done c.requires.top.0 c.args.partial (subst (InProgress c.args.rom.now from root c.args.self.now.done) c.requires.top.1 h) c.in-Waiting.partial c.in-Waiting.addr (subst (Advances c.args.rom.now c.args.self.now.done c.args.partial) c.in-Waiting.is c.in_ok-entry.ensures.ok) c.replace_top.new.self
+    (c.replace_top.ensures c.requires.top.0 c.args.partial c.requires.top.1) c.in-Waiting.partial.cursor.at c.in-Err.cause c.in-Err.ensures.err)
 
 pub returns-in-Err-clause-told : goal.returns-in-Err-clause-told
 returns-in-Err-clause-told c =
     λ from root h.
     let m = subst (InProgress c.args.rom.now from root c.args.self.now.done) c.requires.top.1 h in
     let w = subst (Advances c.args.rom.now c.args.self.now.done c.args.partial) c.in-Waiting.is c.in_ok-entry.ensures.ok in
-    let moved = c.in-Err.ensures.same ∙ c.replace_top.ensures c.requires.top.0 c.args.partial c.requires.top.1 in
-    (tells_not_begun c.args.rom.now from root c.args.self.now.done c.requires.top.0 c.args.partial m c.in-Waiting.partial c.in-Waiting.addr w c.begin.new.stack moved c.obstacle-in-Err.result c.in-Err.cause c.obstacle-in-Err.ensures (subst (λ s. NotBegun c.args.self.now.done s c.in-Waiting.addr c.in-Waiting.partial.cursor.known.scale c.in-Err.cause) (sym c.in-Err.ensures.same) c.in-Err.ensures.err), called_moved c.args.rom.now from root c.args.self.now.done c.requires.top.0 c.args.partial m c.in-Waiting.partial c.in-Waiting.addr w c.begin.new.stack moved, room_moved c.args.rom.now from root c.args.self.now.done c.requires.top.0 c.args.partial m c.in-Waiting.partial c.begin.new.stack moved)
+    let moved = c.in-Err.ensures.same ∙ c.replace_top.ensures c.requires.top.0 c.args.partial c.requires.top.1 in (
+      tells_not_begun c.args.rom.now from root c.args.self.now.done c.requires.top.0 c.args.partial m c.in-Waiting.partial c.in-Waiting.addr w c.begin.new.stack moved c.obstacle-in-Err.result c.in-Err.cause c.obstacle-in-Err.ensures
+          (subst (λ s. NotBegun c.args.self.now.done s c.in-Waiting.addr c.in-Waiting.partial.cursor.known.scale c.in-Err.cause) (sym c.in-Err.ensures.same) c.in-Err.ensures.err),
+      called_moved c.args.rom.now from root c.args.self.now.done c.requires.top.0 c.args.partial m c.in-Waiting.partial c.in-Waiting.addr w c.begin.new.stack moved,
+      room_moved c.args.rom.now from root c.args.self.now.done c.requires.top.0 c.args.partial m c.in-Waiting.partial c.begin.new.stack moved,
+    )
 
 pub returns-in_err-entry-clause-no_root : goal.returns-in_err-entry-clause-no_root
 returns-in_err-entry-clause-no_root c = grind (arith, if_err_same, stopped_no_root)
