@@ -225,6 +225,7 @@ fn calls_below(
 }
 
 /// The calls that go deepest below the entry at this address and scale.
+#[tactic(auto, using(dvg_items::proofs::Listed::listed_at))]
 fn calls_below_entry(
     alloc: Global,
     rom: &RomImage,

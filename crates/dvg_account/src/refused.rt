@@ -152,6 +152,7 @@ fn chain_line(
 }
 
 /// The items of an entry's shape by which the place and the scale were lost that are not known before a word.
+#[tactic(auto, using(dvg_items::proofs::Listed::listed_at))]
 fn losses_in_shape(rom: &RomImage, cert: &Cert, entry: &Entry, at: u16) -> Option<Losses>
     ensures some { IfSome result (AreLosses (shape_context rom.now.machine cert.now.entries entry.now)
         (rom_word rom.now) entry.now.addr at) }

@@ -3,7 +3,8 @@ pub use Rattle.std.specs.List.{concat, AllByRecursion-prop}
 pub use Rattle.std.proofs.Common.{sum}
 pub use Rattle.std.specs.Bool.{then_some}
 pub use Rattle.std.proofs.lemmas.List.{get_or-map}
-pub use Rattle.dvg_cmd.proofs.Common.{◌≡◌, ℕ, suc, ◌+◌, ◌<◌, List, [], ◌∷◌, ◌++◌, length, take, drop, get_or, refl, sym, ap, ◌∙◌, arith, append-nil, append_assoc, take-suc, take-append-drop, ◌-◌, MemoryMap, rom_on, IsRomLength, ◌≤◌, Option, IsMap, WritesMade, MakesForFrames, FramesFaultMeans, Bool, true, false, Some, None, subst, inl, inr, rules, Window, Rom}
+pub use Rattle.dvg_cmd.proofs.Common.{◌≡◌, ℕ, suc, ◌+◌, ◌<◌, List, [], ◌∷◌, ◌++◌, length, take, drop, get_or, refl, sym, ap, ◌∙◌, arith, append-nil, append_assoc, take-suc, take-append-drop, ◌-◌, MemoryMap, rom_on, IsRomLength, ◌≤◌, Option, IsMap, WritesMade, MakesForFrames, FramesFaultMeans, common_steps, Bool, true, false, Some, None, subst, inl, inr, ◌⊎◌, rules, Window, Rom}
+pub use Rattle.dvg_cmd.proofs.SeveralFrames.{of_each_append}
 pub use Rattle.dvg_make.proofs.Common.{is_at, entry_at, IsRising, AllByRecursion, rom_word, PlaceKnown, ScaleKnown, LitInWindow, LitInBox, InBox, relative_corners, HasCallee, seen_at, shape_context, Shapes, AtLast, ShapeKeeps, CellKeeps, Good, IsKey, IsEnd, IsBox, IsEntry, KeyBefore, Before}
 pub use Rattle.dvg_text.proofs.Common.{Result, Ok, Err, map, length-map}
 pub use Rattle.dvg_check.proofs.Common.{IsWindowOrZone, InWindow, AsClaimed, IsRom}

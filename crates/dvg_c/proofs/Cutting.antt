@@ -1,25 +1,21 @@
 -- Frames that are cut, one after another.
-use Rattle.dvg_c.proofs.Common.{◌≡◌, ℕ, suc, ◌+◌, ◌<◌, List, [], ◌∷◌, ◌++◌, length, sum, take, drop, get_or, refl, sym, ap, ◌∙◌, arith, append-nil, append_assoc, take-suc, take-append-drop, concat, of_each}
+use Rattle.dvg_c.proofs.Common.{◌≡◌, ℕ, suc, ◌+◌, ◌<◌, List, [], ◌∷◌, ◌++◌, length, sum, take, drop, get_or, refl, sym, ap, ◌∙◌, arith, rules, common_steps, append-nil, append_assoc, take-suc, take-append-drop, concat, of_each, of_each_append}
 use Rattle.std.proofs.lemmas.List.Folds.{concat-append}
 use Rattle.std.proofs.lemmas.List.Sums.{sum_by_more}
 
-pub of_each_push : {A B : Type 0} (f : A → B) (xs : List A) (y : A) → of_each f (xs ++ y ∷ []) ≡ of_each f xs ++ f y ∷ []
-of_each_push f [] y = refl
-of_each_push f (x ∷ xs) y = ap (λ l. f x ∷ l) (of_each_push f xs y)
+-- the frames so far and the rest are the bytes, and so are their lengths
+pub record Cut (bytes lengths : List ℕ) (frames : List (List ℕ)) (rest : List ℕ) (i : ℕ) : Type 0 where
+  pub joined : concat frames ++ rest ≡ bytes
+  pub lengths_are : of_each length frames ≡ take i lengths
+  pub total : sum (take i lengths) + length rest ≡ length bytes
 
-module _ (fs : List (List ℕ)) (bytes rest frame behind lengths : List ℕ) (i : ℕ) where
-  -- the next frame is cut off the rest
-  pub joined_next : (n : ℕ) → concat fs ++ rest ≡ bytes → frame ≡ take n rest → behind ≡ drop n rest → concat (fs ++ frame ∷ []) ++ behind ≡ bytes
-  joined_next n h front back =
-      let p = sym (take-append-drop n rest) ∙ ap (λ l. l ++ drop n rest) (sym front) ∙ ap (λ l. frame ++ l) (sym back) in
-      ap (λ l. l ++ behind) (concat-append fs (frame ∷ []) ∙ ap (λ l. concat fs ++ l) (append-nil frame))
-      ∙ append_assoc (concat fs) frame behind ∙ ap (λ l. concat fs ++ l) (sym p) ∙ h
-
-  pub lengths_next : (j : ℕ) → j ≡ suc i → i < length lengths → length frame ≡ get_or lengths i 0 → of_each length fs ≡ take i lengths → of_each length (fs ++ frame ∷ []) ≡ take j lengths
-  lengths_next j next lt so h =
-      of_each_push length fs frame ∙ ap (λ l. l ++ length frame ∷ []) h ∙ ap (λ m. take i lengths ++ m ∷ []) so ∙ sym (take-suc lengths i 0 lt) ∙ ap (λ k. take k lengths) (sym next)
-
-  pub total_next : i < length lengths → length behind + get_or lengths i 0 ≡ length rest → sum (take i lengths) + length rest ≡ length bytes → sum (take (i + 1) lengths) + length behind ≡ length bytes
-  total_next lt cut h =
-      let next : sum (take (i + 1) lengths) ≡ sum (take i lengths) + get_or lengths i 0 = sum_by_more (λ n. n) lengths i 0 lt in
-      omega (arith, next, cut, h)
+-- the next frame is cut off the rest
+pub cut_next : (bytes lengths : List ℕ) (frames : List (List ℕ)) (rest : List ℕ) (i n : ℕ) (frame behind : List ℕ) (more : List (List ℕ)) → Cut bytes lengths frames rest i → i < length lengths → more ≡ frames ++ frame ∷ []
+    → frame ≡ take n rest → behind ≡ drop n rest → length frame ≡ get_or lengths i 0 → length behind + get_or lengths i 0 ≡ length rest → Cut bytes lengths more behind (i + 1)
+cut_next bytes lengths frames rest i n frame behind more h lt grown front back front_len back_len =
+    let next : sum (take (i + 1) lengths) ≡ sum (take i lengths) + get_or lengths i 0 = sum_by_more (λ n. n) lengths i 0 lt in
+    record {
+      joined = grind (arith, common_steps, (concat-append frames (frame ∷ [])), (take-append-drop n rest), h.joined);
+      lengths_are = grind (arith, common_steps, (of_each_append length frames (frame ∷ [])), (take-suc lengths i 0 lt), h.lengths_are);
+      total = omega (arith, next, back_len, h.total);
+    }

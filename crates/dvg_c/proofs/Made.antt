@@ -23,13 +23,7 @@ module _ (machine : Machine) (map : MemoryMap) {rom rom2 : Option (List ℕ)} {r
 -- what comes of a run on the machine and at the map that stand for what C passes
 module _ {number : ℕ} {machine : Machine} {map map2 : MemoryMap} (rom : List ℕ) (roots : List (ℕ × Key)) (bytes lengths : List ℕ)
     (machine_is : (machine ≡ machine_of number) × (number ≤ BOARD)) (map_is : (map ≡ map2) × IsMap map2) where
-  as_passed : (v : Result (List ℕ) Unmade) → RunVerdict machine rom map roots bytes lengths v → RunVerdict (machine_of number) rom map2 roots bytes lengths v
-  as_passed v h = coe 0 1 (i. RunVerdict (machine_is.0 i) rom (map_is.0 i) roots bytes lengths v) h
-
   pub verdict_of : (v : Result (List ℕ) Unmade) → RunVerdict machine rom map roots bytes lengths v → MakeVerdict number rom map2 roots bytes lengths v
-  verdict_of (Ok text) h = (machine_is.1, map_is.1, as_passed (Ok text) h)
   verdict_of (Err unmade.Machine) h = absurd h
   verdict_of (Err unmade.Map) h = absurd h
-  verdict_of (Err unmade.Lengths) h = (machine_is.1, map_is.1, h)
-  verdict_of (Err unmade.Memory) h = (machine_is.1, map_is.1, h)
-  verdict_of (Err (unmade.Run f)) h = (machine_is.1, map_is.1, as_passed (Err (unmade.Run f)) h)
+  verdict_of v h = (machine_is.1, map_is.1, coe 0 1 (i. RunVerdict (machine_is.0 i) rom (map_is.0 i) roots bytes lengths v) h)

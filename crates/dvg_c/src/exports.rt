@@ -43,6 +43,7 @@ pub extern "C" fn dvgcheck_version() -> u32
 }
 
 /// Judges all three on the machine that a number stands for, in a mode.
+#[tactic(auto, using(std::proofs::lemmas::Bool::Decides::nat_tests))]
 fn check_in(
     alloc: Global,
     machine: u32,

@@ -171,6 +171,7 @@ fn unmade_frame(unmade: &Unmade) -> usize
 }
 
 /// What is told where there is no certificate.
+#[tactic(auto, using(std::proofs::lemmas::Bool::Decides::nat_tests))]
 pub fn no_certificate(unmade: &Unmade) -> TextAnswer
     ensures { (buffer : List ℕ) → TellsMade (Err unmade.now) buffer buffer result }
 {

@@ -1,6 +1,5 @@
 -- A list of entries from its entries one by one.
-use Rattle.dvg_cert.proofs.Common.{◌≡◌, ℕ, zero, suc, ◌+◌, ◌<◌, ◌≤◌, List, [], ◌∷◌, ◌++◌, length, get_or, take, drop, refl, ap, arith, add-one, AllByRecursion, length-take-le, MemoryMap, MOST_ENTRIES, Entry, IsEntry, IsCertificate, IsRising, StandsAfter, rules, common_steps}
-use Rattle.dvg_cert.proofs.Rising.{certificate_push}
+use Rattle.dvg_cert.proofs.Common.{◌≡◌, ℕ, zero, suc, ◌+◌, ◌<◌, List, [], ◌∷◌, ◌++◌, length, get_or, take, drop, refl, ap, subst, arith, AllByRecursion, MemoryMap, Entry, IsEntry, IsCertificate, IsRising, StandsAfter}
 
 -- a list within a list
 pub each_mid : {X : Type 0} (P : X → Type 0) (xs : List X) (y : X) (ys : List X) → AllByRecursion P (xs ++ y ∷ ys) → P y
@@ -18,5 +17,8 @@ cut_at [] i d lt = absurd (omega arith)
 cut_at (x ∷ es) zero d lt = (refl, refl)
 cut_at (x ∷ es) (suc i) d lt = let r = cut_at es i d (omega arith) in (ap (λ (t : List Entry). x ∷ t) r.0, ap (λ (t : List Entry). x ∷ t) r.1)
 
-pub one_further : (map : MemoryMap) (es : List Entry) (i : ℕ) (d : Entry) → i < length es → length es ≤ MOST_ENTRIES → IsCertificate map (take i es) → IsEntry map.rom_first map.rom_last (get_or es i d) → StandsAfter (take i es) (get_or es i d) → IsCertificate map (take (i + 1) es)
-one_further map es i d lt few h fits s = grind (arith, rules, common_steps, (certificate_push map (take i es) (get_or es i d) h fits s (omega (arith, length-take-le i es (omega arith)))), (length-take-le i es (omega arith)), add-one, (cut_at es i d lt), certificate_push, length-take-le, cut_at)
+-- an entry of a certificate is within the limits, and stands after those before it
+pub stands_there : (map : MemoryMap) (es : List Entry) (i : ℕ) (d : Entry) → IsCertificate map es → i < length es → IsEntry map.rom_first map.rom_last (get_or es i d) × StandsAfter (take i es) (get_or es i d)
+stands_there map es i d h lt =
+    let parts = (cut_at es i d lt).0 in
+    (each_mid (IsEntry map.rom_first map.rom_last) _ _ _ (subst (λ (l : List Entry). AllByRecursion (IsEntry map.rom_first map.rom_last) l) parts h.each), rising_mid _ _ _ (subst (λ (l : List Entry). IsRising l) parts h.rising))

@@ -1,19 +1,12 @@
 -- A list that rises has one entry at an address and key at most.
-use Rattle.dvg_cert.proofs.Common.{◌≡◌, ℕ, zero, suc, Bool, true, false, cond, List, [], ◌∷◌, length, take, get_or, ◌<◌, Option, Some, None, refl, sym, subst, ◌∙◌, arith, inl, inr, ◌⊎◌, IfSome, IfNone, Contains, nat_tests, Entry, Key, At, Any, Before, IsRising, rules, common_steps, same_key, is_at, entry_at, IsOnlyAt, HasNoneAt}
+use Rattle.dvg_cert.proofs.Common.{◌≡◌, ℕ, zero, suc, Bool, true, false, cond, List, [], ◌∷◌, length, take, get_or, ◌<◌, Option, Some, None, refl, sym, subst, arith, inl, inr, ◌⊎◌, IfSome, IfNone, Contains, nat_tests, Entry, Key, Before, IsRising, rules, common_steps, is_at, entry_at, IsOnlyAt, HasNoneAt}
 use Rattle.std.proofs.lemmas.Bool.{and_parts, and_from}
 
-key_same : (a b : Key) → same_key a b ≡ true → b ≡ a
-key_same a b h = grind (arith, nat_tests)
-
-key_itself : (a : Key) → same_key a a ≡ true
-key_itself (At m) = grind (arith, nat_tests)
-key_itself Any = refl
-
 pub at_means : (addr : ℕ) (key : Key) (e : Entry) → is_at addr key e ≡ true → (e.addr ≡ addr) × (e.key ≡ key)
-at_means addr key e h = grind (arith, and_parts, nat_tests, key_same)
+at_means addr key e h = grind (arith, and_parts, nat_tests)
 
 pub at_holds : (addr : ℕ) (key : Key) (e : Entry) → e.addr ≡ addr → e.key ≡ key → is_at addr key e ≡ true
-at_holds addr key e a k = grind (arith, nat_tests, key_itself, and_from)
+at_holds addr key e a k = grind (arith, nat_tests, and_from)
 
 pub before_next : (e f g : Entry) → Before e f → Before f g → Before e g
 before_next e f g h3 h4 = grind (arith)
@@ -51,21 +44,11 @@ new_at (e ∷ es) (suc i) d h lt = grind (arith, rules, common_steps, not_at, be
 -- one more entry in front
 found_first : (addr : ℕ) (key : Key) (e : Entry) (es : List Entry) (b : Bool) (o : Option Entry) → is_at addr key e ≡ b → IsRising (e ∷ es) → IfSome o (IsOnlyAt es addr key) × IfNone o (HasNoneAt es addr key)
     → IfSome (cond b (Some e) o) (IsOnlyAt (e ∷ es) addr key) × IfNone (cond b (Some e) o) (HasNoneAt (e ∷ es) addr key)
-found_first addr key e es true o is h r =
+found_first addr key e es true o is h _ =
     let here = at_means addr key e is in
-    let only : (f : Entry) → Contains (e ∷ es) f → f.addr ≡ addr → f.key ≡ key → f ≡ e = λ f c a k. elim (first_or_later e es f c) [
-      | inl same ↦ same
-      | inr d ↦ absurd (not_before e f (a ∙ sym here.0) (k ∙ sym here.1) (before_later e es f h d))
-    ] in
-    (((zero, omega arith, refl), here.0, here.1, only), tt)
-found_first addr key e es false o is h r = by o r
-  where
-    further : (f : Entry) → Contains (e ∷ es) f → f.addr ≡ addr → f.key ≡ key → Contains es f
-    further f c a k = elim (first_or_later e es f c) [ inl same ↦ let yes = at_holds addr key f a k in absurd cc | inr d ↦ d ]
-
-    by : (o : Option Entry) → IfSome o (IsOnlyAt es addr key) × IfNone o (HasNoneAt es addr key) → IfSome o (IsOnlyAt (e ∷ es) addr key) × IfNone o (HasNoneAt (e ∷ es) addr key)
-    by None r = (tt, λ f c a k. r.1 f (further f c a k) a k)
-    by (Some g) r = ((later e es g r.0.0, r.0.1, r.0.2, λ f c a k. r.0.3 f (further f c a k) a k), tt)
+    (((zero, omega arith, refl), here.0, here.1, λ f c a k. grind (arith, (first_or_later e es f c), (not_before e f), (before_later e es f h))), tt)
+found_first addr key e es false None is h r = (tt, λ f c a k. grind (arith, at_holds, first_or_later, (r.1 f)))
+found_first addr key e es false (Some g) is h r = ((later e es g r.0.0, r.0.1, r.0.2, λ f c a k. grind (arith, at_holds, first_or_later, (r.0.3 f))), tt)
 
 pub found : (es : List Entry) (addr : ℕ) (key : Key) → IsRising es → IfSome (entry_at es addr key) (IsOnlyAt es addr key) × IfNone (entry_at es addr key) (HasNoneAt es addr key)
 found [] addr key h = (tt, λ f c a k. absurd (omega (arith, c.1)))

@@ -1,6 +1,9 @@
 -- Looking an entry up among pairs of an address and key with an entry.
-use Rattle.dvg_cert.proofs.Common.{◌≡◌, ℕ, Bool, ◌&&◌, List, [], ◌∷◌, ◌++◌, refl, ap, ◌∙◌, arith, length, suc, nat_eq, All-nil, All-cons, Entry, Key, At, Any, IsOwn, IsKeyed, same_key, is_at, entry_at}
+use Rattle.dvg_cert.proofs.Common.{◌≡◌, ℕ, Bool, ◌&&◌, List, [], ◌∷◌, ◌++◌, refl, ap, ◌∙◌, arith, suc, nat_eq, Entry, Key, At, Any, IsOwn, IsKeyed, same_key, is_at, entry_at}
+use Rattle.std.proofs.lemmas.List.{map-append}
+use Rattle.std.proofs.lemmas.List.Elements.{All-push}
 use Rattle.std.specs.Map.{lookup, values_of}
+pub use Rattle.std.proofs.lemmas.Map.Entries.{length-values_of}
 use Rattle.dvg_cert.specs.contracts.entry.KeyPartialEq.TheImpl.{ghosts}
 
 keyed_tail : (p : (ℕ × Key) × Entry) (ps : List ((ℕ × Key) × Entry)) → IsKeyed (p ∷ ps) → IsKeyed ps
@@ -26,13 +29,7 @@ pair_test addr key e = ap (λ b. nat_eq addr e.addr && b) (key_test key e.key)
 -- ---- one pair more
 
 pub values_of-append : (ps qs : List ((ℕ × Key) × Entry)) → values_of (ps ++ qs) ≡ values_of ps ++ values_of qs
-values_of-append [] qs = refl
-values_of-append (p ∷ ps) qs = ap (λ (l : List Entry). p.1 ∷ l) (values_of-append ps qs)
+values_of-append ps qs = map-append (λ p. p.1) ps qs
 
 pub keyed_push : (ps : List ((ℕ × Key) × Entry)) (e : Entry) → IsKeyed ps → IsKeyed (ps ++ ((e.addr, e.key), e) ∷ [])
-keyed_push [] e h = All-cons IsOwn ((e.addr, e.key), e) [] refl (All-nil IsOwn)
-keyed_push (p ∷ ps) e h = All-cons IsOwn p (ps ++ ((e.addr, e.key), e) ∷ []) (h 0 p (omega arith)) (keyed_push ps e (keyed_tail p ps h))
-
-pub length-values_of : (ps : List ((ℕ × Key) × Entry)) → length (values_of ps) ≡ length ps
-length-values_of [] = refl
-length-values_of (p ∷ ps) = let e = length-values_of ps in omega (arith, e)
+keyed_push ps e h = All-push IsOwn ps ((e.addr, e.key), e) h refl

@@ -78,6 +78,7 @@ pub fn certificate_unchecked(map: RomMap, entries: Vec<Entry>) -> Cert
 }
 
 /// Whether entries rise and are within the limits of a certificate for a ROM at this map.
+#[tactic(auto, using(crate::proofs::Rising::certificate_push, crate::proofs::ListParts::stands_there, std::proofs::lemmas::Grind::common_steps))]
 fn is_certificate(map: RomMap, entries: &[Entry]) -> bool
     ensures { IsTrue result ↔ IsCertificate map entries.now }
 {
@@ -97,6 +98,7 @@ fn is_certificate(map: RomMap, entries: &[Entry]) -> bool
 }
 
 /// Whether an entry stands after the last one of these.
+#[tactic(auto, using(crate::proofs::Rising::stands))]
 pub fn stands_after(entries: &[Entry], entry: &Entry) -> bool
     ensures { IsTrue result ↔ StandsAfter entries.now entry.now }
 {

@@ -90,6 +90,7 @@ impl<'a> HashIndex<'a> {
 
     /// The entry with exactly this address and key, by reference.
     #[inline(never)]
+    #[tactic(auto, using(crate::proofs::Hashing::at_index))]
     fn entry_of(&self, addr: u16, key: Key) -> Option<&Entry>
         ensures { option_copied result ≡ entry_at self.now addr key }
     {

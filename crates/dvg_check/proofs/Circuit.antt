@@ -1,5 +1,5 @@
 -- What is safe on the board's generator is safe on its circuit.
-use Rattle.dvg_check.proofs.Common.{Bool, true, ◌≡◌, ℕ, zero, suc, ◌+◌, ◌%◌, ◌≤◌, inl, inr, ◌⊎◌, ⊎_elim, List, ◌∷◌, length, nat_lt, refl, ap, sym, subst, ◌∙◌, arith, pos, if◌then◌else◌, AllByRecursion, cases_lt, Window, Point, Board, InWindow, Memory, IsMemory, Stroke, State, Status, Running, Halted, Fault, Reached, start, next_status, state_of, Ends, IsSafeStatus, Safe, rules, reverse, AllZip, length-reverse, Circuit, Counters, Reads, Run, act, run_after, begin, IsStart, ReadsAs, IsSamePlace, IsDrawnAs, Agrees, AgreesWith, counters_after, IsMapped, IsPast, IsSafeRun, SafeRuns, CountsOfRun, IsDrawAtPlaces, SafeIsWithinOnCircuit, SafeIsSafeOnCircuit, CountsAreOnCircuit}
+use Rattle.dvg_check.proofs.Common.{Bool, true, ◌≡◌, ℕ, zero, suc, ◌+◌, ◌%◌, ◌≤◌, List, ◌∷◌, length, nat_lt, refl, ap, sym, subst, ◌∙◌, arith, pos, if◌then◌else◌, AllByRecursion, cases_lt, Window, Point, Board, InWindow, Memory, IsMemory, Stroke, State, Status, Running, Halted, Fault, Reached, start, next_status, state_of, Ends, IsSafeStatus, Safe, rules, AllZip, length-reverse, Circuit, Counters, Reads, Run, act, run_after, begin, IsStart, ReadsAs, IsSamePlace, IsDrawnAs, Agrees, AgreesWith, counters_after, IsPast, IsSafeRun, SafeRuns, CountsOfRun, IsDrawAtPlaces, SafeIsWithinOnCircuit, SafeIsSafeOnCircuit, CountsAreOnCircuit}
 use Rattle.std.specs.Prelude.{◌*ℤ◌}
 use Rattle.dvg_words.proofs.Stack.{stack_within_max}
 use Rattle.dvg_circuit.specs.declared.lit.LitDraw.{LitDraw}
@@ -7,7 +7,7 @@ use Rattle.dvg_circuit.proofs.Following.{all_reversed, circuit_follows}
 use Rattle.dvg_circuit.proofs.Moves.{drawn_on_stroke}
 use Rattle.dvg_circuit.proofs.Showing.{lit_in_window, drawn_in_window}
 use Rattle.dvg_check.specs.Safety.{CountsAtHalt}
-use Rattle.dvg_check.proofs.Runs.{reached_on, grows}
+use Rattle.dvg_check.proofs.Runs.{reached_on}
 use Rattle.dvg_check.proofs.Safety.{safe_state}
 
 -- ---- the run of the generator that the circuit follows
@@ -17,19 +17,14 @@ abbrev place_of : Counters → Point
 place_of c = record { x = pos 1024 *ℤ pos c.x; y = pos 1024 *ℤ pos c.y }
 
 same_place : (c : Circuit) → IsStart c → IsSamePlace (place_of c.counters) c.counters
-same_place c begun =
-    record {
-      x = pos c.counters.x;
-      y = pos c.counters.y;
-      place = refl;
-      counters = ap (λ k. pair k c.counters.y) (omega (arith, begun.x)) ∙ ap (λ k. pair (c.counters.x % 4096) k) (omega (arith, begun.y));
-    }
-  where
-    pair : ℕ → ℕ → Counters
-    pair x y = record { x = x; y = y }
+same_place c begun = record { x = pos c.counters.x; y = pos c.counters.y; place = refl; counters = grind (arith) }
 
 abbrev first : Circuit → State
 first c = start (place_of c.counters) c.scale
+
+-- after one of these instructions the stack pointer is just so many calls past where it was
+abbrev Stored : ℕ → (ℕ → Run) → ℕ → ℕ → Type 0
+Stored before run n most = (k : ℕ) × (k ≤ n) × ((run k).circuit.pointer ≡ (before + most) % 16)
 
 -- the status of the generator after as many steps as the circuit took instructions, or at its halt, which comes no later
 record Follows (m : Memory) (reads : ℕ → Reads) (c : Circuit) (n : ℕ) : Type 0 where
@@ -39,39 +34,42 @@ record Follows (m : Memory) (reads : ℕ → Reads) (c : Circuit) (n : ℕ) : Ty
   reached : Reached m steps (Running (first c)) status
   agrees : AgreesWith c.pointer status (run_after reads n (begin c))
   going : (s : State) → status ≡ Running s → steps ≡ n
+  deepest : Stored c.pointer (λ k. run_after reads k (begin c)) n (state_of status).max_stack
+
+-- what is stored at most grows only where just so many are stored
+deeper : (base n : ℕ) (run : ℕ → Run) (m : Memory) (s : State) → AgreesWith base (next_status m s) (run (suc n)) → Stored base run n s.max_stack → Stored base run (suc n) (state_of (next_status m s)).max_stack
+unfolding next_status
+deeper base n run m s agrees deep = grind (arith, nat_lt, (cases_lt s.max_stack (length s.return_stack + 1)))
 
 module _ (m : Memory) (w : Window) (words depth : ℕ) (mem : IsMemory m) (board : m.rom.machine ≡ Board) (safe : Safe m w words depth) (c : Circuit) (reads : ℕ → Reads) (begun : IsStart c) (seen : ReadsAs m reads (begin c)) where
-  small : c.scale ≤ 15
-  small = omega (arith, begun.scale)
-
   safe_at : (steps : ℕ) (status : Status) → Reached m steps (Running (first c)) status → IsSafeStatus m w words depth steps status
-  safe_at = safe.each (place_of c.counters) c.scale small
+  safe_at = safe.each (place_of c.counters) c.scale (omega (arith, begun.scale))
 
   agree : (steps : ℕ) (status : Status) → Reached m steps (Running (first c)) status → AgreesWith c.pointer status (run_after reads steps (begin c))
   agree steps status = circuit_follows m reads c (place_of c.counters) steps status mem board begun seen (same_place c begun)
 
   -- one more instruction; none after a halt
-  on : (n steps : ℕ) (status : Status) → steps ≤ n → Reached m steps (Running (first c)) status → AgreesWith c.pointer status (run_after reads n (begin c)) → ((s : State) → status ≡ Running s → steps ≡ n) → Follows m reads c (suc n)
-  on n steps (Running s) within reached agrees going =
+  on : (n steps : ℕ) (status : Status) → steps ≤ n → Reached m steps (Running (first c)) status → AgreesWith c.pointer status (run_after reads n (begin c)) → ((s : State) → status ≡ Running s → steps ≡ n)
+      → Stored c.pointer (λ k. run_after reads k (begin c)) n (state_of status).max_stack → Follows m reads c (suc n)
+  on n steps (Running s) within reached agrees going deep =
       let same : steps + 1 ≡ suc n = omega (arith, going s refl) in
-      let next : Reached m (steps + 1) (Running (first c)) (next_status m s) = reached_on m steps 1 (Running (first c)) (Running s) (next_status m s) reached (next_status m s, refl, refl) in
-      search (rules, steps + 1, next_status m s, next, subst (λ k. AgreesWith c.pointer (next_status m s) (run_after reads k (begin c))) same (agree (steps + 1) (next_status m s) next))
-  on n steps (Halted s) within reached agrees going =
+      let next : Reached m (suc n) (Running (first c)) (next_status m s) = subst (λ k. Reached m k (Running (first c)) (next_status m s)) same (reached_on m steps 1 (Running (first c)) (Running s) (next_status m s) reached (next_status m s, refl, refl)) in
+      let now = agree (suc n) (next_status m s) next in
+      record { steps = suc n; status = next_status m s; within = omega arith; reached = next; agrees = now; going = λ t e. refl; deepest = deeper c.pointer n (λ k. run_after reads k (begin c)) m s now deep }
+  on n steps (Halted s) within reached agrees going deep =
       let r : Run = run_after reads n (begin c) in
-      search (rules, steps, Halted s, reached, subst (λ (halted : Bool). AgreesWith c.pointer (Halted s) (if halted then r else act (reads n) (reads n r.circuit.pc) r)) (sym agrees.0) agrees)
-  on n steps (Fault s) within reached agrees going = absurd (safe_at steps (Fault s) reached)
+      let later : Stored c.pointer (λ k. run_after reads k (begin c)) (suc n) s.max_stack = (deep.0, omega (arith, deep.1), deep.2) in
+      search (rules, steps, Halted s, reached, subst (λ (halted : Bool). AgreesWith c.pointer (Halted s) (if halted then r else act (reads n) (reads n r.circuit.pc) r)) (sym agrees.0) agrees, later)
+  on n steps (Fault s) within reached agrees going deep = absurd (safe_at steps (Fault s) reached)
 
   follows : (n : ℕ) → Follows m reads c n
-  follows zero = record { steps = 0; status = Running (first c); within = omega arith; reached = refl; agrees = agree 0 (Running (first c)) refl; going = λ s e. refl }
-  follows (suc n) = let f = follows n in on n f.steps f.status f.within f.reached f.agrees f.going
+  follows zero = record { steps = 0; status = Running (first c); within = omega arith; reached = refl; agrees = agree 0 (Running (first c)) refl; going = λ s e. refl; deepest = (0, omega arith, omega (arith, begun.pointer)) }
+  follows (suc n) = let f = follows n in on n f.steps f.status f.within f.reached f.agrees f.going f.deepest
 
   -- ---- what is safe
 
-  agreeing : (status : Status) (steps : ℕ) (r : Run) → IsSafeStatus m w words depth steps status → AgreesWith c.pointer status r → Agrees c.pointer (state_of status) r
-  agreeing status steps r h agrees = grind (arith)
-
   stored_at : (n : ℕ) → IsPast c.pointer depth (run_after reads n (begin c)).circuit.pointer
-  stored_at n = grind (arith, (follows n), safe_at, safe_state, stack_within_max, state_of, agreeing)
+  stored_at n = grind (arith, (follows n), safe_at, safe_state, stack_within_max, state_of)
 
   -- what holds of the draw of each stroke that lies in the window holds of the draws of all of them
   module _ (P : LitDraw → Type 0) (drawn : (stroke : Stroke) (l : LitDraw) → InWindow w stroke.from → InWindow w stroke.to → IsDrawnAs stroke l → P l) where
@@ -84,19 +82,20 @@ module _ (m : Memory) (w : Window) (words depth : ℕ) (mem : IsMemory m) (board
         let f = follows n in
         let h = safe_at f.steps f.status f.reached in
         let s = safe_state m w words depth f.steps f.status h in
-        let a = agreeing f.status f.steps _ h f.agrees in
-        let r : Run = run_after reads n (begin c) in
-        record {
-          few = omega (arith, s.few, ap length a.fetched, length-reverse (state_of f.status).fetched);
-          mapped = subst (AllByRecursion (IsMapped m)) (sym a.fetched) (all_reversed (IsMapped m) (state_of f.status).fetched s.mapped);
-          stored = stored_at n;
-          lit = all_drawn (reverse (state_of f.status).strokes) r.lit (all_reversed (Ends (InWindow w)) (state_of f.status).strokes s.lit) a.lit;
-        }
+        let a : Agrees c.pointer (state_of f.status) (run_after reads n (begin c)) = grind (arith, h) in
+        grind (arith, s, a, (stored_at n), length-reverse, all_reversed, all_drawn)
 
   halts : (n : ℕ) × (n ≤ words) × ((run_after reads n (begin c)).circuit.halted ≡ true)
   halts =
-      let end = safe.halts (place_of c.counters) c.scale small in
+      let end = safe.halts (place_of c.counters) c.scale (omega (arith, begun.scale)) in
       (end.0, end.2, (agree end.0 (Halted end.1) end.3).0)
+
+  counts_by : CountsAtHalt m words depth → (n steps : ℕ) (status : Status) → Reached m steps (Running (first c)) status → AgreesWith c.pointer status (run_after reads n (begin c)) → Stored c.pointer (λ k. run_after reads k (begin c)) n (state_of status).max_stack
+      → (run_after reads n (begin c)).circuit.halted ≡ true → CountsOfRun words depth c.pointer (λ k. run_after reads k (begin c)) n
+  counts_by counts n steps (Halted h) reached agrees deep halted =
+      let just = counts (place_of c.counters) c.scale steps h (omega (arith, begun.scale)) reached in
+      record { exactly = ap length agrees.1.fetched ∙ length-reverse h.fetched ∙ just.0; most = stored_at; deepest = subst (Stored c.pointer (λ k. run_after reads k (begin c)) n) just.1 deep }
+  counts_by counts n steps status reached agrees deep halted = grind (arith, (safe_at steps status reached))
 
 -- what holds of the draw of each stroke that lies in the window holds of the lit draws of all runs
 safe_runs : (P : LitDraw → Type 0) (m : Memory) (w : Window) (words depth : ℕ) → IsMemory m → m.rom.machine ≡ Board → Safe m w words depth
@@ -111,12 +110,8 @@ safe_runs P m w words depth mem board safe drawn =
 drawn_at_places : (w : Window) (stroke : Stroke) (l : LitDraw) → InWindow w stroke.from → InWindow w stroke.to → IsDrawnAs stroke l → IsDrawAtPlaces w l
 unfolding drawn_on_stroke
 drawn_at_places w stroke l from to h =
-    record {
-      x = h.from.x;
-      y = h.from.y;
-      inside = λ n le. lit_in_window w stroke (counters_after l.draw l.from n) (drawn_on_stroke stroke l h n le) from to;
-      counters = λ n le. (drawn_on_stroke stroke l h n le).same.counters;
-    }
+    let on = drawn_on_stroke stroke l h in
+    record { x = h.from.x; y = h.from.y; inside = λ n le. lit_in_window w stroke (counters_after l.draw l.from n) (on n le) from to; counters = λ n le. (on n le).same.counters }
 
 pub within_on_circuit : SafeIsWithinOnCircuit
 within_on_circuit m w words depth mem board safe = safe_runs (IsDrawAtPlaces w) m w words depth mem board safe (drawn_at_places w)
@@ -124,61 +119,7 @@ within_on_circuit m w words depth mem board safe = safe_runs (IsDrawAtPlaces w) 
 pub safe_on_circuit : SafeIsSafeOnCircuit
 safe_on_circuit m w words depth mem board is safe = search (rules, safe_runs, drawn_in_window)
 
--- ---- the most places stored
-
--- what is stored at most grows only where just so many are stored
-abbrev Rises : State → Status → Type 0
-Rises s after = ((state_of after).max_stack ≤ s.max_stack) ⊎ ((u : State) × (after ≡ Running u) × (length u.return_stack ≡ u.max_stack))
-
-rises_next : (m : Memory) (s : State) → Rises s (next_status m s)
-unfolding next_status
-rises_next m s = grind (arith, nat_lt, (cases_lt s.max_stack (length s.return_stack + 1)))
-
--- a state of the run in which so many are stored as are at most up to the end
-abbrev Deepest : Memory → ℕ → State → Status → Type 0
-Deepest m n s after = (k : ℕ) × (u : State) × (k ≤ n) × Reached m k (Running s) (Running u) × (length u.return_stack ≡ (state_of after).max_stack)
-
-deepest_on : (m : Memory) (n : ℕ) (s : State) (mid after : Status) → next_status m s ≡ mid → Reached m n mid after
-    → ((u : State) → Reached m n (Running u) after → ((state_of after).max_stack ≤ u.max_stack) ⊎ Deepest m n u after)
-    → ((state_of after).max_stack ≤ s.max_stack) ⊎ Deepest m (suc n) s after
-deepest_on m n s (Running u) after e reached rest =
-    let most = (grows m n (Running u) after reached).stored in
-    ⊎_elim
-    (λ le. ⊎_elim
-    (λ less. inl (omega (arith, le, less)))
-    (λ full. inr (1, u, omega arith, (Running u, e, refl), omega (arith, le, most, full)))
-    (here u (subst (Rises s) e (rises_next m s))))
-    (λ later. inr (suc later.0, later.1, omega (arith, later.2), (Running u, e, later.3), later.4))
-    (rest u reached)
-  where
-    here : (u : State) → Rises s (Running u) → (u.max_stack ≤ s.max_stack) ⊎ (length u.return_stack ≡ u.max_stack)
-    here u h = ⊎_elim (λ le. inl le) (λ full. inr (let same : Running u ≡ Running full.0 = full.1 in cc)) h
-deepest_on m zero s mid after e reached rest = grind (arith, state_of, rises_next)
-deepest_on m (suc n) s mid after e reached rest = absurd reached.1
-
-deepest_from : (m : Memory) (n : ℕ) (s : State) (after : Status) → Reached m n (Running s) after → ((state_of after).max_stack ≤ s.max_stack) ⊎ Deepest m n s after
-deepest_from m zero s after reached = inl (omega (arith, ap (λ (t : Status). (state_of t).max_stack) reached))
-deepest_from m (suc n) s after reached = deepest_on m n s reached.0 after reached.1 reached.2 (λ u. deepest_from m n u after)
-
-deepest : (m : Memory) (place : Point) (scale n : ℕ) (after : Status) → Reached m n (Running (start place scale)) after → Deepest m n (start place scale) after
-deepest m place scale n after reached = grind (arith, start, deepest_from)
-
-module _ (m : Memory) (w : Window) (words depth : ℕ) (mem : IsMemory m) (board : m.rom.machine ≡ Board) (safe : Safe m w words depth) (counts : CountsAtHalt m words depth) (c : Circuit) (reads : ℕ → Reads) (begun : IsStart c) (seen : ReadsAs m reads (begin c)) where
-  counts_by : (n steps : ℕ) (status : Status) → steps ≤ n → Reached m steps (Running (first c)) status → AgreesWith c.pointer status (run_after reads n (begin c)) → (run_after reads n (begin c)).circuit.halted ≡ true
-      → CountsOfRun words depth c.pointer (λ k. run_after reads k (begin c)) n
-  counts_by n steps (Running s) within reached agrees halted = grind (arith)
-  counts_by n steps (Fault s) within reached agrees halted = absurd (safe_at m w words depth mem board safe c reads begun seen steps (Fault s) reached)
-  counts_by n steps (Halted h) within reached agrees halted =
-      let place = place_of c.counters in
-      let just = counts place c.scale steps h (small m w words depth mem board safe c reads begun seen) reached in
-      let deep = deepest m place c.scale steps (Halted h) reached in
-      let there = (agree m w words depth mem board safe c reads begun seen deep.0 (Running deep.1) deep.3).1 in
-      record {
-        exactly = ap length agrees.1.fetched ∙ length-reverse h.fetched ∙ just.0;
-        most = stored_at m w words depth mem board safe c reads begun seen;
-        deepest = (deep.0, omega (arith, deep.2, within), there.pointer ∙ ap (λ k. (c.pointer + k) % 16) (deep.4 ∙ just.1));
-      }
-
 pub counts_on_circuit : CountsAreOnCircuit
 counts_on_circuit m w words depth mem board safe counts c reads begun seen n halted =
-    let f = follows m w words depth mem board safe c reads begun seen n in counts_by m w words depth mem board safe counts c reads begun seen n f.steps f.status f.within f.reached f.agrees halted
+    let f = follows m w words depth mem board safe c reads begun seen n in
+    counts_by m w words depth mem board safe c reads begun seen counts n f.steps f.status f.reached f.agrees f.deepest halted

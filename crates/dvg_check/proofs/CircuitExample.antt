@@ -42,7 +42,7 @@ safe : Safe (memory_for Board) screen 7 1
 safe = let good = worked_example Board in good_is_safe Exact (memory_for Board) screen example_list 20000 7 1 good.memory shallow good.exact good.frame
 
 whole : IsWindow screen
-whole = record { x_least = omega (arith, ints); x_ordered = omega (arith, ints); x_inside = omega (arith, ints); y_least = omega (arith, ints); y_ordered = omega (arith, ints); y_inside = omega (arith, ints) }
+whole = grind (arith, ints)
 
 pub worked_circuit : WorkedCircuit
 worked_circuit =

@@ -1,5 +1,5 @@
 -- The runs of the worked frame, state by state.
-use Rattle.dvg_check.proofs.Common.{arith, ap, refl, true, false, inl, length, pos, ◌≡◌, ◌⊎◌, ◌∷◌, ℕ, [], Machine, Profile, Board, Point, Cell, Holds, Short, Long, Labs, Halt, DrawFields, displacement, labs_place, cell_at, instruction_of, State, Status, Running, Halted, Fault, Reached, start, next_status, word_at, Course, course_after, course_at_start, on, Draws, course_of, FewDraws}
+use Rattle.dvg_check.proofs.Common.{arith, ap, refl, true, false, inl, pos, ◌≡◌, ◌⊎◌, ◌∷◌, ℕ, [], Machine, Profile, Board, Point, Cell, Holds, Short, Long, Labs, Halt, DrawFields, displacement, labs_place, cell_at, instruction_of, State, Status, Running, Halted, Fault, Reached, start, next_status, word_at, Course, course_after, course_at_start, on, Draws, course_of, FewDraws}
 use Rattle.dvg_check.specs.CourseExample.{edge_memory, edge_move, edge_course, WorkedCourse}
 use Rattle.dvg_check.proofs.Course.{along}
 
@@ -30,20 +30,15 @@ Runs machine c (Fault s) = ⊥
 abbrev IsThere : Machine → ℕ → Cell → Type 0
 IsThere machine p cell = cell_at (word_at (on machine edge_memory)) p ≡ cell
 
+-- the four items, where the LABS sets the beam, and how far a draw moves it
 there : (machine : Machine) → IsThere machine 0 (Holds Long (Labs 1022 100 0)) × IsThere machine 2 (Holds Long (Draws half)) × IsThere machine 4 (Holds Long (Draws half)) × IsThere machine 6 (Holds Short Halt)
-unfolding cell_at instruction_of
-there Profile = (refl, refl, refl, refl)
-there Board = (refl, refl, refl, refl)
-
--- where the LABS sets the beam, and how far a draw moves it
-moves : (machine : Machine) → (labs_place machine 1022 100 ≡ record { x = pos 1046528; y = pos 102400 }) × (displacement machine half 0 ≡ edge_move machine)
-unfolding displacement
-moves Profile = (refl, refl)
-moves Board = (refl, refl)
+    × (labs_place machine 1022 100 ≡ record { x = pos 1046528; y = pos 102400 }) × (displacement machine half 0 ≡ edge_move machine)
+unfolding cell_at instruction_of displacement
+there machine = grind (arith)
 
 leads_next : (machine : Machine) (c : Course) (s : State) → Stands machine c s → Runs machine (course_after (on machine edge_memory) (Running s) c) (next_status (on machine edge_memory) s)
 unfolding next_status
-leads_next machine c s h3 = grind (arith, cell_at, word_at, on, labs_place, displacement, ((there machine).0), ((there machine).1), ((there machine).2), ((there machine).3), ((moves machine).0), ((moves machine).1))
+leads_next machine c s h3 = grind (arith, cell_at, word_at, on, labs_place, displacement, (there machine))
 
 -- each state of each run
 runs :
@@ -62,7 +57,7 @@ halting Board place scale = (_, (_, refl, (_, refl, (_, refl, (_, refl, refl))))
 pub worked_course : (machine : Machine) → WorkedCourse machine
 worked_course machine =
     record {
-      rounds = λ place scale steps s small run. let stands = runs machine place scale steps (Running s) run in grind (arith, cell_at, word_at, on, ((there Profile).0), ((there Profile).1), ((there Profile).2), ((there Profile).3));
+      rounds = λ place scale steps s small run. let stands = runs machine place scale steps (Running s) run in grind (arith, cell_at, word_at, on, (there Profile));
       two = λ place scale steps after small run set. let stands = runs machine place scale steps after run in grind (arith);
       more_than_one = more;
       course = λ place scale steps h run. runs machine place scale steps (Halted h) run;
@@ -72,6 +67,4 @@ worked_course machine =
     more few =
         let (h, run) = halting machine (record { x = pos 0; y = pos 0 }) 0 in
         let is = runs machine (record { x = pos 0; y = pos 0 }) 0 4 (Halted h) run in
-        let le = few (record { x = pos 0; y = pos 0 }) 0 4 (Halted h) (omega arith) run (ap (λ c. c.by_labs) is) in
-        let two = ap (λ c. length c.moves) is in
-        absurd (omega (arith, le, two))
+        grind (arith, is, (few (record { x = pos 0; y = pos 0 }) 0 4 (Halted h) (omega arith) run (ap (λ c. c.by_labs) is)))

@@ -1,6 +1,6 @@
 -- The items of a shape or of a frame are determined: so a walk to the last one has met them all, and there is one first
 -- fault at most.
-use Rattle.dvg_check.proofs.Common.{◌⊎◌, inl, inr, Source, List, length, refl, sym, arith, ap, None, subst, ◌≡◌, ◌+◌, ◌<◌, ◌∷◌, ◌++◌, ◌∙◌, ℕ, ⊎_elim, [], cases_lt, AllByRecursion, Contains, if◌then◌else◌, cell_at, word_count, frame_word, rom_word, Holds, Halt, Entry, frame_number, LeadsTo, next_address, words_before, frame_context, depth_before, AllKeep, FramePlaceKeeps, ShapePlaceKeeps, GoodShape, FrameWhy, ShapeWhy, Item, Kind, Frame, Shape, ◌==◌, Same, same_lead, too_long, shorter, everywhere, AllBefore, FaultAt, shape_number, ShapeFaultAt, OneFault, NoFault, OneCount, NoShapeFault, OneShapeFault}
+use Rattle.dvg_check.proofs.Common.{◌⊎◌, inl, inr, Source, List, length, refl, sym, arith, ap, None, subst, ◌≡◌, ◌<◌, ◌∷◌, ◌++◌, ◌∙◌, ℕ, ⊎_elim, [], cases_lt, AllByRecursion, Contains, if◌then◌else◌, cell_at, frame_word, rom_word, Holds, Halt, Entry, frame_number, LeadsTo, next_address, AllKeep, FramePlaceKeeps, ShapePlaceKeeps, GoodShape, FrameWhy, ShapeWhy, Item, Kind, Frame, Shape, ◌==◌, Same, same_lead, too_long, shorter, everywhere, AllBefore, FaultAt, shape_number, ShapeFaultAt, OneFault, NoFault, OneCount, NoShapeFault, OneShapeFault}
 use Rattle.std.proofs.lemmas.List.Elements.{Contains-append_right}
 use Rattle.dvg_check.specs.declared.fault.FrameWhy.TheVariants as frame
 use Rattle.dvg_check.specs.declared.fault.ShapeWhy.TheVariants as shape
@@ -19,10 +19,6 @@ module _ (kind : Kind) (word : Source) (first : ℕ) (Why : Type 0) (keeps : Lis
   all_kept items i lead is last kept = everywhere kind word first AllKept items i lead is last kept
 
   module _ (order : Why → ℕ) where
-    -- a fault and none exclude each other
-    pub fault_or_none : (at : ℕ) (why : Why) → FaultAt order kind word first keeps at why → AllKeep kind word first keeps → ⊥
-    fault_or_none at why f all = f.breaks (all f.items at f.leads why)
-
     -- the fault after fewer items comes first
     not_before : (p q : ℕ) (u v : Why) → (f : FaultAt order kind word first keeps p u) → (g : FaultAt order kind word first keeps q v) → length f.items < length g.items → ⊥
     not_before p q u v f g less = f.breaks (shorter kind word first AllKept g.items q g.leads g.before f.items p f.leads less u)
@@ -55,7 +51,7 @@ one_fault w machine words list budget f g a b =
     λ x. record { word = s.0 x; why = s.1 x }
 
 pub no_fault : NoFault
-no_fault w machine words list budget count depth f good fault = fault_or_none Frame (frame_word machine words) 0 FrameWhy (FramePlaceKeeps w machine words list budget) frame_number f.word f.why fault good.keeps
+no_fault w machine words list budget count depth f good fault = fault.breaks (good.keeps fault.items f.word fault.leads f.why)
 
 pub one_count : OneCount
 one_count w machine words list budget count depth count' depth' a b =
@@ -64,12 +60,7 @@ one_count w machine words list budget count depth count' depth' a b =
     -- the last items of two walks are one
     let s = same_lead Frame (frame_word machine words) 0 a.items b.items a.at b.at a.leads b.leads
     (neither_less (length a.items) (length b.items) (too_long Frame (frame_word machine words) 0 a.items i a.leads a.halts refl b.items b.at b.leads) (too_long Frame (frame_word machine words) 0 b.items j b.leads b.halts refl a.items a.at a.leads)) in
-    let cells : Holds a.format Halt ≡ Holds b.format Halt = sym a.halts ∙ ap (cell_at (frame_word machine words)) s.place ∙ b.halts in
-    let format : a.format ≡ b.format = cc cells in
-    record {
-      count_is = a.count_is ∙ ap (λ items. words_before (frame_context machine list) items + word_count a.format) s.items ∙ ap (λ x. words_before (frame_context machine list) b.items + word_count x) format ∙ sym b.count_is;
-      depth_is = a.depth_is ∙ ap (depth_before (frame_context machine list)) s.items ∙ sym b.depth_is;
-    }
+    grind (arith, s)
 
 -- ---- shapes
 
@@ -84,7 +75,8 @@ shape_rule_of-number = elim [ shape.Unmapped ↦ refl | shape.Odd ↦ refl | sha
 
 pub no_shape_fault : NoShapeFault
 no_shape_fault mode w rom list f good s =
-    fault_or_none Shape (rom_word rom) s.entry.addr ShapeWhy (ShapePlaceKeeps mode w rom list s.entry) shape_number f.word f.why s.fault (good s.entry (subst (λ (l : List Entry). Contains l s.entry) (sym s.order_is) (Contains-append_right s.before (s.entry ∷ s.after) s.entry (0, omega arith, refl))))
+    let listed : Contains list s.entry = subst (λ (l : List Entry). Contains l s.entry) (sym s.order_is) (Contains-append_right s.before (s.entry ∷ s.after) s.entry (0, omega arith, refl)) in
+    s.fault.breaks (good s.entry listed s.fault.items f.word s.fault.leads f.why)
 
 -- of two ways to cut a list at an entry, one cuts earlier, or both are the same
 cuts : (P : Entry → Type 0) (a b c d : List Entry) (e f : Entry) → a ++ e ∷ b ≡ c ++ f ∷ d → AllByRecursion P a → AllByRecursion P c → (P e ⊎ P f) ⊎ (e ≡ f)
@@ -96,19 +88,10 @@ cuts P (x ∷ a) b (y ∷ c) d e f is p q = let rest : a ++ e ∷ b ≡ c ++ f �
 pub one_shape_fault : OneShapeFault
 one_shape_fault mode w rom list f g s t = by_cuts (cuts (GoodShape mode w rom list) s.before s.after t.before t.after s.entry t.entry (sym s.order_is ∙ t.order_is) s.good t.good)
   where
-    no_good : (e : Entry) (at : ℕ) (why : ShapeWhy) → ShapeFaultAt mode w rom list e at why → GoodShape mode w rom list e → ⊥
-    no_good e at why fault good = fault_or_none Shape (rom_word rom) e.addr ShapeWhy (ShapePlaceKeeps mode w rom list e) shape_number at why fault good
-
-    together : ShapeFaultAt mode w rom list s.entry g.word g.why → g.addr ≡ s.entry.addr → g.key ≡ s.entry.key → f ≡ g
-    together fault addr key =
-        let one = one_place Shape (rom_word rom) s.entry.addr ShapeWhy (ShapePlaceKeeps mode w rom list s.entry) shape_number shape_rule_of shape_rule_of-number f.word g.word f.why g.why s.fault fault in
-        λ x. record { addr = (s.addr ∙ sym addr) x; key = (s.key ∙ sym key) x; word = one.0 x; why = one.1 x }
-
     by_cuts : (GoodShape mode w rom list s.entry ⊎ GoodShape mode w rom list t.entry) ⊎ (s.entry ≡ t.entry) → f ≡ g
-    by_cuts (inl (inl good)) = absurd (no_good s.entry f.word f.why s.fault good)
-    by_cuts (inl (inr good)) = absurd (no_good t.entry g.word g.why t.fault good)
+    by_cuts (inl (inl good)) = absurd (s.fault.breaks (good s.fault.items f.word s.fault.leads f.why))
+    by_cuts (inl (inr good)) = absurd (t.fault.breaks (good t.fault.items g.word t.fault.leads g.why))
     by_cuts (inr same) =
-        together
-        (subst (λ (e : Entry). ShapeFaultAt mode w rom list e g.word g.why) (sym same) t.fault)
-        (t.addr ∙ ap (λ (e : Entry). e.addr) (sym same))
-        (t.key ∙ ap (λ (e : Entry). e.key) (sym same))
+        let there = subst (λ (e : Entry). ShapeFaultAt mode w rom list e g.word g.why) (sym same) t.fault in
+        let one = one_place Shape (rom_word rom) s.entry.addr ShapeWhy (ShapePlaceKeeps mode w rom list s.entry) shape_number shape_rule_of shape_rule_of-number f.word g.word f.why g.why s.fault there in
+        grind (arith, one)

@@ -68,14 +68,7 @@ module _ (mode : Mode) (m : Memory) (w : Window) (list : List Entry) (budget : �
       record {
         moves = refl;
         own = all_map (InFrame m.frame) (λ q. InFrame m.frame q ⊎ InRom m.rom.map q) (places i.format i.at) (λ q h. inl h) (own Frame m i.at i.format i.instr mem is);
-        fits =
-            record {
-              known = rule frame.BeamUnknown;
-              scale_known = rule frame.ScaleUnknown;
-              shown = rule frame.OffScreen;
-              boxed = grind (arith, (frame_place m.rom.machine list earlier));
-              named = rule frame.NoEntry;
-            };
+        fits = grind (arith, (rule frame.BeamUnknown), (rule frame.ScaleUnknown), (rule frame.OffScreen), (rule frame.NoEntry), (frame_place m.rom.machine list earlier));
         calls = λ f n. all_shapes mode m w list mem good f (named_listed list _ _ f n);
       }
 

@@ -14,7 +14,6 @@ pub mod Listed
 pub mod Safety
 pub mod Circuit
 pub mod Course
-pub mod Alike
 pub mod Beside
 pub mod Drift
 pub mod Example
@@ -23,5 +22,4 @@ pub mod CourseExample
 pub mod CircuitExample
 pub mod TailLaws
 pub mod TailSizes
-pub mod TailSteps
 pub mod TailRows

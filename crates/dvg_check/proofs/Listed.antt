@@ -1,5 +1,5 @@
 -- The first faulty entry of a list.
-use Rattle.dvg_check.proofs.Common.{List, length, take, suc, arith, ap, subst, sym, ◌≡◌, ◌<◌, ◌∷◌, ◌++◌, ℕ, AllByRecursion, Rom, rom_word, Window, Entry, At, Rel, pos, Empty, IsFound, known_before, shape_context, GoodShape, Mode, drop, slice_index_or, all_append, ShapeFaultFound, ShapeFinding, FirstShapeFound}
+use Rattle.dvg_check.proofs.Common.{List, length, take, suc, arith, ap, subst, ◌≡◌, ◌<◌, ◌∷◌, ◌++◌, ℕ, AllByRecursion, Rom, Window, Entry, At, Rel, pos, Empty, GoodShape, Mode, drop, slice_index_or, all_append, ShapeFaultFound, ShapeFinding, FirstShapeFound}
 use Rattle.std.proofs.Math.Seq.{take-suc, split_at}
 
 -- what the code reads for an entry past the end
@@ -12,13 +12,9 @@ pub faulty_found : (mode : Mode) (w : Window) (rom : Rom) (list items other : Li
     → f.fault.addr ≡ (slice_index_or items i d).addr → f.fault.key ≡ (slice_index_or items i d).key → f.entry ≡ slice_index_or items i d
     → FirstShapeFound mode w rom list f
 faulty_found mode w rom list items other i d f same also lt good found addr key entry =
-    let there = subst (λ (l : List Entry). ShapeFaultFound mode w rom l (slice_index_or items i d) f) also found in
-    record {
-      first = search (take i list, slice_index_or items i d, drop (suc i) list, subst (λ (l : List Entry). l ≡ take i l ++ slice_index_or items i d ∷ drop (suc i) l) same (split_at items i d lt), good, addr, key);
-      entry = entry;
-      known = subst (λ e. f.before ≡ known_before (shape_context rom.machine list e) there.fault.items) (sym entry) there.known;
-      stands = subst (λ e. IsFound (shape_context rom.machine list e) (rom_word rom) there.fault.items f.fault.word f.found) (sym entry) there.stands;
-    }
+    let there = rw also at found in
+    let split = subst (λ (l : List Entry). l ≡ take i l ++ slice_index_or items i d ∷ drop (suc i) l) same (split_at items i d lt) in
+    record { first = search (split, good, addr, key); entry = entry; known = rw entry there.known; stands = rw entry there.stands }
 
 -- one good entry more
 pub good_more : (mode : Mode) (w : Window) (rom : Rom) (list items other : List Entry) (i j : ℕ) (d : Entry) → items ≡ list → other ≡ list → j ≡ suc i → i < length items → AllByRecursion (GoodShape mode w rom list) (take i list) → GoodShape mode w rom other (slice_index_or items i d) → AllByRecursion (GoodShape mode w rom list) (take j list)

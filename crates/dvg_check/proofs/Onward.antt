@@ -1,9 +1,7 @@
 -- From one item to the next, over calls too.
-use Rattle.dvg_check.proofs.Common.{Source, Machine, Option, None, Some, true, refl, nat_le, arith, subst, inl, sym, ap, inr, zero, suc, List, max, length, nat_lt, ◌≡◌, ◌+◌, ◌≤◌, ◌⊎◌, ◌∷◌, ◌++◌, ◌∙◌, ℕ, ⊎_elim, [], nat_tests, ints, AllByRecursion, Contains, shift, InWindow, displacement, origin, instruction_of, cell_of_format, cell_at, word_count, Stroke, lit_by, State, next_status, Running, places, after_call, Memory, InRom, word_at, IsMemory, DrawFields, Window, Point, Holds, Format, Long, Short, Instr, Labs, Halt, Jsrl, Rtsl, Jmpl, End, Lost, Abs, Rel, Entry, Key, At, LitBox, Empty, Span, PlaceFits, LitFits, ScaleFits, Stretch, address_after, LeadsTo, place_moved_by, Context, place_before, scale_before, target, callee, callee_words, depth_under, place_past, word_of, InBox, LitInWindow, LitInBox, PlaceKnown, ScaleKnown, HasCallee, Mode, Item, shift_shift, shift_origin, unwrap_or, Draws, Any, box_at, Returned, Behaves, draw_effect, callee_effect, scale_set, IsDrawOrLabs, lit_on, box_extent, draw_extent, callee_extent, extent, Between, listed_at}
-use Rattle.std.specs.Prelude.{◌≢◌, ℤ}
-use Rattle.dvg_cert.specs.Lookup.{named_entry}
-use Rattle.dvg_check.proofs.Runs.{counts_same, stretch_less, stretch_on, stretch_as, deeper}
-use Rattle.dvg_check.proofs.Steps.{effect, fits_moved, own, next_there, one_item, stands}
+use Rattle.dvg_check.proofs.Common.{◌≢◌, ℤ, Shape, Source, Machine, Option, None, Some, refl, nat_le, arith, inl, sym, ap, inr, zero, suc, List, max, length, nat_lt, ◌≡◌, ◌+◌, ◌≤◌, ◌⊎◌, ◌∷◌, ◌++◌, ◌∙◌, ℕ, [], nat_tests, ints, AllByRecursion, shift, InWindow, displacement, origin, instruction_of, cell_of_format, cell_at, word_count, Stroke, lit_by, State, next_status, Running, places, Memory, InRom, word_at, IsMemory, DrawFields, Window, Point, Holds, Format, Long, Short, Instr, Labs, Halt, Jsrl, Rtsl, Jmpl, End, Lost, Entry, Key, At, LitBox, Empty, Span, PlaceFits, LitFits, ScaleFits, Stretch, address_after, LeadsTo, place_moved_by, Context, place_before, scale_before, target, callee, callee_words, depth_under, place_past, word_of, InBox, LitInWindow, LitInBox, PlaceKnown, ScaleKnown, HasCallee, Mode, Item, shift_origin, Draws, Any, box_at, Behaves, draw_effect, IsDrawOrLabs, lit_on, box_extent, draw_extent, extent, Between, listed_at}
+use Rattle.dvg_check.proofs.Runs.{counts_same, stretch_less, stretch_on, deeper}
+use Rattle.dvg_check.proofs.Steps.{fits_moved, next_there, one_item, stands}
 
 -- ---- a long instruction is a draw or a LABS
 
@@ -13,80 +11,44 @@ long_there get p i e = grind (arith, nat_le, nat_tests, cell_of_format)
 
 -- ---- boxes
 
-in_box_at : (box : LitBox) (base d : Point) → InBox box d → InBox (box_at box base) (shift base d)
-in_box_at Empty base d h = h
-in_box_at (Span x0 x1 y0 y1) base d h = record { left = omega (arith, ints, h.left); right = omega (arith, ints, h.right); bottom = omega (arith, ints, h.bottom); top = omega (arith, ints, h.top) }
+in_box_at : (box : LitBox) (base d p a : Point) → p ≡ shift base d → InBox box (shift d a) → InBox (box_at box base) (shift p a)
+in_box_at Empty base d p a is h = h
+in_box_at (Span x0 x1 y0 y1) base d p a is h = omega (arith, ints, h, ap (λ r. r.x) is, ap (λ r. r.y) is)
 
--- what an item lights between two points, seen from where the beam is
-abbrev Both : (Point → Type 0) → Point → Point → Type 0
-Both P a b = P a × P b
-
-lit_points : (w : Window) (box : LitBox) (base p a b : Point) (k : End) → PlaceFits k base p → k ≢ Lost → LitInWindow w (Between a b) k → LitInBox box (Between a b) k → Both (InWindow w) (shift p a) (shift p b) ⊎ Both (InBox (box_at box base)) (shift p a) (shift p b)
-lit_points w box base p a b (Abs x y) h n shown boxed = inl (subst (λ r. Both (InWindow w) (shift r a) (shift r b)) (sym h) (shown.0, shown.1.0))
-lit_points w box base p a b (Rel x y) h n shown boxed =
-    let d : Point = record { x = x; y = y } in
-    let at : (c : Point) → InBox box (shift d c) → InBox (box_at box base) (shift p c) =
-    λ c i. subst (InBox (box_at box base)) (sym (ap (λ r. shift r c) h ∙ shift_shift base d c)) (in_box_at box base (shift d c) i)
-    in
-    inr (at a boxed.0, at b boxed.1.0)
-lit_points w box base p a b Lost h n shown boxed = absurd (n refl)
+lit_points : (w : Window) (box : LitBox) (base p a b : Point) (k : End) → PlaceFits k base p → k ≢ Lost → LitInWindow w (Between a b) k → LitInBox box (Between a b) k → (InWindow w (shift p a) × InWindow w (shift p b)) ⊎ (InBox (box_at box base) (shift p a) × InBox (box_at box base) (shift p b))
+lit_points w box base p a b k h n shown boxed = grind (arith, (λ (x y : ℤ) (c : Point). in_box_at box base (record { x = x; y = y }) p c))
 
 -- a point in a box is where both corners are
-window_of_corners : (w : Window) (p v : Point) (x0 x1 y0 y1 : ℤ) → Both (InWindow w) (shift p (record { x = x0; y = y0 })) (shift p (record { x = x1; y = y1 })) → InBox (box_at (Span x0 x1 y0 y1) p) v → InWindow w v
-window_of_corners w p v x0 x1 y0 y1 c h =
-    record {
-      left = omega (arith, ints, c.0.left, h.left);
-      right = omega (arith, ints, c.1.right, h.right);
-      bottom = omega (arith, ints, c.0.bottom, h.bottom);
-      top = omega (arith, ints, c.1.top, h.top);
-    }
+window_of_corners : (w : Window) (p v : Point) (x0 x1 y0 y1 : ℤ) → (InWindow w (shift p (record { x = x0; y = y0 })) × InWindow w (shift p (record { x = x1; y = y1 }))) → InBox (box_at (Span x0 x1 y0 y1) p) v → InWindow w v
+window_of_corners w p v x0 x1 y0 y1 c h = omega (arith, ints, c, h)
 
-box_of_corners : (box : LitBox) (p v : Point) (x0 x1 y0 y1 : ℤ) → Both (InBox box) (shift p (record { x = x0; y = y0 })) (shift p (record { x = x1; y = y1 })) → InBox (box_at (Span x0 x1 y0 y1) p) v → InBox box v
-box_of_corners Empty p v x0 x1 y0 y1 c h = c.0
-box_of_corners (Span a b d e) p v x0 x1 y0 y1 c h =
-    record { left = omega (arith, ints, c.0.left, h.left); right = omega (arith, ints, c.1.right, h.right); bottom = omega (arith, ints, c.0.bottom, h.bottom); top = omega (arith, ints, c.1.top, h.top) }
+box_of_corners : (box : LitBox) (p v : Point) (x0 x1 y0 y1 : ℤ) → (InBox box (shift p (record { x = x0; y = y0 })) × InBox box (shift p (record { x = x1; y = y1 }))) → InBox (box_at (Span x0 x1 y0 y1) p) v → InBox box v
+box_of_corners box p v x0 x1 y0 y1 c h = grind (arith, ints)
 
 -- what a called shape may light, the caller may
 allowed_up : (w : Window) (inner box : LitBox) (base p : Point) (k : End) → PlaceFits k base p → PlaceKnown (box_extent inner) k → LitInWindow w (box_extent inner) k → LitInBox box (box_extent inner) k → (stroke : Stroke) → LitFits w inner p stroke → LitFits w box base stroke
-allowed_up w inner box base p k h known shown boxed stroke (inl on) = inl on
-allowed_up w Empty box base p k h known shown boxed stroke (inr on) = absurd on.0
-allowed_up w (Span x0 x1 y0 y1) box base p k h known shown boxed stroke (inr on) = grind (arith, window_of_corners, box_of_corners, (lit_points w box base p))
+allowed_up w inner box base p k h known shown boxed stroke on = grind (arith, window_of_corners, box_of_corners, (lit_points w box base p))
 
 -- what a draw lights
 fits_apart : (base p q d : Point) (k : End) → k ≢ Lost → PlaceFits k base p → PlaceFits (place_moved_by k d) base q → q ≡ shift p d
-fits_apart base p q d (Rel x y) n h g = g ∙ sym (shift_shift base (record { x = x; y = y }) d) ∙ ap (λ v. shift v d) (sym h)
-fits_apart base p q d (Abs x y) n h g = g ∙ ap (λ v. shift v d) (sym h)
-fits_apart base p q d Lost n h g = absurd (n refl)
+fits_apart base p q d k n h g = grind (arith, (fits_moved base p d k h))
 
 lit_draw : (a : Machine) (w : Window) (box : LitBox) (base p q : Point) (bright : ℕ) (d : DrawFields) (k : End) (sc : Key) → PlaceFits k base p → PlaceFits (place_past (draw_effect a d sc) k) base q
     → PlaceKnown (draw_extent a bright d sc) k → ScaleKnown (draw_extent a bright d sc) → LitInWindow w (draw_extent a bright d sc) k → LitInBox box (draw_extent a bright d sc) k → AllByRecursion (LitFits w box base) (lit_by bright (record { from = p; to = q }))
 lit_draw a w box base p q zero d k sc h g known scale shown boxed = tt
 lit_draw a w box base p q (suc bright) d k Any h g known scale shown boxed = absurd scale
 lit_draw a w box base p q (suc bright) d k (At x) h g known scale shown boxed =
-    let there = fits_apart base p q (displacement a d x) k known h g in
-    let here = shift_origin p in (
-      ⊎_elim
-          (λ c. inl (subst (InWindow w) here c.0, subst (InWindow w) (sym there) c.1))
-          (λ c. inr (subst (InBox (box_at box base)) here c.0, subst (InBox (box_at box base)) (sym there) c.1))
-          (lit_points w box base p origin (displacement a d x) k h known shown boxed),
-      tt,
-    )
+    let both = lit_points w box base p origin (displacement a d x) k h known shown boxed in
+    (rw (fits_apart base p q (displacement a d x) k known h g) (rw (shift_origin p) at both), tt)
 
--- ---- the entry that is named
-
-pub record Named (list : List Entry) (to : ℕ) (scale : Key) (f : Entry) : Type 0 where
-  pub listed : Contains list f
-  pub addr : f.addr ≡ to
-  pub key : (g : ℕ) → ScaleFits scale g → ScaleFits f.key g
-
-pub named_is : (list : List Entry) (to : ℕ) (scale : Key) (f : Entry) → named_entry list to scale ≡ Some f → Named list to scale f
-named_is list to scale f e = grind (arith, listed_at)
+found : (o : Option ℕ) (to : ℕ) (named : Option Entry) → o ≡ Some to → HasCallee o named → (f : Entry) × (named ≡ Some f)
+found o to named is h = grind (arith)
 
 -- ---- one step as a stretch of a run
 
-pub one_step : (mode : Mode) (m : Memory) (F : ℕ → Type 0) (P : Stroke → Type 0) (deep : ℕ) (format : Format) (p : ℕ) (s t : State) (new : List Stroke) → next_status m s ≡ Running t
-    → t.fetched ≡ places format p ++ s.fetched → AllByRecursion F (places format p) → t.strokes ≡ new ++ s.strokes → AllByRecursion P new → t.max_stack ≡ max s.max_stack deep → Stretch mode m F P (word_count format) deep s t
-one_step mode m F P deep format p s t new step fetched mapped drew lit stored = grind (arith, places, counts_same, max)
+one_step : (mode : Mode) (m : Memory) (F : ℕ → Type 0) (P : Stroke → Type 0) (most deep : ℕ) (format : Format) (p : ℕ) (s t : State) (new : List Stroke) → next_status m s ≡ Running t
+    → t.fetched ≡ places format p ++ s.fetched → AllByRecursion F (places format p) → t.strokes ≡ new ++ s.strokes → AllByRecursion P new → most ≡ word_count format → t.max_stack ≡ max s.max_stack deep → Stretch mode m F P most deep s t
+one_step mode m F P most deep format p s t new step fetched mapped drew lit count stored = grind (arith, places, counts_same, max)
 
 -- ---- where a walk stands
 
@@ -106,109 +68,67 @@ pub record Fits (w : Window) (c : Context) (box : LitBox) (earlier : List Item) 
   pub boxed : LitInBox box (extent c earlier instr) (place_before c earlier)
   pub named : HasCallee (target c.kind instr) (callee c earlier instr)
 
--- a state before a call of f, or a tail jump to it
-pub record Called (w : Window) (box : LitBox) (base : Point) (k : End) (f : Entry) (p : Point) : Type 0 where
-  pub agrees : PlaceFits k base p
-  pub known : PlaceKnown (box_extent f.lit) k
-  pub shown : LitInWindow w (box_extent f.lit) k
-  pub boxed : LitInBox box (box_extent f.lit) k
+module _ (mode : Mode) (m : Memory) (w : Window) (box : LitBox) (base : Point) (Ok : ℕ → Type 0) (rom_ok : (p : ℕ) → InRom m.rom.map p → Ok p) (mem : IsMemory m) (c : Context) (same : c.machine ≡ m.rom.machine) where
+  -- the result for an item: it stands at this place with this stack
+  abbrev pub Onward : List Item → Item → List ℕ → ℕ → List ℕ → State → Type 0
+  Onward earlier i rs p rest s =
+      (t : State) × Stretch mode m Ok (LitFits w box base) (word_count i.format + callee_words (callee c earlier i.instr)) (length rs + depth_under i.instr (callee c earlier i.instr)) s t × Stands c base rest (i ∷ earlier) p t
 
-lit_item : (w : Window) (c : Context) (box : LitBox) (earlier : List Item) (instr : Instr) (base p q : Point) → IsDrawOrLabs instr → Fits w c box earlier instr → PlaceFits (place_before c earlier) base p → PlaceFits (place_past (effect c earlier instr) (place_before c earlier)) base q → AllByRecursion (LitFits w box base) (lit_on instr p q)
-lit_item w c box earlier (Draws d) base p q kind f h g = lit_draw c.machine w box base p q d.bright d (place_before c earlier) (scale_before c earlier) h g f.known f.scale_known f.shown f.boxed
-lit_item w c box earlier instr base p q kind f h g = tt
+  -- an item that enters no shape
+  plain_onward : (earlier : List Item) (i : Item) (p : ℕ) (rs rest : List ℕ) (s t : State) (new : List Stroke) → callee c earlier i.instr ≡ None → AllByRecursion Ok (places i.format i.at) → next_status m s ≡ Running t
+      → t.fetched ≡ places i.format i.at ++ s.fetched → t.strokes ≡ new ++ s.strokes → AllByRecursion (LitFits w box base) new → t.max_stack ≡ s.max_stack → length rs ≤ s.max_stack → Stands c base rest (i ∷ earlier) p t → Onward earlier i rs p rest s
+  plain_onward earlier i p rs rest s t new none own step fetched drew lit stored room st =
+      (t, one_step mode m Ok (LitFits w box base) _ _ i.format i.at s t new step fetched own drew lit (omega (arith, ap callee_words none)) (omega (arith, stored, room, ap (depth_under i.instr) none)), st)
 
--- where an item calls an entry
-pub called_by : (w : Window) (c : Context) (box : LitBox) (base : Point) (earlier : List Item) (instr : Instr) (f : Entry) (p : Point) → callee c earlier instr ≡ Some f → extent c earlier instr ≡ callee_extent (callee c earlier instr) → Fits w c box earlier instr → PlaceFits (place_before c earlier) base p → Called w box base (place_before c earlier) f p
-called_by w c box base earlier instr f p is same fits agrees = grind (arith, place_before)
+  -- an item that enters a shape, from which it returns to this place
+  entry_onward : (earlier : List Item) (i : Item) (to p : ℕ) (rs rest : List ℕ) (s : State) → target c.kind i.instr ≡ Some to → Fits w c box earlier i.instr → AllByRecursion Ok (places i.format i.at) → Stands c base rs earlier i.at s
+      → next_status m s ≡ Running (record s { pc = to; return_stack = p ∷ rest; max_stack = max s.max_stack (length (p ∷ rest)); fetched = places i.format i.at ++ s.fetched }) → ((f : Entry) → length rs + depth_under i.instr (Some f) ≡ length (p ∷ rest) + f.depth)
+      → length rs + depth_under i.instr (callee c earlier i.instr) ≤ 4 → ((f : Entry) → callee c earlier i.instr ≡ Some f → Behaves mode m w f) → Onward earlier i rs p rest s
+  entry_onward earlier i to p rs rest s goes fits own st step deep le calls =
+      let (f, is) = found (target c.kind i.instr) to (callee c earlier i.instr) goes fits.named in
+      let named : (f.addr ≡ to) × ((g : ℕ) → ScaleFits (scale_before c earlier) g → ScaleFits f.key g) = grind (arith, listed_at) in
+      let under : length rs + depth_under i.instr (callee c earlier i.instr) ≡ length (p ∷ rest) + f.depth = ap (λ o. length rs + depth_under i.instr o) is ∙ deep f in
+      let e : State = record s { pc = to; return_stack = p ∷ rest; max_stack = max s.max_stack (length (p ∷ rest)); fetched = places i.format i.at ++ s.fetched } in
+      let one = one_step mode m Ok (LitFits w box base) (word_count i.format) (length (p ∷ rest)) i.format i.at s e [] step refl own refl tt refl refl in
+      let r = calls f is e p rest (omega arith) (sym named.0) (named.1 s.scale st.scale) refl (omega (arith, under, le)) in
+      let two : Stretch mode m Ok (LitFits w box base) f.words (length (p ∷ rest) + f.depth) e r.0 = grind (arith, stretch_less, allowed_up) in (
+        r.0,
+        stretch_on mode m Ok (LitFits w box base) (word_count i.format) f.words _ (length (p ∷ rest)) (length (p ∷ rest) + f.depth) _ s e r.0 (counts_same mode _ _ (omega (arith, ap callee_words is))) (counts_same mode _ _ (omega (arith, under))) one two,
+        record { pc = r.1.pc; return_stack = r.1.return_stack; room = omega (arith, deeper mode m Ok (LitFits w box base) _ _ e r.0 two); place = grind (arith, place_before, place_past, place_moved_by, fits_moved); scale = grind (arith) },
+      )
 
--- what is known after an item that calls an entry
-pub after_entry : (c : Context) (base : Point) (earlier : List Item) (i : Item) (o : Option Entry) (f : Entry) (p q : Point) (scale : ℕ) → o ≡ Some f → effect c earlier i.instr ≡ callee_effect o → PlaceFits (place_before c earlier) base p → PlaceFits f.stop p q → PlaceFits (place_before c (i ∷ earlier)) base q
-after_entry c base earlier i o f p q scale is same agrees fits = grind (arith, place_before, place_past, place_moved_by, fits_moved)
+  -- a draw or a LABS
+  drawn_onward : (first : ℕ) (earlier : List Item) (i : Item) (p : ℕ) (rs rest : List ℕ) (s : State) → IsDrawOrLabs i.instr → AllByRecursion Ok (places i.format i.at) → LeadsTo c.kind (word_of c.kind m) first earlier i.at → cell_at (word_of c.kind m) i.at ≡ Holds i.format i.instr → i.at + word_count i.format ≡ p → rs ≡ rest
+      → ((q : Point) → PlaceFits (place_before c (i ∷ earlier)) base q → AllByRecursion (LitFits w box base) (lit_on i.instr s.place q)) → Stands c base rs earlier i.at s → Onward earlier i rs p rest s
+  drawn_onward first earlier i p rs rest s kind own lead e goes same_stack lit st =
+      let (t, q) = one_item m c first earlier i base s mem same lead e kind st.pc st.place st.scale in
+      plain_onward earlier i p rs rest s t (lit_on i.instr s.place t.place) (grind (arith)) own q.step q.fetched q.strokes (lit t.place q.place) q.max_stack st.room
+      (record { pc = q.pc ∙ goes; return_stack = q.return_stack ∙ st.return_stack ∙ same_stack; room = omega (arith, q.max_stack, st.room, ap length same_stack); place = q.place; scale = q.scale_is })
 
-pub fits_still : (base p : Point) (k : End) → PlaceFits k base p → PlaceFits (place_moved_by k origin) base p
-fits_still base p k h = subst (PlaceFits (place_moved_by k origin) base) (shift_origin p) (fits_moved base p origin k h)
-
-module _ (mode : Mode) (m : Memory) (w : Window) (box : LitBox) (base : Point) (Ok : ℕ → Type 0) (rom_ok : (p : ℕ) → InRom m.rom.map p → Ok p) where
-  abbrev pub Lit : Stroke → Type 0
-  Lit = LitFits w box base
-
-  -- what the called shape does, as a stretch of the caller's run
-  pub within_caller : (k : End) (f : Entry) (back : ℕ) (rest : List ℕ) (s t : State) → Called w box base k f s.place → Returned mode m w f back rest s t → Stretch mode m Ok Lit f.words (length s.return_stack + f.depth) s t
-  within_caller k f back rest s t c r = grind (arith, stretch_less, allowed_up)
-
-  -- a call and the shape that it calls
-  pub over_call : (k : End) (f : Entry) (at to : ℕ) (s : State) → cell_at (word_at m) at ≡ Holds Short (Jsrl to) → s.pc ≡ at → AllByRecursion Ok (places Short at) → Called w box base k f s.place → f.addr ≡ to → ScaleFits f.key s.scale → length s.return_stack ≤ s.max_stack → length s.return_stack + (1 + f.depth) ≤ 4 → Behaves mode m w f
-      → (t : State) × Stretch mode m Ok Lit (1 + f.words) (length s.return_stack + (1 + f.depth)) s t × (t.pc ≡ at + 1) × (t.return_stack ≡ s.return_stack) × PlaceFits f.stop s.place t.place × ScaleFits f.scale t.scale
-  over_call k f at to s e pc own c addr key held fits behaves =
-      let s1 : State = record s { fetched = places Short s.pc ++ s.fetched } in
-      let s2 : State = record s1 { pc = to; return_stack = (s.pc + 1) ∷ s.return_stack; max_stack = max s.max_stack (length s.return_stack + 1) } in
-      let room : nat_lt (length s.return_stack) 4 ≡ true = grind (arith, nat_tests) in
-      let step : next_status m s ≡ Running s2 = next_there m s Short (Jsrl to) (ap (cell_at (word_at m)) pc ∙ e) ∙ ap (λ b. after_call b to s1) room in
-      let one : Stretch mode m Ok Lit (word_count Short) (length s.return_stack + 1) s s2 = one_step mode m Ok Lit (length s.return_stack + 1) Short at s s2 [] step (ap (λ p. places Short p ++ s.fetched) pc) own refl tt refl in
-      let r = behaves s2 (s.pc + 1) s.return_stack (omega arith) (sym addr) key refl (omega arith) in
-      let rest : Stretch mode m Ok Lit f.words (length s2.return_stack + f.depth) s2 r.0 = within_caller k f (s.pc + 1) s.return_stack s2 r.0 c r.1 in
-      (r.0, stretch_on mode m Ok Lit (word_count Short) f.words (1 + f.words) (length s.return_stack + 1) (length s2.return_stack + f.depth) _ s s2 r.0 (counts_same mode _ _ refl) (counts_same mode _ _ (omega arith)) one rest, r.1.pc ∙ ap (λ p. p + 1) pc, r.1.return_stack, r.1.place, r.1.scale)
-
-  module _ (mem : IsMemory m) (c : Context) (same : c.machine ≡ m.rom.machine) where
-    -- the result for any item but the last
-    abbrev pub Onward : List Item → Item → ℕ → List ℕ → State → Type 0
-    Onward earlier i p rs s =
-        (t : State) × Stretch mode m Ok Lit (word_count i.format + callee_words (callee c earlier i.instr)) (length rs + depth_under i.instr (callee c earlier i.instr)) s t × Stands c base rs (i ∷ earlier) p t
-
-    plain_onward : (first : ℕ) (earlier : List Item) (i : Item) (p : ℕ) (rs : List ℕ) (s : State) → callee c earlier i.instr ≡ None → AllByRecursion Ok (places i.format i.at)
-        → LeadsTo c.kind (word_of c.kind m) first earlier i.at → cell_at (word_of c.kind m) i.at ≡ Holds i.format i.instr → IsDrawOrLabs i.instr → Fits w c box earlier i.instr → i.at + word_count i.format ≡ p → Stands c base rs earlier i.at s → Onward earlier i p rs s
-    plain_onward first earlier i p rs s none own lead e kind fits goes st =
-        let r = one_item m c first earlier i base s mem same lead e kind st.pc st.place st.scale in
-        let q = r.1 in
-        let one = one_step mode m Ok Lit (length rs) i.format i.at s r.0 (lit_on i.instr s.place r.0.place) q.step q.fetched own q.strokes (lit_item w c box earlier i.instr base s.place r.0.place kind fits st.place q.place) (omega (arith, q.max_stack, st.room)) in (
-          r.0,
-          stretch_as mode m Ok Lit (word_count i.format) _ (length rs) _ s r.0 (omega (arith, ap callee_words none)) (omega (arith, ap (depth_under i.instr) none)) one,
-          record { pc = q.pc ∙ goes; return_stack = q.return_stack ∙ st.return_stack; room = omega (arith, q.max_stack, st.room); place = q.place; scale = q.scale_is },
-        )
-
-    call_onward : (earlier : List Item) (at to p : ℕ) (f : Entry) (rs : List ℕ) (s : State) → callee c earlier (Jsrl to) ≡ Some f → cell_at (word_at m) at ≡ Holds Short (Jsrl to) → at + 1 ≡ p → AllByRecursion Ok (places Short at)
-        → Fits w c box earlier (Jsrl to) → length rs + depth_under (Jsrl to) (callee c earlier (Jsrl to)) ≤ 4 → Behaves mode m w f → Stands c base rs earlier at s → Onward earlier (record { at = at; format = Short; instr = Jsrl to }) p rs s
-    call_onward earlier at to p f rs s is e goes own fits le behaves st =
-        let n = named_is c.list to (scale_before c earlier) f is in
-        let need : depth_under (Jsrl to) (callee c earlier (Jsrl to)) ≡ 1 + f.depth = ap (depth_under (Jsrl to)) is in
-        let same : length s.return_stack ≡ length rs = ap length st.return_stack in
-        let call = called_by w c box base earlier (Jsrl to) f s.place is refl fits st.place in
-        let r = over_call (place_before c earlier) f at to s e st.pc own call n.addr (n.key s.scale st.scale) (omega (arith, st.room)) (omega arith) behaves in
-        let i : Item = record { at = at; format = Short; instr = Jsrl to } in (
-          r.0,
-          stretch_as mode m Ok Lit (1 + f.words) _ (length s.return_stack + (1 + f.depth)) _ s r.0 (omega (arith, ap callee_words is)) (omega arith) r.1,
-          record {
-            pc = r.2 ∙ goes;
-            return_stack = r.3 ∙ st.return_stack;
-            room = omega (arith, st.room, deeper mode m Ok Lit _ _ s r.0 r.1);
-            place = after_entry c base earlier i (callee c earlier (Jsrl to)) f s.place r.0.place r.0.scale is refl st.place r.4;
-            scale = subst (λ o. ScaleFits (unwrap_or (scale_set (Jsrl to) o) (scale_before c earlier)) r.0.scale) (sym is) r.5;
-          },
-        )
-
-    jump_onward : (earlier : List Item) (at to p : ℕ) (format : Format) (rs : List ℕ) (s : State) → callee c earlier (Jmpl to) ≡ None → cell_at (word_at m) at ≡ Holds format (Jmpl to) → to ≡ p → AllByRecursion Ok (places format at) → Stands c base rs earlier at s → Onward earlier (record { at = at; format = format; instr = Jmpl to }) p rs s
-    jump_onward earlier at to p format rs s is e goes own st =
-        let t : State = record s { pc = to; fetched = places format s.pc ++ s.fetched } in
-        let step : next_status m s ≡ Running t = next_there m s format (Jmpl to) (ap (cell_at (word_at m)) st.pc ∙ e) in
-        let one = one_step mode m Ok Lit (length rs) format at s t [] step (ap (λ q. places format q ++ s.fetched) st.pc) own refl tt (omega (arith, st.room)) in
-        let i : Item = record { at = at; format = format; instr = Jmpl to } in
-        let known : place_before c (i ∷ earlier) ≡ place_moved_by (place_before c earlier) origin = ap (λ o. place_past (callee_effect o) (place_before c earlier)) is in (
-          t,
-          stretch_as mode m Ok Lit (word_count format) _ (length rs) _ s t (omega (arith, ap callee_words is)) (omega (arith, ap (depth_under (Jmpl to)) is)) one,
-          search (goes, subst (λ k. PlaceFits k base s.place) (sym known) (fits_still base s.place (place_before c earlier) st.place), subst (λ o. ScaleFits (unwrap_or (scale_set (Jmpl to) o) (scale_before c earlier)) s.scale) (sym is) st.scale),
-        )
-
-    -- any item but the last
-    pub over_item : (first : ℕ) (earlier : List Item) (at : ℕ) (format : Format) (instr : Instr) (p : ℕ) (rs : List ℕ) (s : State) → AllByRecursion Ok (places format at) → LeadsTo c.kind (word_of c.kind m) first earlier at → cell_at (word_of c.kind m) at ≡ Holds format instr → address_after c.kind at format instr ≡ Some p
-        → Fits w c box earlier instr → length rs + depth_under instr (callee c earlier instr) ≤ 4 → ((f : Entry) → callee c earlier instr ≡ Some f → Behaves mode m w f) → Stands c base rs earlier at s → Onward earlier (record { at = at; format = format; instr = instr }) p rs s
-    over_item first earlier at format (Draws d) p rs s own lead e goes fits le calls st = plain_onward first earlier (record { at = at; format = format; instr = Draws d }) p rs s refl own lead e tt fits (cc) st
-    over_item first earlier at format (Labs x y g) p rs s own lead e goes fits le calls st = plain_onward first earlier (record { at = at; format = format; instr = Labs x y g }) p rs s refl own lead e tt fits (cc) st
-    over_item first earlier at format Halt p rs s own lead e goes fits le calls st = cc
-    over_item first earlier at Long (Jsrl to) p rs s own lead e goes fits le calls st = absurd (long_there (word_of c.kind m) at (Jsrl to) e)
-    over_item first earlier at Short (Jsrl to) p rs s own lead e goes fits le calls st = by_name (callee c earlier (Jsrl to)) refl
-      where
-        by_name : (o : Option Entry) → callee c earlier (Jsrl to) ≡ o → Onward earlier (record { at = at; format = Short; instr = Jsrl to }) p rs s
-        by_name None is = absurd (subst (HasCallee (Some to)) is fits.named)
-        by_name (Some f) is = call_onward earlier at to p f rs s is (stands c.kind m at Short (Jsrl to) mem e) (cc) own fits le (calls f is) st
-    over_item first earlier at format Rtsl p rs s own lead e goes fits le calls st = cc
-    over_item first earlier at format (Jmpl to) p rs s own lead e goes fits le calls st = grind (arith, nat_lt, jump_onward, target, scale_before, stands)
+  -- an item, at which a run goes on, or which is a shape's last and from which it returns
+  pub over_item : (first : ℕ) (earlier : List Item) (at : ℕ) (format : Format) (instr : Instr) (p : ℕ) (rs rest : List ℕ) (s : State) → ((address_after c.kind at format instr ≡ Some p) × (rs ≡ rest)) ⊎ ((c.kind ≡ Shape) × (address_after c.kind at format instr ≡ None) × (instr ≢ Halt) × (rs ≡ p ∷ rest))
+      → AllByRecursion Ok (places format at) → LeadsTo c.kind (word_of c.kind m) first earlier at → cell_at (word_of c.kind m) at ≡ Holds format instr
+      → Fits w c box earlier instr → length rs + depth_under instr (callee c earlier instr) ≤ 4 → ((f : Entry) → callee c earlier instr ≡ Some f → Behaves mode m w f) → Stands c base rs earlier at s → Onward earlier (record { at = at; format = format; instr = instr }) rs p rest s
+  over_item first earlier at format (Draws d) p rs rest s (inl goes) own lead e fits le calls st =
+      drawn_onward first earlier (record { at = at; format = format; instr = Draws d }) p rs rest s tt own lead e (cc) goes.1 (λ q g. lit_draw c.machine w box base s.place q d.bright d (place_before c earlier) (scale_before c earlier) st.place g fits.known fits.scale_known fits.shown fits.boxed) st
+  over_item first earlier at format (Labs x y g) p rs rest s (inl goes) own lead e fits le calls st = drawn_onward first earlier (record { at = at; format = format; instr = Labs x y g }) p rs rest s tt own lead e (cc) goes.1 (λ q g. tt) st
+  over_item first earlier at Long (Jsrl to) p rs rest s goes own lead e fits le calls st = absurd (long_there (word_of c.kind m) at (Jsrl to) e)
+  over_item first earlier at Short (Jsrl to) p rs rest s (inl goes) own lead e fits le calls st =
+      let there = next_there m s Short (Jsrl to) (ap (cell_at (word_at m)) st.pc ∙ stands c.kind m at Short (Jsrl to) mem e) in
+      entry_onward earlier (record { at = at; format = Short; instr = Jsrl to }) to p rs rest s refl fits own st (grind (arith, nat_tests, nat_lt, there)) (λ f. omega (arith, ap length goes.1)) le calls
+  over_item first earlier at format (Jmpl to) p rs rest s (inl goes) own lead e fits le calls st =
+      let there = next_there m s format (Jmpl to) (ap (cell_at (word_at m)) st.pc ∙ stands c.kind m at format (Jmpl to) mem e) in
+      let t : State = record s { pc = to; fetched = places format at ++ s.fetched } in
+      let none : callee c earlier (Jmpl to) ≡ None = grind (arith) in
+      let known = rw (shift_origin s.place) at (fits_moved base s.place origin (place_before c earlier) st.place) in
+      plain_onward earlier (record { at = at; format = format; instr = Jmpl to }) p rs rest s t [] none own (grind (arith, there)) refl refl tt refl st.room (record { pc = grind (arith, nat_lt); return_stack = st.return_stack ∙ goes.1; room = omega (arith, st.room, ap length goes.1); place = grind (arith, none); scale = grind (arith, none) })
+  over_item first earlier at format (Jmpl to) p rs rest s (inr goes) own lead e fits le calls st =
+      let there = next_there m s format (Jmpl to) (ap (cell_at (word_at m)) st.pc ∙ stands c.kind m at format (Jmpl to) mem e) in
+      entry_onward earlier (record { at = at; format = format; instr = Jmpl to }) to p rs rest s (ap (λ k. target k (Jmpl to)) goes.0) fits own st (grind (arith, there)) (λ f. omega (arith, ap length goes.3)) le calls
+  over_item first earlier at format Rtsl p rs rest s (inr goes) own lead e fits le calls st =
+      let there = next_there m s format Rtsl (ap (cell_at (word_at m)) st.pc ∙ stands c.kind m at format Rtsl mem e) in
+      let t : State = record s { pc = p; return_stack = rest; fetched = places format at ++ s.fetched } in
+      let known = rw (shift_origin s.place) at (fits_moved base s.place origin (place_before c earlier) st.place) in
+      plain_onward earlier (record { at = at; format = format; instr = Rtsl }) p rs rest s t [] refl own (grind (arith, there)) refl refl tt refl st.room (record { pc = refl; return_stack = refl; room = omega (arith, st.room, ap length goes.3); place = known; scale = st.scale })
+  over_item first earlier at format instr p rs rest s (inl goes) own lead e fits le calls st = absurd (grind (arith))
+  over_item first earlier at format instr p rs rest s (inr goes) own lead e fits le calls st = absurd (grind (arith))

@@ -1,26 +1,21 @@
 -- Runs: they go on, they are determined, and what is recorded only grows.
-use Rattle.dvg_check.proofs.Common.{Machine, List, zero, arith, subst, sym, suc, ap, refl, nat_lt, length, max, ◌≡◌, ◌+◌, ◌≤◌, ◌++◌, ◌∙◌, ℕ, [], cell_at, Status, Reached, Running, Halted, State, Stroke, lit_by, after_cell, next_status, after_fetch, Memory, word_at, Cell, Holds, state_of, Counts, Stretch, Mode, append_assoc, length-append, fetches, Draws, all_append, all_map}
-use Rattle.dvg_words.specs.Generator.{Step}
+use Rattle.dvg_check.proofs.Common.{Machine, List, zero, arith, subst, sym, suc, ap, refl, nat_lt, length, max, ◌≡◌, ◌+◌, ◌≤◌, ◌++◌, ◌∙◌, ℕ, [], cell_at, Status, Reached, Running, Halted, State, Stroke, lit_by, after_cell, next_status, after_fetch, Memory, word_at, Cell, Holds, state_of, Counts, Stretch, Mode, append_assoc, length-append, fetches, Draws, all_append, all_map, Step}
 
 -- ---- runs
 
 pub reached_on : (m : Memory) (i j : ℕ) (a b c : Status) → Reached m i a b → Reached m j b c → Reached m (i + j) a c
-reached_on m zero j a b c r q =
-    grind (arith)
+reached_on m zero j a b c r q = grind (arith)
 reached_on m (suc i) j a b c r q =
     let e : suc (i + j) ≡ suc i + j = omega arith in
     let on : Reached m (suc (i + j)) a c = (r.0, r.1, reached_on m i j r.0 b c r.2 q) in
-    subst (λ n. Reached m n a c) e on
-
-same_step : (m : Memory) (a b c : Status) → Step m a b → Step m a c → b ≡ c
-same_step m a b c p q = grind (arith)
+    rw (← e) on
 
 -- a state that a run to a halt passes leads to that halt
 pub rest_of : (m : Memory) (i k : ℕ) (a b : Status) (h : State) → Reached m i a b → Reached m k a (Halted h) → (j : ℕ) × (i + j ≡ k) × Reached m j b (Halted h)
-rest_of m zero k a b h r q = let e : 0 + k ≡ k = omega arith in (k, e, subst (λ x. Reached m k x (Halted h)) r q)
+rest_of m zero k a b h r q = (k, omega arith, subst (λ x. Reached m k x (Halted h)) r q)
 rest_of m (suc i) zero a b h r q = absurd (subst (λ x. Step m x r.0) q r.1)
 rest_of m (suc i) (suc k) a b h r q =
-    let same = same_step m a q.0 r.0 q.1 r.1 in
+    let same : q.0 ≡ r.0 = grind (arith) in
     let on = rest_of m i k r.0 b h r.2 (subst (λ x. Reached m k x (Halted h)) same q.2) in
     (on.0, omega (arith, on.1), on.2)
 
@@ -34,14 +29,7 @@ pub record Grows (s t : State) : Type 0 where
   pub stored : s.max_stack ≤ t.max_stack
 
 grows_on : (s t u : State) → Grows s t → Grows t u → Grows s u
-grows_on s t u a b =
-    record {
-      words = b.words ++ a.words;
-      fetched = b.fetched ∙ ap (λ l. b.words ++ l) a.fetched ∙ sym (append_assoc b.words a.words s.fetched);
-      strokes = b.strokes ++ a.strokes;
-      drew = b.drew ∙ ap (λ l. b.strokes ++ l) a.drew ∙ sym (append_assoc b.strokes a.strokes s.strokes);
-      stored = omega (arith, a.stored, b.stored);
-    }
+grows_on s t u a b = search (b.words ++ a.words, b.strokes ++ a.strokes, b.fetched ∙ ap (λ l. b.words ++ l) a.fetched ∙ sym (append_assoc b.words a.words s.fetched), b.drew ∙ ap (λ l. b.strokes ++ l) a.drew ∙ sym (append_assoc b.strokes a.strokes s.strokes), arith)
 
 stays : (s t : State) → t.fetched ≡ s.fetched → t.strokes ≡ s.strokes → s.max_stack ≤ t.max_stack → Grows s t
 stays s t fetched drew stored = record { words = []; fetched = fetched; strokes = []; drew = drew; stored = stored }
@@ -50,19 +38,14 @@ grows_cell : (a : Machine) (cell : Cell) (s : State) → Grows s (state_of (afte
 grows_cell a (Holds format (Draws d)) s = record { words = []; fetched = refl; strokes = lit_by d.bright _; drew = refl; stored = omega arith }
 grows_cell a cell s = grind (arith, stays, nat_lt)
 
-grows_next : (m : Memory) (s : State) → Grows s (state_of (next_status m s))
-unfolding next_status
-grows_next m s =
-    let f : Grows s (after_fetch m s) = record { words = fetches ((word_at m).word s.pc) s.pc; fetched = refl; strokes = []; drew = refl; stored = omega arith } in
-    grows_on s (after_fetch m s) _ f (grows_cell m.rom.machine (cell_at (word_at m) s.pc) (after_fetch m s))
-
-grows_step : (m : Memory) (a b : Status) → Step m a b → Grows (state_of a) (state_of b)
-grows_step m (Running s) b p = subst (λ x. Grows s (state_of x)) p (grows_next m s)
-grows_step m a b p = absurd p
-
 pub grows : (m : Memory) (n : ℕ) (a b : Status) → Reached m n a b → Grows (state_of a) (state_of b)
+unfolding next_status
 grows m zero a b r = subst (λ x. Grows (state_of a) (state_of x)) r (stays (state_of a) (state_of a) refl refl (omega arith))
-grows m (suc n) a b r = grows_on (state_of a) (state_of r.0) (state_of b) (grows_step m a r.0 r.1) (grows m n r.0 b r.2)
+grows m (suc n) (Running s) b r =
+    let f : Grows s (after_fetch m s) = record { words = fetches ((word_at m).word s.pc) s.pc; fetched = refl; strokes = []; drew = refl; stored = omega arith } in
+    let step : Grows s (state_of r.0) = subst (λ x. Grows s (state_of x)) r.1 (grows_on s (after_fetch m s) _ f (grows_cell m.rom.machine (cell_at (word_at m) s.pc) (after_fetch m s))) in
+    grows_on s (state_of r.0) (state_of b) step (grows m n r.0 b r.2)
+grows m (suc n) a b r = absurd r.1
 
 -- ---- stretches of a run
 
@@ -75,24 +58,14 @@ counts_le mode a b h = grind (arith)
 pub counts_sum : (mode : Mode) (x y z a b c : ℕ) → x + y ≡ z → Counts mode x a → Counts mode y b → Counts mode (a + b) c → Counts mode z c
 counts_sum mode x y z a b c e h k l = grind (arith)
 
-pub counts_max : (mode : Mode) (s t u a b c : ℕ) → Counts mode t (max s a) → Counts mode u (max t b) → Counts mode (max a b) c → Counts mode u (max s c)
-counts_max mode s t u a b c h k l = grind (arith)
-
 pub stretch_on : (mode : Mode) (m : Memory) (F : ℕ → Type 0) (P : Stroke → Type 0) (a b c d1 d2 d : ℕ) (s t u : State) → Counts mode (a + b) c → Counts mode (max d1 d2) d → Stretch mode m F P a d1 s t → Stretch mode m F P b d2 t u → Stretch mode m F P c d s u
 stretch_on mode m F P a b c d1 d2 d s t u le deep p q =
-    record {
-      steps = p.steps + q.steps;
-      reached = reached_on m p.steps q.steps (Running s) (Running t) (Running u) p.reached q.reached;
-      within = omega (arith, p.within, q.within, counts_le mode (a + b) c le);
-      words = q.words ++ p.words;
-      fetched = q.fetched ∙ ap (λ l. q.words ++ l) p.fetched ∙ sym (append_assoc q.words p.words s.fetched);
-      few = counts_sum mode (length p.words) (length q.words) (length (q.words ++ p.words)) a b c (omega (arith, length-append q.words p.words)) p.few q.few le;
-      mapped = all_append F q.words p.words q.mapped p.mapped;
-      strokes = q.strokes ++ p.strokes;
-      drew = q.drew ∙ ap (λ l. q.strokes ++ l) p.drew ∙ sym (append_assoc q.strokes p.strokes s.strokes);
-      lit = all_append P q.strokes p.strokes q.lit p.lit;
-      stored = counts_max mode s.max_stack t.max_stack u.max_stack d1 d2 d p.stored q.stored deep;
-    }
+    let within : p.steps + q.steps ≤ c = omega (arith, p.within, q.within, counts_le mode (a + b) c le) in
+    let few = counts_sum mode (length p.words) (length q.words) (length (q.words ++ p.words)) a b c (omega (arith, length-append q.words p.words)) p.few q.few le in
+    let stored : Counts mode u.max_stack (max s.max_stack d) = grind (arith, p.stored, q.stored) in
+    let fetched = q.fetched ∙ ap (λ l. q.words ++ l) p.fetched ∙ sym (append_assoc q.words p.words s.fetched) in
+    let drew = q.drew ∙ ap (λ l. q.strokes ++ l) p.drew ∙ sym (append_assoc q.strokes p.strokes s.strokes) in
+    search (reached_on m p.steps q.steps (Running s) (Running t) (Running u) p.reached q.reached, all_append F q.words p.words q.mapped p.mapped, all_append P q.strokes p.strokes q.lit p.lit)
 
 -- what is claimed of words and strokes may be less
 pub stretch_less : (mode : Mode) (m : Memory) (F G : ℕ → Type 0) (P Q : Stroke → Type 0) (most deep : ℕ) (s t : State) → ((p : ℕ) → F p → G p) → ((k : Stroke) → P k → Q k) → Stretch mode m F P most deep s t → Stretch mode m G Q most deep s t

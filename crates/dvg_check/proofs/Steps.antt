@@ -1,5 +1,5 @@
 -- One item: what stands at a place, and what a draw or a LABS does.
-use Rattle.dvg_check.proofs.Common.{Source, Machine, arith, Some, ap, sym, List, nat_le, nat_lt, ◌≡◌, ◌+◌, ◌∷◌, ◌++◌, ◌∙◌, ℕ, nat_tests, AllByRecursion, shift, displacement, labs_place, cell_of_format, cell_of_words, format_of, cell_at, word_count, places, State, next_status, after_instruction, after_cell, after_fetch, Memory, InRom, IsMemory, word_at, Point, Holds, Format, Instr, Labs, End, Rel, Abs, Lost, shift_shift, PlaceFits, ScaleFits, place_moved_by, Context, place_before, callee, scale_before, place_past, word_of, Item, Kind, Shape, Frame, Effect, slice_get, fetches, InFrame, Draws, effect_of, draw_effect, IsDrawOrLabs, Past, OneItem}
+use Rattle.dvg_check.proofs.Common.{Source, arith, Some, ap, List, nat_le, nat_lt, ◌≡◌, ◌∷◌, ◌++◌, ◌∙◌, ℕ, nat_tests, AllByRecursion, shift, displacement, cell_of_format, cell_of_words, format_of, cell_at, word_count, places, State, next_status, after_instruction, after_cell, after_fetch, Memory, InRom, IsMemory, word_at, Point, Holds, Format, Instr, End, Rel, Abs, Lost, shift_shift, PlaceFits, ScaleFits, place_moved_by, Context, place_before, callee, scale_before, place_past, word_of, Item, Kind, Shape, Frame, slice_get, fetches, InFrame, effect_of, IsDrawOrLabs, Past, OneItem}
 use Rattle.std.proofs.lemmas.Option.{slice_get_within}
 
 -- ---- what stands at a place
@@ -44,24 +44,14 @@ fits_moved base p d (Rel x y) h = ap (λ r. shift r d) h ∙ shift_shift base (r
 fits_moved base p d (Abs x y) h = ap (λ r. shift r d) h
 fits_moved base p d Lost h = tt
 
--- what an instruction does to the place, after these items
-abbrev pub effect : Context → List Item → Instr → Effect
-effect c earlier i = effect_of c.machine i (scale_before c earlier) (callee c earlier i)
-
 -- ---- the law on one item
 
 item_step :
     (m : Memory) (c : Context) (earlier : List Item) (at : ℕ) (format : Format) (instr : Instr) (base : Point) (s : State) → c.machine ≡ m.rom.machine → cell_at (word_at m) at ≡ Holds format instr → IsDrawOrLabs instr
     → s.pc ≡ at → PlaceFits (place_before c earlier) base s.place → ScaleFits (scale_before c earlier) s.scale
     → (t : State) × Past m base (record { at = at; format = format; instr = instr }) (place_before c (record { at = at; format = format; instr = instr } ∷ earlier)) (scale_before c (record { at = at; format = format; instr = instr } ∷ earlier)) s t
-item_step m c earlier at format (Draws d) base s same e k pc place scale =
-    grind (arith, (places format s.pc), (next_there m s format (Draws d) (ap (cell_at (word_at m)) pc ∙ e)), (cell_at (word_at m)), (word_at m), (word_count format), (place_past (draw_effect c.machine d (scale_before c earlier)) (place_before c earlier)), (scale_before c earlier), (place_before c earlier), shift, displacement, place_moved_by, fits_moved, places)
-item_step m c earlier at format (Labs x y g) base s same e k pc place scale =
-    let i : Item = record { at = at; format = format; instr = Labs x y g } in (
-      record s { pc = s.pc + word_count format; place = labs_place m.rom.machine x y; scale = g; fetched = places format s.pc ++ s.fetched },
-      search (next_there m s format (Labs x y g) (ap (cell_at (word_at m)) pc ∙ e), ap (λ p. p + word_count format) pc, ap (λ (k : Machine). labs_place k x y) (sym same), ap (λ p. places format p ++ s.fetched) pc),
-    )
-item_step m c earlier at format instr base s same e k pc place scale = absurd k
+item_step m c earlier at format instr base s same e k pc place scale =
+    grind (arith, (places format s.pc), (next_there m s format instr (ap (cell_at (word_at m)) pc ∙ e)), (cell_at (word_at m)), (word_at m), (word_count format), (place_past (effect_of c.machine instr (scale_before c earlier) (callee c earlier instr)) (place_before c earlier)), (scale_before c earlier), (place_before c earlier), shift, displacement, place_moved_by, fits_moved, places)
 
 pub one_item : OneItem
 one_item m c first earlier i base s mem same lead e kind pc place scale = grind (arith, item_step, stands)

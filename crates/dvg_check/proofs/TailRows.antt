@@ -1,14 +1,9 @@
 -- What is kept by a pass, and the entries that it shows to be good.
-use Rattle.dvg_check.proofs.Common.{arith, List, Option, None, Some, ◌∷◌, ◌⊎◌, zero, suc, length, take, get_or, refl, sym, subst, ◌≡◌, ◌<◌, ◌≤◌, ◌∙◌, ℕ, ⊎_elim, AllByRecursion, Entry, Key, replicate, get_or_default, IsClaim, IsSomeCertificate, listed_claim, AllKept, IsKept, Kept}
-
-none_at : {T : Type 0} (n k : ℕ) → get_or {A = Option (Kept T)} (replicate n None) k None ≡ None
-none_at zero k = refl
-none_at (suc n) zero = refl
-none_at (suc n) (suc k) = none_at n k
+use Rattle.dvg_check.proofs.Common.{arith, length-replicate, List, Option, None, ◌∷◌, ◌⊎◌, suc, length, take, get_or, sym, subst, ◌≡◌, ◌<◌, ◌≤◌, ℕ, ⊎_elim, AllByRecursion, Entry, Key, replicate, get_or_default, IsClaim, IsSomeCertificate, listed_claim, AllKept, IsKept, Kept, get_or-replicate, get_or_past}
 
 -- nothing is kept
 pub none_kept : {T : Type 0} (P : ℕ → Key → T → Type 0) (n : ℕ) → AllKept P (replicate n None)
-none_kept P n kept h = let no : None ≡ Some kept = sym (none_at n h.0) ∙ h.1 in cc no
+none_kept P n kept h = grind (arith, get_or-replicate, get_or_past, length-replicate)
 
 -- one more is kept
 pub one_more_kept : {T : Type 0} (P : ℕ → Key → T → Type 0) (old new : List (Option (Kept T))) (one : Kept T) → ((kept : Kept T) → IsKept new kept → (kept ≡ one) ⊎ IsKept old kept) → AllKept P old → P one.addr one.key one.value → AllKept P new

@@ -1,12 +1,11 @@
 -- A tail's numbers stay small.
-use Rattle.dvg_check.proofs.Common.{arith, ◌≤◌, ◌+◌, ℕ, ℤ, shift, refl, Point, End, Rel, Abs, Lost, LitBox, Empty, Span, InBox, IsInside, rules, IsNear, IsNearPlace, IsNearBox, ITEM_REACH, place_more, box_more, reached_shift, wall, in_wall, inside_wall, reached_by_point, nothing_reached, moved, IsSmall, Tail, place_over}
+use Rattle.dvg_check.proofs.Common.{arith, ints, ◌≤◌, ◌+◌, ℕ, ℤ, Point, End, LitBox, Empty, Span, InBox, IsInside, IsNear, IsNearPlace, IsNearBox, ITEM_REACH, place_more, box_more, wall, in_wall, inside_wall, reached_by_point, nothing_reached, moved, IsSmall, Tail, place_over, stop_effect, place_after}
 
 -- ---- boxes
 
 -- a box inside the greatest one, that has this part
 near_by_part : (n : ℕ) (x_min x_max y_min y_max : ℤ) (box : LitBox) → IsNearBox n (Span x_min x_max y_min y_max) → IsInside (Span x_min x_max y_min y_max) box → IsInside box (wall ITEM_REACH n) → IsNearBox n box
-near_by_part n x_min x_max y_min y_max Empty h i w = tt
-near_by_part n x_min x_max y_min y_max (Span left right bottom top) h i w = search (rules)
+near_by_part n x_min x_max y_min y_max box h i w = grind (arith, ints)
 
 pub IsNearBox-spanning : (n : ℕ) (p q : Point) (box : LitBox) → IsNear n p → IsNear n q → InBox box p → ((other : LitBox) → InBox other p → InBox other q → IsInside box other) → IsNearBox n box
 IsNearBox-spanning n p q box h k i least = reached_by_point ITEM_REACH n p box h i (least (wall ITEM_REACH n) (in_wall ITEM_REACH n p h) (in_wall ITEM_REACH n q k))
@@ -19,20 +18,12 @@ IsNearBox-joined n (Span a b c d) second box h k i j least =
 
 pub IsNearBox-moved : (n : ℕ) (box : LitBox) (d : Point) → IsNearBox n box → IsNear 1 d → IsNearBox (n + 1) (moved box d)
 IsNearBox-moved n Empty d h k = tt
-IsNearBox-moved n (Span x_min x_max y_min y_max) d h k =
-    (reached_shift ITEM_REACH n 1 (n + 1) (record { x = x_min; y = y_min }) d refl h.0 k, reached_shift ITEM_REACH n 1 (n + 1) (record { x = x_max; y = y_max }) d refl h.1 k)
+IsNearBox-moved n (Span x_min x_max y_min y_max) d h k = omega (arith, ints, h, k)
 
 -- ---- places
 
-shift_near : (n : ℕ) (p d : Point) → IsNear 1 p → IsNear n d → IsNear (n + 1) (shift p d)
-shift_near n p d h k = reached_shift ITEM_REACH 1 n (n + 1) p d (omega arith) h k
-
 pub IsNearPlace-over : (n : ℕ) (place stop : End) → IsNearPlace 1 place → IsNearPlace n stop → IsNearPlace (n + 1) (place_over place stop)
-IsNearPlace-over n (Rel a b) (Rel x y) h k = shift_near n (record { x = a; y = b }) (record { x = x; y = y }) h k
-IsNearPlace-over n (Abs a b) (Rel x y) h k = shift_near n (record { x = a; y = b }) (record { x = x; y = y }) h k
-IsNearPlace-over n Lost (Rel x y) h k = tt
-IsNearPlace-over n place (Abs x y) h k = place_more ITEM_REACH n (n + 1) (Abs x y) (omega arith) k
-IsNearPlace-over n place Lost h k = tt
+IsNearPlace-over n place stop h k = place_after ITEM_REACH 1 n (n + 1) place (stop_effect stop) (omega arith) h (grind (arith))
 
 -- ---- tails
 

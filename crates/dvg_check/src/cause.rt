@@ -163,6 +163,7 @@ pub fn frame_cause(fault: &Fault<FrameWhy>, rules: &FrameRules) -> FrameCause
 }
 
 /// Why an item that is there breaks this rule, at this known scale.
+#[tactic(auto, using(crate::proofs::Common::next_address))]
 fn shape_cause_of_item(why: ShapeWhy, scale: Key, seen: &Seen, rules: &ShapeRules) -> ShapeCause
     requires sound { IsSoundSeen seen.now }
     requires broken { ShapeKeeps rules.now.mode rules.now.window rules.now.entry seen.now why → ⊥ }

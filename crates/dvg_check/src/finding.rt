@@ -97,6 +97,7 @@ pub fn find_parts_fault(
 /// `budget` is how many words the frame may take at most, up to 1,000,000, `window` the part of the screen that may be lit. What is
 /// accepted is safe, on the board also on its circuit, and in the mode `Exact` the counts are those of each run. Takes memory for
 /// the index of the entries alone.
+#[tactic(auto, using(crate::proofs::Accepting::over_rom))]
 pub fn find_rom_fault(
     machine: Machine,
     alloc: Global,

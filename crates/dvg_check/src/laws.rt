@@ -14,6 +14,7 @@ use dvg_words::laws::{half_place, stack_within_max};
 
 /// A draw or a LABS leads from a state that agrees with what is known before it to one that agrees with what is known
 /// after it.
+#[tactic(auto, using(crate::proofs::Steps::one_item))]
 pub fn one_item()
     ensures { OneItem }
 {}
@@ -77,6 +78,7 @@ pub fn safe_strokes()
 
 /// Over a safe memory each state of any run stores at most so many return places as the safety theorem tells, and four at
 /// the most.
+#[tactic(auto, using(crate::proofs::Safety::safe_state))]
 pub fn safe_stack()
     ensures { SafeStack }
 {
@@ -102,6 +104,7 @@ pub fn counts_on_circuit()
 
 /// In each state of each run, on either machine, the beam is where it was last set, moved by the sum of the moves of the draws
 /// since then.
+#[tactic(auto, using(crate::proofs::Course::place_is_sum))]
 pub fn place_is_sum()
     ensures { PlaceIsSum }
 {}
@@ -109,6 +112,7 @@ pub fn place_is_sum()
 /// Where the runs of one machine come to no draw of an effective scale over 9 and to no odd LABS, as many steps of the other lead
 /// to the same state, but for strokes and place: on each axis it is at most half a screen place away for each draw, dark or lit,
 /// since the beam was last set.
+#[tactic(auto, using(crate::proofs::Drift::half_place_each))]
 pub fn half_place_each()
     ensures { HalfPlaceEach }
 {
@@ -131,6 +135,7 @@ pub fn worked_example()
 /// Two worked frames without calls. The profile accepts one whose two draws of half a place end at the screen's edge, where the
 /// board, which draws a whole place each time, leaves the screen: it refuses the second with 46. The board accepts one that a LABS
 /// begins left of the screen, which the profile refuses with 41.
+#[tactic(auto, using(crate::proofs::MachinesExample::edge_accepted, crate::proofs::MachinesExample::edge_refused, crate::proofs::MachinesExample::left_accepted, crate::proofs::MachinesExample::left_refused))]
 pub fn worked_machines()
     ensures { WorkedMachines }
 {}
@@ -143,6 +148,7 @@ pub fn worked_course()
 
 /// The worked example on the board's circuit: it meets the premises of the board's theorem from whatever the registers hold, while a
 /// word that isn't fetched again is written over, and it is safe with just seven words and one return place.
+#[tactic(auto, using(crate::proofs::CircuitExample::worked_circuit))]
 pub fn worked_circuit()
     ensures { WorkedCircuit }
 {}

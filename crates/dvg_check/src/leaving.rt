@@ -63,6 +63,7 @@ impl Limits {
     }
 
     /// The limits of a window.
+    #[tactic(auto, using(crate::proofs::Common::ints))]
     pub fn of_window(window: &Window) -> Limits
         ensures { result ≡ window_limits window.now }
     {

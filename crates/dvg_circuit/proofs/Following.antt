@@ -1,7 +1,7 @@
 -- The circuit follows the generator, instruction by instruction.
-use Rattle.dvg_circuit.proofs.Common.{false, ◌≡◌, ℕ, zero, suc, ◌+◌, ◌%◌, ◌<◌, ◌≤◌, List, [], ◌∷◌, ◌++◌, length, reverse, Option, Some, None, nat_le, refl, ap, sym, subst, ◌∙◌, arith, pos, negsuc, ◌*ℤ◌, slice_set, AllByRecursion, AllZip, cases_lt, nat_tests, Board, Format, Short, Long, Instr, signed_field, word_count, format_of, instruction_of, cell_holding, long_cell, cell_of_words, cell_at, Memory, IsMemory, fetched_at, State, Status, Running, Halted, Fault, Reached, generator_places, fetches, after_instruction, after_cell, next_status, start, Reads, Run, past, places, decoded, performed, act, step, run_after, begin, IsRead, ReadsNow, ReadsAs, IsSamePlace, AreStored, Agrees, AgreesWith, CircuitFollows}
+use Rattle.dvg_circuit.proofs.Common.{false, ◌≡◌, ℕ, zero, suc, ◌+◌, ◌%◌, ◌<◌, ◌≤◌, List, [], ◌∷◌, ◌++◌, length, reverse, Option, Some, None, nat_le, refl, ap, sym, subst, ◌∙◌, arith, pos, negsuc, ◌*ℤ◌, slice_set, AllByRecursion, AllZip, cases_lt, cases_eq, true, nat_tests, Board, Format, Short, Long, Instr, signed_field, word_count, format_of, instruction_of, cell_holding, long_cell, cell_of_words, cell_at, Memory, IsMemory, fetched_at, State, Status, Running, Reached, generator_places, fetches, after_instruction, after_cell, next_status, start, Reads, Run, past, places, decoded, performed, act, step, run_after, begin, IsRead, ReadsNow, ReadsAs, IsSamePlace, AreStored, Agrees, AgreesWith, CircuitFollows}
 use Rattle.std.proofs.lemmas.List.{append-nil, reverse-append, get_or-set_same, get_or-set_other, length-set}
-use Rattle.dvg_circuit.proofs.Moves.{pair, beam_moved, drawn_as}
+use Rattle.dvg_circuit.proofs.Moves.{beam_moved, drawn_as}
 use Rattle.dvg_circuit.proofs.Reading.{IsRight, right, low_word}
 
 -- ---- stored places
@@ -32,9 +32,8 @@ all_map P Q (x ∷ xs) h a = (h x a.0, all_map P Q xs h a.1)
 
 zip_push : {A B : Type 0} (R : A → B → Type 0) (xs : List A) (ys : List B) (x : A) (y : B) → AllZip R xs ys → R x y → AllZip R (xs ++ x ∷ []) (ys ++ y ∷ [])
 zip_push R [] [] x y all one = (one, tt)
-zip_push R [] (k ∷ ys) x y all one = absurd all
-zip_push R (k ∷ xs) [] x y all one = absurd all
 zip_push R (k ∷ xs) (l ∷ ys) x y all one = (all.0, zip_push R xs ys x y all.1 one)
+zip_push R xs ys x y all one = grind (arith)
 
 -- ---- each instruction
 
@@ -43,8 +42,7 @@ abbrev fetched_state : Format → State → State
 fetched_state f s = record s { fetched = generator_places f s.pc ++ s.fetched }
 
 labs_same : (x y : ℕ) → x < 4096 → y < 4096 → IsSamePlace (record { x = pos 1024 *ℤ signed_field x; y = pos 1024 *ℤ signed_field y }) (record { x = x; y = y })
-unfolding pair
-labs_same x y a b = grind (arith, pair, nat_le, nat_tests, pos, negsuc, cases_lt)
+labs_same x y a b = grind (arith, nat_le, nat_tests, pos, negsuc, cases_lt)
 
 agree_instr : (base : ℕ) (i : Instr) (f : Format) (s : State) (r : Run)
     → IsRight f i → r.circuit.halted ≡ false → Agrees base s r → s.pc + word_count f < 4096
@@ -53,10 +51,10 @@ agree_instr base i f s r fits going h low = grind (arith, beam_moved, fetched_mo
 
 -- ---- an instruction that is fetched
 
-agree_holding : (base : ℕ) (one : Option Instr) (f : Format) (first second : ℕ) (s : State) (r : Run)
-    → instruction_of Board first second ≡ one → format_of first ≡ f → r.circuit.halted ≡ false → Agrees base s r → s.pc + word_count f < 4096
-    → AgreesWith base (after_cell Board (cell_holding f one) (fetched_state f s)) (performed (decoded first second) f r)
-agree_holding base one f first second s r e is going h low = grind (arith, agree_instr, right)
+agree_holding : (base : ℕ) (one : Option Instr) (f : Format) (first second read : ℕ) (s : State) (r : Run)
+    → instruction_of Board first second ≡ one → read ≡ second → format_of first ≡ f → r.circuit.halted ≡ false → Agrees base s r → s.pc + word_count f < 4096
+    → AgreesWith base (after_cell Board (cell_holding f one) (fetched_state f s)) (performed (decoded first read) f r)
+agree_holding base one f first second read s r e heard is going h low = grind (arith, agree_instr, right)
 
 agree_long : (m : Memory) (base first : ℕ) (second : Option ℕ) (reads : Reads) (s : State) (r : Run)
     → IsMemory m → fetched_at m (s.pc + 1) ≡ second → format_of first ≡ Long → IsRead m reads (past Short r.circuit.pc) → r.circuit.halted ≡ false → Agrees base s r
@@ -65,9 +63,7 @@ agree_long : (m : Memory) (base first : ℕ) (second : Option ℕ) (reads : Read
 agree_long m base first None reads s r mem e is seen going h low = tt
 agree_long m base first (Some second) reads s r mem e is seen going h low =
     let behind : past Short r.circuit.pc ≡ s.pc + 1 = omega (arith, h.pc, low) in
-    let heard : reads (past Short r.circuit.pc) ≡ second = seen second (ap (fetched_at m) behind ∙ e) in
-    subst (λ (k : ℕ). AgreesWith base (after_cell Board (long_cell Board first (Some second)) (fetched_state Long s)) (performed (decoded first k) Long r)) (sym heard)
-    (agree_holding base _ Long first second s r refl is going h (let room = low_word m (s.pc + 1) second mem e in omega (arith, room)))
+    agree_holding base _ Long first second _ s r refl (seen second (ap (fetched_at m) behind ∙ e)) is going h (let room = low_word m (s.pc + 1) second mem e in omega (arith, room))
 
 agree_first : (m : Memory) (base : ℕ) (first : Option ℕ) (reads : Reads) (s : State) (r : Run)
     → IsMemory m → fetched_at m s.pc ≡ first → ReadsNow m reads r → r.circuit.halted ≡ false → Agrees base s r
@@ -84,27 +80,18 @@ agree_step m base reads s r mem board seen going h = grind (arith, agree_first)
 
 -- ---- runs
 
-abbrev later : (ℕ → Reads) → ℕ → Reads
-later reads n = reads (suc n)
-
-first_step : (reads : ℕ → Reads) (n : ℕ) (r : Run) → run_after (later reads) n (step (reads 0) r) ≡ run_after reads (suc n) r
-first_step reads zero r = refl
-first_step reads (suc n) r = ap (step (reads (suc n))) (first_step reads n r)
-
-reads_later : (m : Memory) (reads : ℕ → Reads) (r : Run) → ReadsAs m reads r → ReadsAs m (later reads) (step (reads 0) r)
-reads_later m reads r seen n =
-    subst (λ (k : Run). k.circuit.halted ≡ false → ReadsNow m (reads (suc n)) k) (sym (first_step reads n r)) (seen (suc n))
-
-agree_on : (m : Memory) (base n : ℕ) (reads : ℕ → Reads) (s : State) (r : Run) (mid after : Status)
-    → IsMemory m → m.rom.machine ≡ Board → ReadsAs m reads r → AgreesWith base mid r → Reached m n mid after
-    → AgreesWith base after (run_after reads n r)
-agree_on m base zero reads s r mid after mem board seen h reached = subst (λ (k : Status). AgreesWith base k r) reached h
-agree_on m base (suc n) reads s r (Running now) after mem board seen h reached =
-    subst (AgreesWith base after) (first_step reads n r)
-    (agree_on m base n (later reads) s (step (reads 0) r) reached.0 after mem board (reads_later m reads r seen)
-    (subst (λ (k : Status). AgreesWith base k (step (reads 0) r)) reached.1 (agree_step m base (reads 0) now r mem board (seen 0 h.0) h.0 h.1)) reached.2)
-agree_on m base (suc n) reads s r (Halted now) after mem board seen h reached = absurd reached.1
-agree_on m base (suc n) reads s r (Fault now) after mem board seen h reached = absurd reached.1
+agree_on : (m : Memory) (base k n all : ℕ) (reads : ℕ → Reads) (r : Run) (mid after : Status)
+    → IsMemory m → m.rom.machine ≡ Board → ReadsAs m reads r → all ≡ k + n → AgreesWith base mid (run_after reads k r) → Reached m n mid after
+    → AgreesWith base after (run_after reads all r)
+agree_on m base k zero all reads r mid after mem board seen same h reached = grind (arith)
+agree_on m base k (suc n) all reads r mid after mem board seen same h reached = grind (arith, (agree_on m base (suc k) n all reads r), agree_step)
 
 pub circuit_follows : CircuitFollows
-circuit_follows m reads c place steps after mem board begun seen same reached = grind (arith, (agree_on m c.pointer steps reads (start place c.scale) (begin c) (Running (start place c.scale)) after mem board seen (begun.running, record { pc = begun.pc; place = same; scale = refl; pointer = omega (arith, begun.pointer); stored = tt; four = begun.four; fetched = refl; lit = tt }) reached))
+circuit_follows m reads c place steps after mem board begun seen same reached =
+    let begins : AgreesWith c.pointer (Running (start place c.scale)) (begin c) = grind (arith, start, begin) in
+    agree_on m c.pointer 0 steps steps reads (begin c) (Running (start place c.scale)) after mem board seen (omega arith) begins reached
+
+-- more instructions after a halt at the fifth change nothing
+pub after_halt : (reads : ℕ → Reads) (r : Run) (n : ℕ) → (run_after reads 5 r).circuit.halted ≡ true → 5 ≤ n → run_after reads n r ≡ run_after reads 5 r
+after_halt reads r zero h le = grind (arith)
+after_halt reads r (suc n) h le = grind (arith, (after_halt reads r n h), (cases_eq 5 (suc n)))

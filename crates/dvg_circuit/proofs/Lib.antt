@@ -1,5 +1,4 @@
 pub mod Common
-pub mod Multipliers
 pub mod Ones
 pub mod Rounding
 pub mod Places

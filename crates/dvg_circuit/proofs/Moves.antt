@@ -6,38 +6,31 @@ use Rattle.dvg_circuit.proofs.Places.{counter_is_place}
 
 -- ---- how far
 
-moved_to : (at from size : ℤ) (local global : ℕ) → at ≡ pos 1024 *ℤ from → nat_abs size ≤ 1023
-    → at +ℤ axis_move Board size local global ≡ pos 1024 *ℤ (from +ℤ moved size (counts (effective_scale local global)))
-moved_to at from size local global e small =
+moved_to : (from size : ℤ) (local global : ℕ) → nat_abs size ≤ 1023
+    → pos 1024 *ℤ from +ℤ axis_move Board size local global ≡ pos 1024 *ℤ (from +ℤ moved size (counts (effective_scale local global)))
+moved_to from size local global small =
     let move : axis_move Board size local global ≡ pos 1024 *ℤ moved size (counts (effective_scale local global)) = grind (arith, board_moves, rounded_half_up, cases_lt, ints) in
-    omega (arith, ints, e, move)
+    omega (arith, ints, move)
 
 -- the sizes have ten bits
 pub record AreSizes (d : DrawFields) : Type 0 where
   pub x : nat_abs d.dx ≤ 1023
   pub y : nat_abs d.dy ≤ 1023
 
-the_point : ℤ → ℤ → Point
-the_point x y = record { x = x; y = y }
-
-unfoldable pub pair : ℕ → ℕ → Counters
-pair x y = record { x = x; y = y }
-
 -- the counters after some counts hold the twelve bits of where the places without bounds are then
 pub counted : (x y : ℤ) (d : DrawFields) (n : ℕ) (c : Counters) → c ≡ record { x = twelve_bits x; y = twelve_bits y }
     → counters_after d c n ≡ record { x = twelve_bits (x +ℤ moved d.dx n); y = twelve_bits (y +ℤ moved d.dy n) }
-unfolding pair
-counted x y d n c e = grind (arith, pair, counter_is_place)
+counted x y d n c e = grind (arith, counter_is_place)
 
 pub beam_moved : (d : DrawFields) (g : ℕ) (p : Point) (c : Counters) → AreSizes d → IsSamePlace p c
     → IsSamePlace (shift p (displacement Board d g)) (counters_after d c (counts (effective_scale d.lscale g)))
-unfolding displacement the_point
+unfolding displacement
 beam_moved d g p c small h =
     let n = counts (effective_scale d.lscale g) in
     record {
       x = h.x +ℤ moved d.dx n;
       y = h.y +ℤ moved d.dy n;
-      place = grind (arith, the_point, (moved_to p.x h.x d.dx d.lscale g (ap (λ (q : Point). q.x) h.place) small.x), (moved_to p.y h.y d.dy d.lscale g (ap (λ (q : Point). q.y) h.place) small.y));
+      place = grind (arith, moved_to);
       counters = counted h.x h.y d n c h.counters;
     }
 
@@ -45,8 +38,8 @@ beam_moved d g p c small h =
 
 pub among : (a b from size : ℤ) (some all : ℕ) → a ≡ pos 1024 *ℤ from → b ≡ pos 1024 *ℤ (from +ℤ signed size all) → some ≤ all
     → IsAmong a b (pos 1024 *ℤ (from +ℤ signed size some))
-among a b from (pos m) some all e f le low high g k = (omega (arith, ints, e, f, le, g.0, k.0), omega (arith, ints, e, f, le, g.1, k.1))
-among a b from (negsuc m) some all e f le low high g k = (omega (arith, ints, e, f, le, g.0, k.0), omega (arith, ints, e, f, le, g.1, k.1))
+among a b from (pos m) some all e f le low high g k = omega (arith, ints)
+among a b from (negsuc m) some all e f le low high g k = omega (arith, ints)
 
 -- the stroke of a draw
 pub drawn_as : (d : DrawFields) (g : ℕ) (p : Point) (c : Counters) (small : AreSizes d) (h : IsSamePlace p c)

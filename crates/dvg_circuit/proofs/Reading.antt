@@ -1,6 +1,7 @@
 -- What the circuit reads and decodes is what the generator does.
-use Rattle.dvg_circuit.proofs.Common.{◌≡◌, ℕ, ◌<◌, nat_le, Some, arith, pos, neg_ℤ, nat_abs, nat_tests, Board, Format, Short, Instr, opcode, instruction_of, format_of, Memory, IsMemory, fetched_at}
+use Rattle.dvg_circuit.proofs.Common.{◌≡◌, ℕ, ◌<◌, nat_le, Some, arith, pos, neg_ℤ, nat_abs, nat_tests, Board, Format, Short, decoded, Instr, opcode, instruction_of, format_of, Memory, IsMemory, fetched_at}
 use Rattle.dvg_words.specs.declared.instruction.Instr.TheVariants.{Draw as Draws, Labs, Jsrl}
+use Rattle.dvg_circuit.specs.Laws.{AllDecoded}
 use Rattle.dvg_circuit.proofs.Moves.{AreSizes}
 
 -- ---- instructions
@@ -24,3 +25,7 @@ right first second i e = grind (arith, negated, nat_tests, (nat_le (opcode first
 -- a word that there is stands below FFF
 pub low_word : (m : Memory) (p word : ℕ) → IsMemory m → fetched_at m p ≡ Some word → p < 4095
 low_word m p word mem e = grind (arith, nat_tests)
+
+pub all_decoded : AllDecoded
+unfolding instruction_of
+all_decoded first second = (decoded first second, grind (arith))

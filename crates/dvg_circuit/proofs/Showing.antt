@@ -1,6 +1,6 @@
 -- What is shown of a stroke.
-use Rattle.dvg_circuit.proofs.Common.{◌≡◌, ap, sym, subst, arith, ℤ, pos, negsuc, ◌+ℤ◌, ◌*ℤ◌, ints, Window, IsWindowOrZone, clipped, InWindow, Point, Stroke, bit, counters_after, LitDraw, IsBetween, moved, twelve_bits, IsDrawnAs}
-use Rattle.dvg_circuit.specs.Showing.{ShowsPlace, IsDrawInWindow, ShownInWindow, LitInWindow, LitOnScreen, ScreenIsShown}
+use Rattle.dvg_circuit.proofs.Common.{◌≡◌, ap, arith, ℤ, pos, negsuc, ◌+ℤ◌, ◌*ℤ◌, ints, Window, IsWindowOrZone, clipped, InWindow, Point, Stroke, bit, IsShown, Counters, counters_after, LitDraw, IsBetween, moved, twelve_bits, IsDrawnAs}
+use Rattle.dvg_circuit.specs.Showing.{IsDrawInWindow, ShownInWindow, LitInWindow, LitOnScreen, ScreenIsShown}
 use Rattle.dvg_circuit.proofs.Moves.{drawn_on_stroke}
 
 in_places : (low high x at : ℤ) → at ≡ pos 1024 *ℤ x → IsBetween (pos 1024 *ℤ low) (pos 1024 *ℤ high) at → IsBetween low high x
@@ -30,9 +30,7 @@ drawn_in_window w stroke l is from to h =
       y = h.from.y;
       each = λ n le.
           let on = drawn_on_stroke stroke l h n le in
-          let inside = lit_in_window w stroke (counters_after l.draw l.from n) on from to in
-          subst (ShowsPlace w (h.from.x +ℤ moved l.draw.dx n) (h.from.y +ℤ moved l.draw.dy n)) (sym on.same.counters)
-          (shown_in_window.place w (h.from.x +ℤ moved l.draw.dx n) (h.from.y +ℤ moved l.draw.dy n) is inside);
+          grind (arith, (shown_in_window.place w (h.from.x +ℤ moved l.draw.dx n) (h.from.y +ℤ moved l.draw.dy n) is (lit_in_window w stroke (counters_after l.draw l.from n) on from to)), on);
     }
 
 -- ---- strokes of the zone
@@ -42,3 +40,7 @@ lit_on_screen stroke c on from to shown = grind (arith, (lit_in_window clipped s
 
 pub screen_is_shown : ScreenIsShown
 screen_is_shown p c same inside = grind (arith, ints)
+
+-- where bit 10 is set nothing is shown
+pub blanked : (c : Counters) → bit 10 c.x ≡ 1 → IsShown c → ⊥
+blanked c set is = absurd (omega (arith, set, is.x))

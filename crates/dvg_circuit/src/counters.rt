@@ -13,6 +13,7 @@ pub struct Counters {
 }
 
 /// The pulse of a size at a count of the vector timer: 1, or 0 for none.
+#[tactic(auto, using(crate::proofs::Ones::counted_ones, crate::proofs::Common::nat_tests, crate::proofs::Common::shr_and_one))]
 pub fn pulse(size: u16, count: u16) -> u16
     ensures value { result ≡ pulse size count }
     ensures few { result ≤ 1 }
@@ -59,6 +60,7 @@ impl Counters {
 }
 
 /// For how many counts the vector timer runs at an effective scale: 2 to 1024 at 0 to 9, and none above.
+#[tactic(auto, using(crate::proofs::Rounding::lossless, crate::proofs::Common::nat_tests))]
 pub fn counts(scale: u8) -> u16
     ensures value { result ≡ counts scale }
     ensures few { result ≤ 1024 }

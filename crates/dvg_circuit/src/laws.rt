@@ -19,11 +19,13 @@ pub fn worked_addresses()
 
 /// The worked run: five instructions, from any counters, scale and stored places, with the stack pointer at 15. It wraps a counter
 /// and the pointer, and its first word is written over once it was fetched.
+#[tactic(auto, using(crate::proofs::Following::after_halt), unfolding(dvg_words::specs::Decoding::instruction_of))]
 pub fn worked_runs()
     ensures { WorkedRuns }
 {}
 
 /// A draw's pulses on an axis are its size by 2^(scale + 1) / 1024, rounded half up, at effective scales of 0 to 9, and none above.
+#[tactic(auto, using(crate::proofs::Rounding::rounded_half_up))]
 pub fn rounded_half_up()
     ensures { RoundedHalfUp }
 {}
@@ -34,6 +36,7 @@ pub fn none_beyond_ends()
 {}
 
 /// A counter holds the twelve bits of the place without bounds, at every count.
+#[tactic(auto, using(crate::proofs::Places::counter_is_place))]
 pub fn counter_is_place()
     ensures { CounterIsPlace }
 {}
@@ -49,6 +52,7 @@ pub fn no_shared_bits()
 {}
 
 /// Each two words are an instruction of the board.
+#[tactic(auto, using(crate::proofs::Reading::all_decoded))]
 pub fn all_decoded()
     ensures { AllDecoded }
 {}
@@ -60,6 +64,7 @@ pub fn circuit_follows()
 {}
 
 /// At every count of a lit draw the counters are at a place of its stroke.
+#[tactic(auto, using(crate::proofs::Moves::drawn_on_stroke))]
 pub fn drawn_on_stroke()
     ensures { DrawnOnStroke }
 {}
@@ -71,6 +76,7 @@ pub fn lit_in_window()
 
 /// Of a place of a window, -1024 to 2047 included, the board shows just what is on the screen, as itself; of a window of the screen
 /// it shows each place.
+#[tactic(auto, using(crate::proofs::Showing::shown_in_window))]
 pub fn shown_in_window()
     ensures { ShownInWindow }
 {}
@@ -81,6 +87,7 @@ pub fn lit_on_screen()
 {}
 
 /// Where the counters are at a place of the screen, nothing is blanked.
+#[tactic(auto, using(crate::proofs::Showing::screen_is_shown))]
 pub fn screen_is_shown()
     ensures { ScreenIsShown }
 {}
@@ -93,6 +100,7 @@ pub fn clipped_on_circuit()
 
 /// A stroke from -5 to 5 and one from 1020 to 1030, count by count: which of their places are blanked. One from -1025 to -1 does not
 /// lie in the zone, and its first place is shown, far from where it is.
+#[tactic(auto, using(crate::proofs::Showing::blanked, crate::proofs::Common::ints))]
 pub fn worked_clips()
     ensures { WorkedClips }
 {}

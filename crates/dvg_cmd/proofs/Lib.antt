@@ -4,9 +4,6 @@ pub mod Whole
 pub mod Reporting
 pub mod SeveralFrames
 pub mod FramesRuns
-pub mod RootsRuns
-pub mod Framing
-pub mod Reported
 pub mod Answers
 pub mod SeveralLines
 pub mod Naming

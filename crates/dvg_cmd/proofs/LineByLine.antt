@@ -43,16 +43,8 @@ module _ (all : List (List ℕ)) (old : Option (List ℕ)) (writes : ℕ) where
 
     pub one_sent : 0 < length line → (writes_after : ℕ) → Appends mid new piece → (0 < length piece → TakesOneWrite piece writes_mid writes_after) → SentTo rest new writes_after
     one_sent some writes_after written one =
-        record {
-          done = h.done ++ line ∷ [];
-          sent =
-              both_sent h.done (line ∷ []) old mid new writes writes_mid writes_after h.sent
-              (record {
-                written = subst (Appends mid new) (sym first) written;
-                one_write = (writes_after, subst (λ t. TakesOneWrite t writes_mid writes_after) is (one (subst (λ t. 0 < length t) (sym is) some)), refl);
-              });
-          whole = append_assoc h.done (line ∷ []) rest ∙ ap (λ ls. h.done ++ ls) (sym next) ∙ h.whole;
-        }
+        let sent : Sent (line ∷ []) mid new writes_mid writes_after = search (subst (Appends mid new) (sym first) written, subst (λ t. TakesOneWrite t writes_mid writes_after) is (one (subst (λ t. 0 < length t) (sym is) some))) in
+        search (both_sent h.done (line ∷ []) old mid new writes writes_mid writes_after h.sent sent, append_assoc h.done (line ∷ []) rest ∙ ap (λ ls. h.done ++ ls) (sym next) ∙ h.whole)
 
     pub one_cut : AppendsPrefix mid new piece → AppendsPrefix old new (joined all)
     one_cut written = grind (arith, rules, common_steps, joined, (first_cut (h.done ++ line ∷ []) rest old new (both_cut h.done (line ∷ []) old mid new writes writes_mid writes_mid h.sent (subst (AppendsPrefix mid new) (sym first) written))), (both_cut h.done (line ∷ []) old mid new writes writes_mid writes_mid h.sent (subst (AppendsPrefix mid new) (sym first) written)), first_cut, both_cut)

@@ -1,5 +1,5 @@
 -- The bytes of a name that were read so far.
-use Rattle.dvg_cmd.proofs.Common.{◌≡◌, ◌≢◌, ◌≤◌, ℕ, suc, zero, List, [], ◌∷◌, ◌++◌, length, length-append, get_or, take, ap, subst, ◌∙◌, refl, Option, inl, arith, Consumes-trans, Consumes, MOST_NAME_READ, Lacks, ReadsName}
+use Rattle.dvg_cmd.proofs.Common.{◌≡◌, ◌≢◌, ◌≤◌, ℕ, cases_lt, common_steps, suc, List, [], ◌∷◌, ◌++◌, length, length-append, get_or, take, ap, subst, ◌∙◌, Option, inl, arith, Consumes-trans, Consumes, MOST_NAME_READ, Lacks, ReadsName}
 
 pub record NameSoFar (end : ℕ) (old now : Option (List ℕ)) (len : ℕ) (name : List ℕ) : Type 0 where
   pub bytes : List ℕ
@@ -13,9 +13,7 @@ lacks_on end [] byte h other = (other, tt)
 lacks_on end (b ∷ bytes) byte h other = (h.0, lacks_on end bytes byte h.1 other)
 
 take_kept : (n : ℕ) (xs ys : List ℕ) → take n (take n xs ++ ys) ≡ take n (xs ++ ys)
-take_kept zero xs ys = refl
-take_kept (suc n) [] ys = refl
-take_kept (suc n) (x ∷ xs) ys = ap (λ (l : List ℕ). x ∷ l) (take_kept n xs ys)
+take_kept n xs ys = grind (arith, common_steps, (cases_lt n (length xs)))
 
 -- one byte was read into a buffer of one byte
 pub first_byte : (n : ℕ) (buf : List ℕ) → n ≤ length buf → length buf ≡ 1 → (n ≡ 0 → ⊥) → take n buf ≡ get_or buf 0 0 ∷ []

@@ -1,6 +1,6 @@
 -- What was read of several frames, one after another.
 use Rattle.dvg_cmd.proofs.Common.{true, ◌≡◌, ℕ, suc, zero, ◌<◌, ◌≤◌, List, [], ◌∷◌, ◌++◌, length, take, get_or, Option, refl, sym, ap, ◌∙◌, subst, arith, take-suc, IsFrameLength, IsReadTo, of_each, AreFrames, IsPrefix, ArePrefixes, set, count_after, MOST_FRAME_READ, EachRead, EachHeld, FirstWrong, OneFailed}
-use Rattle.dvg_cmd.proofs.Whole.{held_bytes, held_told, prefix_of_held, frame_same, frame_back}
+use Rattle.dvg_cmd.proofs.Whole.{held_bytes, held_told, frame_same, frame_back}
 
 pub of_each_append : {A B : Type 0} (f : A → B) (xs ys : List A) → of_each f (xs ++ ys) ≡ of_each f xs ++ of_each f ys
 of_each_append f [] ys = refl
@@ -60,12 +60,12 @@ each_held (r ∷ readers) (b ∷ read) h = (held_told r b, each_held readers rea
 each_held readers read h = grind (arith)
 
 pub each_same : (readers : List (Option (List ℕ))) (read : List (List ℕ)) → ArePrefixes readers read → AreFrames read → read ≡ held_each readers read
-each_same (r ∷ readers) (b ∷ read) h frames = grind (arith, (frame_same 0 b (held_bytes r b) (prefix_of_held 2049 r b h.0) frames.0), (held_bytes r b), (prefix_of_held 2049 r b h.0), (each_same readers read h.1 frames.1))
+each_same (r ∷ readers) (b ∷ read) h frames = grind (arith, (frame_same r b h.0 frames.0), (each_same readers read h.1 frames.1))
 each_same readers read h frames = grind (arith)
 
 pub first_wrong : (readers : List (Option (List ℕ))) (read : List (List ℕ)) (n : ℕ) → ArePrefixes readers read → FirstWrong read n → FirstWrong (held_each readers read) n
-first_wrong (r ∷ readers) (b ∷ read) zero h wrong = λ long. wrong (frame_back 0 b (held_bytes r b) (prefix_of_held 2049 r b h.0) long)
-first_wrong (r ∷ readers) (b ∷ read) (suc n) h wrong = grind (arith, (frame_same 0 b (held_bytes r b) (prefix_of_held 2049 r b h.0) wrong.0), (held_bytes r b), (prefix_of_held 2049 r b h.0), (first_wrong readers read n h.1 wrong.1))
+first_wrong (r ∷ readers) (b ∷ read) zero h wrong = λ long. wrong (frame_back r b h.0 long)
+first_wrong (r ∷ readers) (b ∷ read) (suc n) h wrong = grind (arith, (frame_same r b h.0 wrong.0), (first_wrong readers read n h.1 wrong.1))
 first_wrong readers read n h wrong = grind (arith)
 
 -- ---- the lengths of what was read

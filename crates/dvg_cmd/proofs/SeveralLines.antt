@@ -31,8 +31,7 @@ module _ (j : Judging) (listing : Listing) (start : Option ℕ) where
       → AreLinesOf j listing start (of_each f (taken ++ x ∷ [])) (lines ++ line ∷ [])
   lines_of_on f [] [] x line h one = (one, tt)
   lines_of_on f (y ∷ taken) (l ∷ lines) x line h one = (h.0, lines_of_on f taken lines x line h.1 one)
-  lines_of_on f [] (l ∷ lines) x line h one = absurd h
-  lines_of_on f (y ∷ taken) [] x line h one = absurd h
+  lines_of_on f taken lines x line h one = absurd h
 
   -- the next line was written
   pub more_lines : {A : Type 0} (f : A → OpenedFrame) (taken : List A) (x : A) (old mid new : Option (List ℕ)) (tally tally_mid tally_after : Tally) (writes writes_mid writes_after : ℕ) (worst end both : FrameOutcome)
@@ -44,14 +43,13 @@ module _ (j : Judging) (listing : Listing) (start : Option ℕ) where
       subst (λ ts. Sent ts old new writes writes_after) (sym (texts_on listing.lines h.lines (one.line ∷ [])))
       (both_sent (line_texts listing.lines h.lines) (line_texts listing.lines (one.line ∷ [])) old mid new writes writes_mid writes_after (record { written = h.written; one_write = h.one_write })
       (record { written = one.written; one_write = one.one_write })) in
-      record {
-        lines = h.lines ++ one.line ∷ [];
-        lines_of = lines_of_on f taken h.lines x one.line h.lines_of one.line_of;
-        written = sent.written;
-        one_write = sent.one_write;
-        outcome_is = is ∙ ap (λ o. worse o end) h.outcome_is ∙ ap (λ o. worse (worst_of outcome.Accepted h.lines) o) (sym one.end_is) ∙ sym (worst_on outcome.Accepted h.lines one.line);
-        tally_is = one.tally_is ∙ ap (λ t. with_answer t one.line.answer) h.tally_is ∙ sym (tally_then tally h.lines one.line);
-      }
+      search (
+        h.lines ++ one.line ∷ [],
+        lines_of_on f taken h.lines x one.line h.lines_of one.line_of,
+        sent,
+        is ∙ ap (λ o. worse o end) h.outcome_is ∙ ap (λ o. worse (worst_of outcome.Accepted h.lines) o) (sym one.end_is) ∙ sym (worst_on outcome.Accepted h.lines one.line),
+        one.tally_is ∙ ap (λ t. with_answer t one.line.answer) h.tally_is ∙ sym (tally_then tally h.lines one.line),
+      )
 
   -- a prefix of the next line was written
   pub cut_lines : {A : Type 0} (f : A → OpenedFrame) (taken : List A) (x : A) (old mid new : Option (List ℕ)) (tally tally_mid : Tally) (writes writes_mid : ℕ) (worst : FrameOutcome)
@@ -59,13 +57,8 @@ module _ (j : Judging) (listing : Listing) (start : Option ℕ) where
       → ReportsFramesPrefix j listing start (of_each f (taken ++ x ∷ [])) old new
   cut_lines f taken x old mid new tally tally_mid writes writes_mid worst h one =
       let lines : List Line = h.lines ++ one.line ∷ [] in
-      record {
-        lines = lines;
-        lines_of = lines_of_on f taken h.lines x one.line h.lines_of one.line_of;
-        written =
-            first_cut (line_texts listing.lines lines) (summary_of listing.summary (tally_on no_lines lines)) old new (subst (λ ts. AppendsPrefix old new (joined ts)) (sym (texts_on listing.lines h.lines (one.line ∷ [])))
-            (both_cut (line_texts listing.lines h.lines) (line_texts listing.lines (one.line ∷ [])) old mid new writes writes_mid writes_mid (record { written = h.written; one_write = h.one_write }) one.written));
-      }
+      let cut = both_cut (line_texts listing.lines h.lines) (line_texts listing.lines (one.line ∷ [])) old mid new writes writes_mid writes_mid (record { written = h.written; one_write = h.one_write }) one.written in
+      search (lines_of_on f taken h.lines x one.line h.lines_of one.line_of, first_cut (line_texts listing.lines lines) (summary_of listing.summary (tally_on no_lines lines)) old new (subst (λ ts. AppendsPrefix old new (joined ts)) (sym (texts_on listing.lines h.lines (one.line ∷ []))) cut))
 
   -- ---- the summary
 

@@ -40,6 +40,7 @@ impl HasLine for TouchedEntry {
 }
 
 /// Writes the line of each of these, by one write.
+#[tactic(auto, using(crate::proofs::LineByLine::one_sent, crate::proofs::LineByLine::next_line, std::proofs::lemmas::Grind::common_steps))]
 pub fn write_each<L: HasLine, W: CountedWrite>(things: &[L], out: &mut W) -> Result<(), WriteFault>
     ensures sent { OnOk result (Sent (of_each L.text things.now) (W.contents out.old) (W.contents out.new) (W.whole_writes out.old)
         (W.whole_writes out.new)) }

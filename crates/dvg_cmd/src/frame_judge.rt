@@ -104,6 +104,7 @@ fn images_for<'a>(
 }
 
 /// The verdict on the bytes of a frame by its own certificate: the first that applies of 2, 49 and 1, else that of [`judge`].
+#[tactic(auto, using(crate::proofs::Answers::own_verdict))]
 fn verdict_by_own(alloc: Global, own: &OwnCertificates, frame: &[u8]) -> Result<Yes, FrameRefusal>
     ensures { VerdictOnBytes own.now.machine own.now.rom.now own.now.map frame.now own.now.budget own.now.window result }
 {
@@ -114,6 +115,7 @@ fn verdict_by_own(alloc: Global, own: &OwnCertificates, frame: &[u8]) -> Result<
 }
 
 /// The same verdict, and the account of it.
+#[tactic(auto, using(crate::proofs::Answers::own_verdict))]
 fn explain_by_own<'a>(
     alloc: Global,
     own: &OwnCertificates<'a>,

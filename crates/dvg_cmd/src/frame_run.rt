@@ -22,6 +22,7 @@ use std::alloc::Global;
 use std::io;
 
 /// The bytes of a frame, up to one past its limit, with the jump to its start in place of word 000, if one is given.
+#[tactic(auto, using(crate::proofs::Answers::reads_frame))]
 fn read_started<R: CountedRead>(frame: &mut R, start: Option<u16>) -> io::Result<ArrayVec<u8, 2049>>
     ensures bytes { IfOk result (λ image. ReadsFrame (R.remaining frame.old) start image.items) }
     ensures read { OnOk result (IsReadTo MOST_FRAME_READ (R.remaining frame.old) (R.remaining frame.new)) }
@@ -112,6 +113,7 @@ pub fn write_answer<W: CountedWrite>(
 /// With a start, which is below 1000 hexadecimal, the frame is judged as though its word 000 were the jump there. The frame is
 /// read to its end, or to one byte past its limit, and nothing is tried again. A frame that can't be read has a line, too; the
 /// only fault is 73, if the writer failed, and then a prefix of the line and of the account was written.
+#[tactic(auto, using(crate::proofs::Answers::frame_accepted))]
 pub fn run_frame<J: FrameJudge, R: CountedRead, W: CountedWrite>(
     alloc: Global,
     judge: &J,

@@ -53,6 +53,7 @@ pub fn read_maker_rom<R: CountedRead>(rom: &mut R) -> Result<RomBytes, FramesRun
 }
 
 /// What is read of each frame.
+#[tactic(auto, using(crate::proofs::SeveralFrames::all_read, crate::proofs::SeveralFrames::none_failed))]
 pub fn read_frames<R: CountedRead>(
     alloc: Global,
     frames: &mut [R],
@@ -94,6 +95,7 @@ pub fn rom_image(
 }
 
 /// The images of what was read of frames.
+#[tactic(auto, using(crate::proofs::SeveralFrames::wrong_here, crate::proofs::SeveralFrames::frames_next, crate::proofs::SeveralFrames::words_next, std::proofs::lemmas::Grind::common_steps))]
 fn frame_images(alloc: Global, read: &[FrameBytes]) -> Result<Vec<FrameImage<'_>>, FramesRunFault>
     ensures frames { OnOk result (AreFrames (of_each (λ bytes. bytes.items) read.now)) }
     ensures images { IfOk result (λ images. images.items ≡ of_each words_of (of_each (λ bytes. bytes.items) read.now)) }

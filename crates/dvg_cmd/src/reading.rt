@@ -16,6 +16,7 @@ use std::alloc::Global;
 use std::io;
 
 /// Fills the buffer, or less of it where the reader ends before.
+#[tactic(auto, using(crate::proofs::Pieces::take_filled, std::proofs::lemmas::Grind::common_steps))]
 fn fill<R: CountedRead>(reader: &mut R, buf: &mut [u8]) -> io::Result<usize>
     ensures within { IfOk result (λ n. n ≤ length buf.new) }
     ensures bytes { IfOk result (λ n. Consumes (R.remaining reader.old) (R.remaining reader.new) (take n buf.new)) }
@@ -79,6 +80,7 @@ pub fn read_frame<R: CountedRead>(reader: &mut R) -> io::Result<ArrayVec<u8, 204
 const PIECE: usize = 4096;
 
 /// Reads to the end, or so many bytes, and keeps none of them.
+#[tactic(auto, using(crate::proofs::Pieces::piece_skipped, std::proofs::lemmas::Grind::common_steps))]
 pub fn skip<R: CountedRead>(reader: &mut R, most: usize) -> io::Result<()>
     ensures read { OnOk result (IsReadTo most (R.remaining reader.old) (R.remaining reader.new)) }
     ensures count { R.failures reader.new ≡ count_after (is_err result) (R.failures reader.old) }

@@ -30,6 +30,7 @@ fn name_and_key(text: &str) -> Option<(&str, Key)>
 
 /// The root that a word of the command line spells: as [`root_of`] reads it; else by a label of these, with its name, which has no
 /// slash, in place of the address.
+#[tactic(auto, using(std::proofs::lemmas::Bool::Decides::nat_tests))]
 pub fn root_by(labels: Option<&Labels>, text: &str) -> Result<(u16, Key), RootFault>
     ensures ok { IfOk result (λ root. IsRootBy labels.entry text.now root.0 root.1) }
     ensures err { IfErr result (IsRootFault labels.entry text.now) }

@@ -97,6 +97,7 @@ fn judge_rom(
 
 /// The verdict on the bytes of a ROM and of a frame and on the certificate that a reader holds. If the frame or the budget is
 /// refused, the certificate is read all the same, and nothing of it is kept. Else the watch sees each piece of it.
+#[tactic(auto, using(crate::proofs::Reporting::judges_range, crate::proofs::Reporting::judges_refused, crate::proofs::Reporting::judges_cert))]
 pub fn read_verdict<R: CountedRead>(
     alloc: Global,
     rom: &[u8],

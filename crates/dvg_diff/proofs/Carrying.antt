@@ -1,9 +1,11 @@
 -- What is made and judged over one ROM, over another whose shapes read the same.
-use Rattle.dvg_diff.proofs.Common.{◌≡◌, ℕ, ◌∙◌, List, [], ◌∷◌, Result, Contains, refl, sym, subst, inl, inr, ⊎_elim, arith, AllByRecursion, Contains-append_left, Contains-append_right, Window, Rom, rom_word, cell_at, Cell, Entry, Key, later, Item, Shape, LeadsTo, shape_context, seen_at, CellKeeps, ShapeKeeps, ShapePlaceKeeps, GoodShape, Good, Exact, AllBefore, EachItem, MadeEntry, Needs, FramesMade, FrameMade, IsTouched, ReachesTouched, SameList}
+use Rattle.dvg_diff.proofs.Common.{◌≡◌, ℕ, ◌∙◌, List, [], ◌∷◌, Result, Contains, refl, sym, ap, subst, inl, inr, ⊎_elim, arith, Contains-append_left, Contains-append_right, Window, Rom, rom_word, cell_at, Cell, Entry, Key, Item, Shape, LeadsTo, shape_context, seen_at, CellKeeps, ShapeKeeps, ShapePlaceKeeps, GoodShape, Good, Exact, AllBefore, EachItem, MadeEntry, Needs, FramesMade, IsTouched, ReachesTouched, SameList}
+use Rattle.dvg_diff.specs.Laws.{IsUntouched, SameVerdict}
+use Rattle.dvg_items.proofs.Lists.{all_listed, at_place}
 use Rattle.dvg_check.specs.declared.fault.Mode.{Mode}
 use Rattle.dvg_check.specs.declared.fault.ShapeWhy.{ShapeWhy}
 use Rattle.dvg_check.specs.declared.fault.ShapeWhy.TheVariants as shape
-use Rattle.dvg_check.specs.FirstFault.{FirstShapeFault}
+use Rattle.dvg_check.specs.FirstFault.{FirstShapeFault, ShapeFaultAt}
 use Rattle.dvg_check.specs.declared.fault.ShapeFault.{ShapeFault}
 use Rattle.dvg_check.specs.Verdict.{PartsVerdict}
 use Rattle.dvg_check.specs.declared.verdict.Yes.{Yes}
@@ -39,23 +41,30 @@ module _ (rom : Rom) (others : List ℕ) (list : List Entry) (untouched : Reache
       Keeps earlier p why cell =
           CellKeeps shape.Unmapped shape.Odd (λ i. ShapeKeeps mode w e (seen_at (shape_context rom.machine list e) earlier i)) p cell why
 
-      keep_there : (earlier : List Item) (p : ℕ) → LeadsTo Shape (rom_word rom) e.addr earlier p → (why : ShapeWhy) → ShapePlaceKeeps mode w rom list e earlier p why → ShapePlaceKeeps mode w other list e earlier p why
-      keep_there earlier p lead why = subst (Keeps earlier p why) (cell_is earlier p lead)
-
-      keep_back : (earlier : List Item) (p : ℕ) → LeadsTo Shape (rom_word rom) e.addr earlier p → (why : ShapeWhy) → ShapePlaceKeeps mode w other list e earlier p why → ShapePlaceKeeps mode w rom list e earlier p why
-      keep_back earlier p lead why = subst (Keeps earlier p why) (sym (cell_is earlier p lead))
+      keep_there : (earlier : List Item) (p : ℕ) → LeadsTo Shape (rom_word rom) e.addr earlier p → (why : ShapeWhy) → ShapePlaceKeeps mode w rom list e earlier p why ≡ ShapePlaceKeeps mode w other list e earlier p why
+      keep_there earlier p lead why = ap (Keeps earlier p why) (cell_is earlier p lead)
 
       good_shape : GoodShape mode w rom list e → GoodShape mode w other list e
-      good_shape g earlier p lead why = let l = leads_back earlier p lead in keep_there earlier p l why (g earlier p l why)
+      good_shape g earlier p lead why = let l = leads_back earlier p lead in rw (keep_there earlier p l why) at (g earlier p l why)
 
       before_there : (items : List Item) (p : ℕ) → LeadsTo Shape (rom_word rom) e.addr items p → AllBefore (ShapePlaceKeeps mode w rom list e) items → AllBefore (ShapePlaceKeeps mode w other list e) items
       before_there [] p lead h = tt
-      before_there (i ∷ items) p lead h = (before_there items i.at lead.0 h.0, λ why. keep_there items i.at lead.0 why (h.1 why))
+      before_there (i ∷ items) p lead h = (before_there items i.at lead.0 h.0, λ why. rw (keep_there items i.at lead.0 why) at (h.1 why))
+
+      first_there : (p : ℕ) (why : ShapeWhy) → ShapeFaultAt mode w rom list e p why → ShapeFaultAt mode w other list e p why
+      first_there p why h =
+          record {
+            items = h.items;
+            leads = forth rom others e.addr (each_untouched e c) h.items p h.leads;
+            before = before_there h.items p h.leads h.before;
+            breaks = λ k. h.breaks (rw (← (keep_there h.items p h.leads why)) at k);
+            lowest = λ less lt. rw (keep_there h.items p h.leads less) at (h.lowest less lt);
+          }
 
     entry_there : MadeEntry rom list e → MadeEntry other list e
     entry_there m =
         record {
-          keeps = λ earlier p lead why w ne. let l = leads_back earlier p lead in keep_there Exact w earlier p l why (m.keeps earlier p l why w ne);
+          keeps = λ earlier p lead why w ne. let l = leads_back earlier p lead in rw (keep_there Exact w earlier p l why) at (m.keeps earlier p l why w ne);
           keyed = item_there _ m.keyed;
           box = item_there _ m.box;
         }
@@ -63,31 +72,11 @@ module _ (rom : Rom) (others : List ℕ) (list : List Entry) (untouched : Reache
   good_there : (mode : Mode) (w : Window) → Good mode w rom list → Good mode w other list
   good_there mode w g e c = good_shape e c mode w (g e c)
 
-  shapes_there : (mode : Mode) (w : Window) (es : List Entry) → ((e : Entry) → Contains es e → Contains list e) → AllByRecursion (GoodShape mode w rom list) es → AllByRecursion (GoodShape mode w other list) es
-  shapes_there mode w [] h g = tt
-  shapes_there mode w (e ∷ es) h g = (good_shape e (h e (0, omega arith, refl)) mode w g.0, shapes_there mode w es (λ f c. h f (later e es f c)) g.1)
-
   fault_there : (mode : Mode) (w : Window) (f : ShapeFault) → FirstShapeFault mode w rom list f → FirstShapeFault mode w other list f
   fault_there mode w f h =
       let listed : Contains list h.entry = subst (λ (es : List Entry). Contains es h.entry) (sym h.order_is) (Contains-append_right h.before (h.entry ∷ h.after) h.entry (0, omega arith, refl)) in
       let among = λ (e : Entry) (c : Contains h.before e). subst (λ (es : List Entry). Contains es e) (sym h.order_is) (Contains-append_left h.before (h.entry ∷ h.after) e c) in
-      let lead = h.fault.leads in
-      record {
-        before = h.before;
-        entry = h.entry;
-        after = h.after;
-        order_is = h.order_is;
-        good = shapes_there mode w h.before among h.good;
-        addr = h.addr;
-        key = h.key;
-        fault = record {
-          items = h.fault.items;
-          leads = forth rom others h.entry.addr (each_untouched h.entry listed) h.fault.items f.word lead;
-          before = before_there h.entry listed mode w h.fault.items f.word lead h.fault.before;
-          breaks = λ k. h.fault.breaks (keep_back h.entry listed mode w h.fault.items f.word lead f.why k);
-          lowest = λ why lt. keep_there h.entry listed mode w h.fault.items f.word lead why (h.fault.lowest why lt);
-        };
-      }
+      search (h.order_is, all_listed _ h.before (λ e c. good_shape e (among e c) mode w (at_place _ h.before e h.good c)), first_there h.entry listed mode w f.word f.why h.fault)
 
   verdict_there : (w : Window) (words : List ℕ) (budget : ℕ) (answer : Result Yes Refusal) → PartsVerdict Exact w rom list words budget answer → PartsVerdict Exact w other list words budget answer
   verdict_there w words budget answer h = grind (arith, good_there, fault_there)
@@ -105,16 +94,21 @@ module _ (rom : Rom) (others : List ℕ) (list : List Entry) (untouched : Reache
           needed = λ f c. ⊎_elim (λ asked. inl asked) (λ n. inr (n.0, n.1, needs_there n.0 f n.1 n.2)) (made.needed f c);
         }
 
-  -- ---- a frame with this list
+-- ---- the laws
 
-  pub judged_there : (words : List ℕ) → FrameMade rom words list → (w : Window) (budget : ℕ) (answer : Result Yes Refusal) → ByMade rom words w budget answer → ByMade other words w budget answer
-  judged_there words made w budget answer by =
-      let same : by.list ≡ list = one_frames_made rom [] (words ∷ []) by.list list by.made made in
-      search (list, made_there [] (words ∷ []) made, verdict_there w words budget answer (subst (λ (es : List Entry). PartsVerdict Exact w rom es words budget answer) same by.verdict))
-
--- ---- the law
+-- what goes from each ROM to one with other words goes both ways
+pub both_ways : (rom other : Rom) (roots : List (ℕ × Key)) (frames : List (List ℕ)) (list : List Entry) → IsUntouched rom other roots frames list
+    → (P : Rom → Rom → Type 0) → ((a : Rom) (others : List ℕ) → (ReachesTouched a (with_words a others) list → ⊥) → FramesMade a roots frames list → P a (with_words a others)) → P rom other × P other rom
+both_ways rom other roots frames list u P go =
+    subst (λ (o : Rom). (ReachesTouched rom o list → ⊥) → P rom o × P o rom) (alike_is rom other u.alike)
+    (λ h. (go rom other.words h u.made, go (with_words rom other.words) rom.words (list_untouched_back rom other.words list h) (made_there rom other.words list h roots frames u.made))) u.untouched
 
 pub same_list : SameList
-same_list rom other roots frames list u =
-    subst (λ (o : Rom). (ReachesTouched rom o list → ⊥) → FramesMade o roots frames list) (alike_is rom other u.alike)
-    (λ h. made_there rom other.words list h roots frames u.made) u.untouched
+same_list rom other roots frames list u = (both_ways rom other roots frames list u (λ a b. FramesMade b roots frames list) (λ a others h made. made_there a others list h roots frames made)).0
+
+pub same_verdict : SameVerdict
+same_verdict rom other words list u w budget answer =
+    both_ways rom other [] (words ∷ []) list u (λ a b. ByMade a words w budget answer → ByMade b words w budget answer)
+    (λ a others h made by.
+    let same : by.list ≡ list = one_frames_made a [] (words ∷ []) by.list list by.made made in
+    search (made_there a others list h [] (words ∷ []) made, verdict_there a others list h w words budget answer (subst (λ (es : List Entry). PartsVerdict Exact w a es words budget answer) same by.verdict)))

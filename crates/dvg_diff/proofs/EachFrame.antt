@@ -12,8 +12,7 @@ module _ (rom other : Rom) where
       → EachReaches rom other (frames ++ words ∷ []) (reaching ++ reaches ∷ [])
   one_more [] [] words reaches h r = (r, tt)
   one_more (w ∷ frames) (b ∷ reaching) words reaches h r = (h.0, one_more frames reaching words reaches h.1 r)
-  one_more [] (b ∷ reaching) words reaches h r = absurd h
-  one_more (w ∷ frames) [] words reaches h r = absurd h
+  one_more frames reaching words reaches h r = absurd h
 
   module _ (frames : List (List ℕ)) (i : ℕ) (d : List ℕ) (lt : i < length frames) where
     pub next_frame : (reaching : List Bool) → EachReaches rom other (take i frames) reaching → (words : List ℕ) → words ≡ get_or frames i d

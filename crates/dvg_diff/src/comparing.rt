@@ -50,6 +50,7 @@ fn frame_reaches(
 ///
 /// The refusals are those of [`make_for_frames`] over the first ROM. 63 comes also where there is no memory for the answer, or for
 /// the certificate of a frame alone. Takes memory for one certificate at a time, and for the answer.
+#[tactic(auto, using(crate::proofs::EachFrame::memory_told, crate::proofs::EachFrame::next_frame))]
 pub fn compare(
     alloc: Global,
     rom: &RomImage,

@@ -40,6 +40,7 @@ fn differing_at(rom: &RomImage, other: &RomImage, at: u16) -> Option<u16>
 
 /// The word address of a word in which the ROMs differ, of those that the shape at an address of the first ROM reads: the first (only
 /// tested). A shape reads all words of its items, up to the RTSL or the tail jump at its end, and not those of shapes that it calls.
+#[tactic(auto, using(crate::proofs::Walking::goes_on))]
 pub fn first_differing(rom: &RomImage, other: &RomImage, addr: u16) -> Option<u16>
     ensures some { IfSome result (ReadsDiffering rom.now other.now addr) }
     ensures none { IfNone result (IsTouched rom.now other.now addr → ⊥) }

@@ -6,17 +6,11 @@ use Rattle.dvg_words.specs.Values.{MemoryMap, is_asteroids}
 use Rattle.dvg_cert.specs.declared.entry.Entry.{Entry}
 use Rattle.dvg_form.specs.Columns.{IsAllowedBefore}
 
--- what a line has in common with an allowed line and its end
-pub allowed_before : (IsAllowed : List ℕ → Type 0) (allowed line : List ℕ) (n : ℕ) → IsAllowed allowed → n ≤ length line
-    → take n line ≡ take n (ended allowed) → IsAllowedBefore IsAllowed line (n + 1)
-allowed_before IsAllowed allowed line n is inside same =
-    let joined : take n line ++ drop n (ended allowed) ≡ ended allowed = rw same (take-append-drop n (ended allowed)) in
-    record {
-      before = n;
-      counted = refl;
-      inside = inside;
-      front = (allowed, drop n (ended allowed), is, joined);
-    }
+-- what a line has in common with the text of an allowed line and its end
+pub allowed_before : (IsAllowed : List ℕ → Type 0) (allowed line text : List ℕ) (n : ℕ) → IsAllowed allowed → n ≤ length line → take n line ≡ take n text → text ≡ ended allowed → IsAllowedBefore IsAllowed line (n + 1)
+allowed_before IsAllowed allowed line text n is inside same whole =
+    let joined : take n line ++ drop n (ended allowed) ≡ ended allowed = rw (same, whole) (take-append-drop n (ended allowed)) in
+    record { before = n; counted = refl; inside = inside; front = (allowed, drop n (ended allowed), is, joined) }
 
 pub short_done : (n : ℕ) → n < 10 → length (ended (done_line n)) ≡ 7
 short_done n lt = rw (decimal_digit n lt) refl

@@ -1,6 +1,5 @@
 -- The items of a shape or of a frame are determined, so a walk to the last one has met them all.
-use Rattle.dvg_items.proofs.Common.{List, length, refl, sym, arith, ap, Some, None, subst, ◌≡◌, ◌<◌, ◌∷◌, ◌∙◌, ℕ, ⊎_elim, [], cell_at, Item, Kind, LeadsTo, next_address, AtEveryPlace, AtEachOf}
-use Rattle.std.proofs.lemmas.Bool.{cases_lt}
+use Rattle.dvg_items.proofs.Common.{List, length, refl, sym, arith, None, subst, ◌≡◌, ◌<◌, ◌∷◌, ◌∙◌, ℕ, [], cell_at, Item, Kind, LeadsTo, next_address, AtEveryPlace, AtEachOf}
 use Rattle.dvg_words.specs.Values.{Source}
 use Rattle.dvg_words.specs.declared.instruction.Cell.TheVariants.{Holds}
 
@@ -23,14 +22,7 @@ module _ (kind : Kind) (word : Source) (first : ℕ) where
   pub too_long : (items : List Item) (i : Item) → LeadsTo kind word first items i.at → cell_at word i.at ≡ Holds i.format i.instr → next_address kind i ≡ None → (earlier : List Item) (q : ℕ) → LeadsTo kind word first earlier q → length items < length earlier → ⊥
   too_long items i lead is last [] q h lt = omega arith
   too_long items i lead is last (j ∷ earlier) q h lt =
-      ⊎_elim
-      (λ less. too_long items i lead is last earlier j.at h.0 less)
-      (λ le.
-      let s = same_lead earlier items j.at i.at h.0 lead (omega arith) in
-      let same : j ≡ i = item_same j i s.place (sym h.1 ∙ ap (cell_at word) s.place ∙ is) in
-      let no : Some q ≡ None = sym h.2 ∙ ap (next_address kind) same ∙ last in
-      cc no)
-      (cases_lt (length items) (length earlier))
+      grind (arith, (too_long items i lead is last earlier j.at h.0), (same_lead earlier items j.at i.at h.0 lead), (item_same j i))
 
   module _ (P : List Item → ℕ → Type 0) where
     pub here_same : (a b : List Item) (p q : ℕ) → Same a b p q → P b q → P a p
@@ -39,18 +31,9 @@ module _ (kind : Kind) (word : Source) (first : ℕ) where
     pub shorter : (items : List Item) (p : ℕ) → LeadsTo kind word first items p → AtEachOf P items → (earlier : List Item) (q : ℕ) → LeadsTo kind word first earlier q → length earlier < length items → P earlier q
     shorter [] p lead kept earlier q h lt = absurd (omega arith)
     shorter (i ∷ items) p lead kept earlier q h lt =
-        ⊎_elim
-        (λ less. shorter items i.at lead.0 kept.0 earlier q h less)
-        (λ le. here_same earlier items q i.at (same_lead earlier items q i.at h lead.0 (omega arith)) kept.1)
-        (cases_lt (length earlier) (length items))
+        grind (arith, (shorter items i.at lead.0 kept.0 earlier q h), (same_lead earlier items q i.at h lead.0), here_same)
 
     -- what holds at each item of a walk to the last one holds everywhere
     pub everywhere : (items : List Item) (i : Item) → LeadsTo kind word first items i.at → cell_at word i.at ≡ Holds i.format i.instr → next_address kind i ≡ None → AtEachOf P (i ∷ items) → AtEveryPlace kind word first P
     everywhere items i lead is last kept earlier q h =
-        ⊎_elim
-        (λ less. shorter items i.at lead kept.0 earlier q h less)
-        (λ le. ⊎_elim
-        (λ more. absurd (too_long items i lead is last earlier q h more))
-        (λ ge. here_same earlier items q i.at (same_lead earlier items q i.at h lead (omega arith)) kept.1)
-        (cases_lt (length items) (length earlier)))
-        (cases_lt (length earlier) (length items))
+        grind (arith, (shorter items i.at lead kept.0 earlier q h), (too_long items i lead is last earlier q h), (same_lead earlier items q i.at h lead), here_same)

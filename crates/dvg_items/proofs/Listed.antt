@@ -1,7 +1,8 @@
 -- Entries that are found stand in the list, within the limits of a certificate.
-use Rattle.dvg_items.proofs.Common.{Option, Some, arith, suc, List, ◌≡◌, ◌∷◌, ℕ, [], rules, common_steps, nat_tests, Contains, IfSome, entry_at, callee_at, IsClaim, IsSomeCertificate}
+use Rattle.dvg_items.proofs.Common.{Option, Some, arith, List, ◌≡◌, ◌∷◌, ℕ, [], rules, common_steps, nat_tests, Contains, IfSome, entry_at, callee_at, IsClaim, IsSomeCertificate}
 use Rattle.dvg_cert.specs.declared.entry.Entry.{Entry}
 use Rattle.dvg_cert.specs.declared.entry.Key.{Key}
+use Rattle.dvg_cert.proofs.OnlyEntries.{later}
 use Rattle.dvg_items.proofs.Lists.{at_place}
 
 pub record Listed (list : List Entry) (addr : ℕ) (key : Key) (f : Entry) : Type 0 where
@@ -9,12 +10,9 @@ pub record Listed (list : List Entry) (addr : ℕ) (key : Key) (f : Entry) : Typ
   pub addr_is : f.addr ≡ addr
   pub key_is : f.key ≡ key
 
-later : (x : Entry) (list : List Entry) (addr : ℕ) (key : Key) (f : Entry) → Listed list addr key f → Listed (x ∷ list) addr key f
-later x list addr key f l = record { listed = (suc l.listed.0, omega (arith, l.listed.1), l.listed.2); addr_is = l.addr_is; key_is = l.key_is }
-
 pub listed_at : (list : List Entry) (addr : ℕ) (key : Key) (f : Entry) → entry_at list addr key ≡ Some f → Listed list addr key f
 listed_at [] addr key f e = cc
-listed_at (x ∷ list) addr key f e = grind (arith, nat_tests, (listed_at list addr key f), (later x list addr key f))
+listed_at (x ∷ list) addr key f e = grind (arith, nat_tests, (listed_at list addr key f), later)
 
 pub named_listed : (list : List Entry) (o : Option ℕ) (scale : Key) (f : Entry) → callee_at list o scale ≡ Some f → Contains list f
 named_listed list o scale f e = grind (arith, listed_at)

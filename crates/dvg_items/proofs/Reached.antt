@@ -1,5 +1,5 @@
 -- What so many steps of one length reach, more steps reach; and of what is reached, places, boxes and corners are made.
-use Rattle.dvg_items.proofs.Common.{arith, rules, ints, ap, ◌≡◌, ◌∙◌, ◌+◌, ◌≤◌, ℕ, shift, AllByRecursion, Point, End, Rel, Abs, Lost, Effect, place_moved_by, place_past, Span}
+use Rattle.dvg_items.proofs.Common.{arith, rules, ints, ap, ◌≡◌, ◌∙◌, ◌+◌, ◌≤◌, ℕ, shift, AllByRecursion, Point, End, Rel, Abs, Lost, Effect, place_past, Span}
 use Rattle.std.proofs.Common.{◌*◌, neg_ℤ, pos}
 use Rattle.std.proofs.Math.Nat.{mul-le-mul_left}
 use Rattle.dvg_cert.specs.declared.entry.LitBox.{LitBox}
@@ -12,9 +12,7 @@ module _ (step : ℕ) where
   -- ---- by more steps
 
   pub reached_more : (m n : ℕ) (p : Point) → m ≤ n → IsReached step m p → IsReached step n p
-  reached_more m n p le h =
-      let more = mul-le-mul_left step le in
-      record { left = omega (arith, ints, h.left, more); right = omega (arith, ints, h.right, more); down = omega (arith, ints, h.down, more); up = omega (arith, ints, h.up, more) }
+  reached_more m n p le h = let more = mul-le-mul_left step le in grind (arith, ints)
 
   pub place_more : (m n : ℕ) (place : End) → m ≤ n → IsReachedPlace step m place → IsReachedPlace step n place
   place_more m n (Rel x y) le h = reached_more m n (record { x = x; y = y }) le h
@@ -38,15 +36,12 @@ module _ (step : ℕ) where
       let sum : step * all ≡ step * m + step * n = ap (λ x. step * x) is ∙ omega arith in
       record { left = omega (arith, ints, h.left, k.left, sum); right = omega (arith, ints, h.right, k.right, sum); down = omega (arith, ints, h.down, k.down, sum); up = omega (arith, ints, h.up, k.up, sum) }
 
-  pub place_moved : (m n all : ℕ) (place : End) (d : Point) → all ≡ m + n → IsReachedPlace step m place → IsReached step n d → IsReachedPlace step all (place_moved_by place d)
-  place_moved m n all (Rel x y) d is h k = reached_shift m n all (record { x = x; y = y }) d is h k
-  place_moved m n all (Abs x y) d is h k = reached_shift m n all (record { x = x; y = y }) d is h k
-  place_moved m n all Lost d is h k = tt
-
   pub place_after : (m n all : ℕ) (place : End) (e : Effect) → all ≡ m + n → IsReachedPlace step m place → IsReachedEffect step n e → IsReachedPlace step all (place_past e place)
   place_after m n all place (Sets p) is h k = reached_more n all p (omega (arith, is)) k
   place_after m n all place Loses is h k = tt
-  place_after m n all place (Moves d) is h k = place_moved m n all place d is h k
+  place_after m n all (Rel x y) (Moves d) is h k = reached_shift m n all (record { x = x; y = y }) d is h k
+  place_after m n all (Abs x y) (Moves d) is h k = reached_shift m n all (record { x = x; y = y }) d is h k
+  place_after m n all Lost (Moves d) is h k = tt
 
   pub corners_reached : (m n all : ℕ) (lit : LitExtent) (place : End) → all ≡ m + n → IsReachedPlace step m place → IsReachedExtent step n lit → AllByRecursion (IsReached step all) (relative_corners lit place)
   corners_reached m n all Nothing (Rel x y) is h k = tt

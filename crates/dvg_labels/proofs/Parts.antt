@@ -1,5 +1,6 @@
 -- How lists are cut at the first element that passes a test.
-use Rattle.dvg_labels.proofs.Common.{◌≡◌, ℕ, suc, zero, ◌+◌, ◌<◌, Bool, true, false, not, cond, List, [], ◌∷◌, length, take, drop, refl, ap, ◌∙◌, sym, subst, arith, one-add, slice_split, position_or_len, onto_first, filter, words, is_blank, has_bytes, first_of}
+use Rattle.std.proofs.lemmas.List.Splits.{slice_split_first}
+use Rattle.dvg_labels.proofs.Common.{◌≡◌, ℕ, suc, ◌+◌, ◌<◌, Bool, true, false, not, cond, List, [], ◌∷◌, length, take, drop, refl, ap, sym, arith, one-add, slice_split, position_or_len, onto_first, filter, words, is_blank, has_bytes, first_of}
 
 -- the parts behind the first one, by what is left behind it
 abbrev pub parts_behind : {X : Type 0} → (X → Bool) → List X → List (List X)
@@ -15,14 +16,10 @@ pub cut_first : {X : Type 0} (p : X → Bool) (xs : List X) → slice_split p xs
 cut_first p [] = refl
 cut_first p (x ∷ xs) = by_first p x xs (p x) (position_or_len p xs) (cut_first p xs)
 
-behind_suc : {X : Type 0} (p : X → Bool) (n : ℕ) (xs : List X) → n < length xs → parts_behind p (drop n xs) ≡ slice_split p (drop (suc n) xs)
-behind_suc p n [] lt = absurd (omega arith)
-behind_suc p zero (x ∷ xs) lt = refl
-behind_suc p (suc n) (x ∷ xs) lt = behind_suc p n xs (omega (arith, lt))
-
 -- behind a first part that ends before the list does come the parts of what stands behind its end
 pub cut_at : {X : Type 0} (p : X → Bool) (n : ℕ) (xs : List X) → n ≡ position_or_len p xs → n < length xs → slice_split p xs ≡ take n xs ∷ slice_split p (drop (n + 1) xs)
-cut_at p n xs is lt = grind (arith, cut_first, behind_suc)
+cut_at p n [] is lt = absurd (omega arith)
+cut_at p n (x ∷ xs) is lt = grind (arith, (slice_split_first p (x ∷ xs) x))
 
 -- blanks before a word are passed over
 skip_step : (x : ℕ) (xs : List ℕ) (b : Bool) (n : ℕ) → words (drop n xs) ≡ words xs → is_blank x ≡ b
@@ -67,8 +64,4 @@ word_cut (x ∷ xs) h = visible_step x xs (is_blank x) refl h
 pub word_off : (xs rest : List ℕ) (m n : ℕ) → rest ≡ drop m xs → m ≡ position_or_len (λ b. not (is_blank b)) xs → n ≡ position_or_len is_blank rest
     → (take n rest ≡ first_of (words xs)) × (words (drop n rest) ≡ drop 1 (words xs))
 word_off xs rest m n rest_is m_is n_is =
-    let left : rest ≡ drop (position_or_len (λ b. not (is_blank b)) xs) xs = rest_is ∙ ap (λ k. drop k xs) m_is in
-    let passes = subst (Passing (λ b. not (is_blank b))) (sym left) (first_passes (λ b. not (is_blank b)) xs) in
-    let same : words rest ≡ words xs = ap words left ∙ skipped xs in
-    let cut = subst (IsCut rest) (sym n_is) (word_cut rest passes) in
-    (cut.0 ∙ ap first_of same, cut.1 ∙ ap (λ l. drop 1 l) same)
+    grind (arith, (first_passes (λ b. not (is_blank b)) xs), (skipped xs), (word_cut rest))

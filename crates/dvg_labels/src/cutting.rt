@@ -36,6 +36,7 @@ fn stops(stop: Stop, byte: u8) -> bool
 }
 
 /// How many bytes stand before the first at which a search stops; all, where there is none.
+#[tactic(auto, using(std::proofs::lemmas::List::Sums::position_or_len_is))]
 fn len_before(stop: Stop, bytes: &[u8]) -> usize
     ensures value { result ≡ position_or_len (stops stop) bytes.now }
     ensures within { result ≤ length bytes.now }
@@ -49,6 +50,7 @@ fn len_before(stop: Stop, bytes: &[u8]) -> usize
 }
 
 /// The first line of a text, and what is behind its LF, if it has one.
+#[tactic(auto, using(std::proofs::lemmas::List::take_rest, std::proofs::lemmas::List::take_all, std::proofs::lemmas::List::drop_all, crate::proofs::Parts::cut_at, crate::proofs::Parts::cut_first))]
 pub fn cut_line(text: &[u8]) -> (&[u8], Option<&[u8]>)
     ensures lines { lines text.now ≡ result.0.now ∷ lines_behind result.1 }
     ensures shorter { IfSome result.1 (λ rest. length rest.now < length text.now) }
@@ -62,6 +64,7 @@ pub fn cut_line(text: &[u8]) -> (&[u8], Option<&[u8]>)
 }
 
 /// The first word of a line, and what is behind it; nothing where there is none.
+#[tactic(auto, using(crate::proofs::Parts::word_off, std::proofs::lemmas::List::take_rest))]
 pub fn take_word(line: &[u8]) -> (&[u8], &[u8])
     ensures word { result.0.now ≡ first_of (words line.now) }
     ensures behind { words result.1.now ≡ drop 1 (words line.now) }

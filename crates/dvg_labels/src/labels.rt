@@ -52,6 +52,7 @@ fn distance_to(addr: u16, at: u16) -> Option<u16>
 }
 
 /// The nearer one of a label and the best one before it.
+#[tactic(auto, using(std::proofs::lemmas::Grind::common_steps, crate::proofs::Naming::keep_best, crate::proofs::Naming::take_nearer))]
 fn nearer<'a>(best: Option<Nearest<'a>>, label: &'a Label, at: u16) -> Option<Nearest<'a>>
     ensures { (labels : List Named) → IsNearest labels at best.entry → IsNearest (labels ++ named_of label.now ∷ []) at result }
 {
@@ -90,6 +91,7 @@ fn has_name(label: &Label, name: &[u8]) -> bool
 }
 
 /// Where a label with a name stands, of these up to a further one.
+#[tactic(auto, using(crate::proofs::Naming::keep_other, crate::proofs::Naming::first_found, crate::proofs::Naming::two_found))]
 fn found_with(found: Option<u16>, label: &Label, name: &[u8]) -> Result<Option<u16>, Unnamed>
     ensures ok { IfOk result (λ now. (labels : List Named) → IsFound labels name.now found
         → IsFound (labels ++ named_of label.now ∷ []) name.now now) }
@@ -107,6 +109,7 @@ fn found_with(found: Option<u16>, label: &Label, name: &[u8]) -> Result<Option<u
 }
 
 /// The word address of the labels with a name.
+#[tactic(auto, using(crate::proofs::Naming::address_of_found, std::proofs::lemmas::List::take_all))]
 fn address_in(labels: &[Label], name: &[u8]) -> Result<u16, Unnamed>
     ensures { IsAddress (map named_of labels.now) name.now result }
 {

@@ -23,6 +23,7 @@ fn take_line(labels: &mut Labels, alloc: Global, line: &[u8]) -> Result<(), Labe
 }
 
 /// The labels of a file with these bytes, or why it is refused. Each line is read by itself, in any of the forms (docs/LABELS.md).
+#[tactic(auto, using(crate::proofs::Progress::line_read))]
 pub fn read_labels(alloc: Global, text: &[u8]) -> Result<Labels, LabelFault>
     ensures { ReadsLabels text.now result }
 {

@@ -1,11 +1,10 @@
 -- The shapes in the making, and the entries that every made list has for them.
-use Rattle.dvg_make.proofs.Common.{◌≡◌, ℕ, ◌+◌, ◌<◌, ◌≤◌, List, [], ◌∷◌, ◌++◌, length, Option, Some, None, refl, sym, ap, ◌∙◌, subst, arith, ◌⊎◌, inl, inr, ⊎_elim, length-append, Rom, rom_word, IsEntry, option_or, is_at, entry_at, Entry, Key, at_holds, LeadsTo, shape_context, scale_before, Item, Shape, Known, MOST_ENTRIES, MOST_WORDS, PartialEntry, MadeEntry, keyed_context, start, IsPartial, Extends, IsFinished, IsWaiting, IsMaking, ArePartial, Chain, Apart, IsPresent, IsCalled, IsAim, NoAim, IsDone, InProgress, listed_at, Contains-append_cases, NeverAt, IsTail, IsUnique, IsGiven}
+use Rattle.dvg_make.proofs.Common.{◌≡◌, ℕ, ◌+◌, ◌<◌, ◌≤◌, List, [], ◌∷◌, ◌++◌, length, Some, None, refl, sym, ap, ◌∙◌, subst, arith, ◌⊎◌, inl, inr, ⊎_elim, length-append, Rom, rom_word, IsEntry, option_or, is_at, entry_at, Entry, Key, at_holds, LeadsTo, shape_context, scale_before, Item, Shape, Known, MOST_ENTRIES, MOST_WORDS, PartialEntry, MadeEntry, keyed_context, start, IsPartial, Extends, IsFinished, IsWaiting, IsMaking, ArePartial, Chain, Apart, IsPresent, IsCalled, IsAim, NoAim, IsDone, InProgress, listed_at, Contains-append_cases, NeverAt, IsTail, IsUnique, IsGiven}
 use Rattle.dvg_make.proofs.Matching.{entry_at-append}
 use Rattle.dvg_make.proofs.Ends.{callee_less, made_some}
 use Rattle.dvg_make.proofs.Linking.{are_grown, are_popped}
-use Rattle.dvg_make.proofs.Merging.{extends_more, only_listed}
+use Rattle.dvg_make.proofs.Merging.{extends_more, only_listed, scale_grows, taken_grows, walk_grows, made_grows, same_made}
 use Rattle.dvg_make.proofs.Onward.{fine_taken}
-use Rattle.dvg_make.proofs.Growing.{scale_grows, taken_grows, walk_grows, made_grows, same_made}
 
 -- ---- chains of needs
 
@@ -21,14 +20,9 @@ chain_push : (made : List Entry) (most n : ℕ) (stack : List PartialEntry) (w :
 chain_push made most n [] w f e lt h = (f, e, h, lt)
 chain_push made most n (v ∷ stack) w f e lt h = (h.0, h.1, h.2, chain_push made h.0.words n stack w f e lt h.3)
 
-record Popped (made : List Entry) (most : ℕ) (stack : List PartialEntry) (w : PartialEntry) : Type 0 where
-  f : Entry
-  found_it : entry_at made w.addr w.key ≡ Some f
-  chain : Chain made most stack f.words
-
-chain_pop : (made : List Entry) (most n : ℕ) (stack : List PartialEntry) (w : PartialEntry) → Chain made most (stack ++ w ∷ []) n → Popped made most stack w
-chain_pop made most n [] w h = record { f = h.0; found_it = h.1; chain = h.2 }
-chain_pop made most n (v ∷ stack) w h = let p = chain_pop made h.0.words n stack w h.3 in record { f = p.f; found_it = p.found_it; chain = (h.0, h.1, h.2, p.chain) }
+chain_pop : (made : List Entry) (most n : ℕ) (stack : List PartialEntry) (w : PartialEntry) → Chain made most (stack ++ w ∷ []) n → (f : Entry) × (entry_at made w.addr w.key ≡ Some f) × Chain made most stack f.words
+chain_pop made most n [] w h = (h.0, h.1, h.2)
+chain_pop made most n (v ∷ stack) w h = let p = chain_pop made h.0.words n stack w h.3 in (p.0, p.1, (h.0, h.1, h.2, p.2))
 
 -- a shape that is being made has more words
 chain_has : (made : List Entry) (most n : ℕ) (stack : List PartialEntry) (addr : ℕ) (key : Key) (g : Entry) → IsMaking stack addr key → Chain made most stack n → entry_at made addr key ≡ Some g → n < g.words
@@ -43,62 +37,54 @@ module _ (rom : Rom) (from : List Entry) (root : ℕ × Key) (done : List Entry)
   none_here none made m =
       let f = h.forced made m in
       let p = chain_pop made (MOST_WORDS + 1) 0 stack partial f.1 in
-      none made m.all f.0 (p.f, p.found_it)
-
-  -- the entry that the shape in the making calls for: it has words, and fewer than those of the shapes
-  record Callee (made : List Entry) (addr : ℕ) (key : Key) (chain : List PartialEntry) : Type 0 where
-    g : Entry
-    there : entry_at made addr key ≡ Some g
-    some : 0 < g.words
-    falls : Chain made (MOST_WORDS + 1) chain g.words
+      none made m.all f.0 (p.0, p.1)
 
   module _ (new : PartialEntry) (addr : ℕ) (w : IsWaiting rom done partial new addr) where
     abbrev at_key : Key
     at_key = new.cursor.known.scale
 
-    callee : (made : List Entry) → IsAim rom from root made → Callee made addr at_key (stack ++ new ∷ [])
+    -- the entry that the shape in the making calls for: it has words, and fewer than those of the shapes
+    callee : (made : List Entry) → IsAim rom from root made → (g : Entry) × (entry_at made addr at_key ≡ Some g) × (0 < g.words) × Chain made (MOST_WORDS + 1) (stack ++ new ∷ []) g.words
     callee made m =
         let f = h.forced made m in
         let p = chain_pop made (MOST_WORDS + 1) 0 stack partial f.1 in
-        let l = listed_at made partial.addr partial.key p.f p.found_it in
-        let is = (m.all p.f l.listed).made in
-        let addr_is : new.addr ≡ p.f.addr = w.same_addr ∙ sym l.addr_is in
-        let key_is : new.key ≡ p.f.key = w.same_key ∙ sym l.key_is in
+        let l = listed_at made partial.addr partial.key p.0 p.1 in
+        let is = (m.all p.0 l.listed).made in
+        let addr_is : new.addr ≡ p.0.addr = w.same_addr ∙ sym l.addr_is in
+        let key_is : new.key ≡ p.0.key = w.same_key ∙ sym l.key_is in
         let i : Item = w.item in
-        let lead : LeadsTo Shape (rom_word rom) p.f.addr w.partial.items i.at = subst (λ x. LeadsTo Shape (rom_word rom) p.f.addr w.partial.items x) (sym w.at) (subst (λ x. LeadsTo Shape (rom_word rom) x w.partial.items new.cursor.at) addr_is w.partial.leads) in
+        let lead : LeadsTo Shape (rom_word rom) p.0.addr w.partial.items i.at = subst (λ x. LeadsTo Shape (rom_word rom) p.0.addr w.partial.items x) (sym w.at) (subst (λ x. LeadsTo Shape (rom_word rom) x w.partial.items new.cursor.at) addr_is w.partial.leads) in
         let g = is.keyed w.partial.items i lead w.stands addr w.target_is in
-        let scale : scale_before (shape_context rom.machine made p.f) w.partial.items ≡ at_key =
+        let scale : scale_before (shape_context rom.machine made p.0) w.partial.items ≡ at_key =
         ap (λ (x : Key). scale_before (keyed_context rom.machine made x) w.partial.items) (sym key_is) ∙ sym (scale_grows rom.machine done made new.key f.0 w.partial.items w.partial.knows.fine) ∙ sym (ap (λ (x : Known). x.scale) w.partial.knows.known_is)
         in
         let there : entry_at made addr at_key ≡ Some g.0 = subst (λ (x : Key). entry_at made addr x ≡ Some g.0) scale g.1 in
         let some = made_some rom made g.0 (m.all g.0 (listed_at made addr at_key g.0 there).listed).made in
-        let less = callee_less rom made p.f is w.partial.items i lead w.stands addr g.0 w.target_is g.1 in
-        let found_new : entry_at made new.addr new.key ≡ Some p.f = subst (λ x. entry_at made x new.key ≡ Some p.f) (sym w.same_addr) (subst (λ x. entry_at made partial.addr x ≡ Some p.f) (sym w.same_key) p.found_it) in
-        record { g = g.0; there = there; some = omega (arith, some); falls = chain_push made (MOST_WORDS + 1) g.0.words stack new p.f found_new less p.chain }
+        let less = callee_less rom made p.0 is w.partial.items i lead w.stands addr g.0 w.target_is g.1 in
+        let found_new : entry_at made new.addr new.key ≡ Some p.0 = subst (λ x. entry_at made x new.key ≡ Some p.0) (sym w.same_addr) (subst (λ x. entry_at made partial.addr x ≡ Some p.0) (sym w.same_key) p.1) in
+        (g.0, there, omega (arith, some), chain_push made (MOST_WORDS + 1) g.0.words stack new p.0 found_new less p.2)
 
     -- it is being made already
     pub none_deep : IsMaking (stack ++ new ∷ []) addr at_key → NoAim rom from root
     none_deep making made m =
         let c = callee made m in
-        let lt = chain_has made (MOST_WORDS + 1) c.g.words (stack ++ new ∷ []) addr at_key c.g making c.falls c.there in
+        let lt = chain_has made (MOST_WORDS + 1) c.0.words (stack ++ new ∷ []) addr at_key c.0 making c.3 c.1 in
         omega (arith, lt)
 
     pub forced_begun : (made : List Entry) → IsAim rom from root made → Extends done made × Chain made (MOST_WORDS + 1) ((stack ++ new ∷ []) ++ start addr at_key ∷ []) 0
     forced_begun made m =
         let c = callee made m in
-        ((h.forced made m).0, chain_push made (MOST_WORDS + 1) 0 (stack ++ new ∷ []) (start addr at_key) c.g c.there c.some c.falls)
+        ((h.forced made m).0, chain_push made (MOST_WORDS + 1) 0 (stack ++ new ∷ []) (start addr at_key) c.0 c.1 c.2 c.3)
 
 -- ---- the stack
 
 pub making_append : (stack more : List PartialEntry) (addr : ℕ) (key : Key) → IsMaking (stack ++ more) addr key → IsMaking stack addr key ⊎ IsMaking more addr key
 making_append [] more addr key h = inr h
-making_append (v ∷ stack) more addr key (inl same) = inl (inl same)
-making_append (v ∷ stack) more addr key (inr later) = ⊎_elim (λ x. inl (inr x)) (λ x. inr x) (making_append stack more addr key later)
+making_append (v ∷ stack) more addr key m = grind (arith, (making_append stack more addr key))
 
 pub making_left : (stack more : List PartialEntry) (addr : ℕ) (key : Key) → IsMaking stack addr key → IsMaking (stack ++ more) addr key
 making_left [] more addr key h = absurd h
-making_left (v ∷ stack) more addr key (inl same) = inl same
-making_left (v ∷ stack) more addr key (inr later) = inr (making_left stack more addr key later)
+making_left (v ∷ stack) more addr key m = grind (arith, (making_left stack more addr key))
 
 pub making_last : (stack : List PartialEntry) (w : PartialEntry) (addr : ℕ) (key : Key) → w.addr ≡ addr → w.key ≡ key → IsMaking (stack ++ w ∷ []) addr key
 making_last [] w addr key a k = inl (a, k)
@@ -110,11 +96,7 @@ apart_pop done (v ∷ stack) w h = grind (arith, (apart_pop done stack w h.2), m
 
 pub apart_push : (done : List Entry) (stack : List PartialEntry) (w : PartialEntry) → Apart done stack → entry_at done w.addr w.key ≡ None → (IsMaking stack w.addr w.key → ⊥) → Apart done (stack ++ w ∷ [])
 apart_push done [] w h none other = (none, λ m. m, tt)
-apart_push done (v ∷ stack) w h none other = (
-  h.0,
-  λ m. ⊎_elim h.1 (λ x. ⊎_elim (λ s. other (inl (sym s.0, sym s.1))) (λ b. b) x) (making_append stack (w ∷ []) v.addr v.key m),
-  apart_push done stack w h.2 none (λ m. other (inr m)),
-)
+apart_push done (v ∷ stack) w h none other = grind (arith, making_append, (apart_push done stack w h.2 none))
 
 -- an entry that is found in no other
 find_one : (e : Entry) (addr : ℕ) (key : Key) → ((e.addr ≡ addr) × (e.key ≡ key) → ⊥) → entry_at (e ∷ []) addr key ≡ None
@@ -122,11 +104,7 @@ find_one e addr key not = grind (arith, entry_at, listed_at)
 
 apart_more : (done : List Entry) (stack : List PartialEntry) (e : Entry) → Apart done stack → (IsMaking stack e.addr e.key → ⊥) → Apart (done ++ e ∷ []) stack
 apart_more done [] e h not = tt
-apart_more done (v ∷ stack) e h not = (
-  entry_at-append done (e ∷ []) v.addr v.key ∙ ap (λ o. option_or o (entry_at (e ∷ []) v.addr v.key)) h.0 ∙ find_one e v.addr v.key (λ s. not (inl (sym s.0, sym s.1))),
-  h.1,
-  apart_more done stack e h.2 (λ m. not (inr m)),
-)
+apart_more done (v ∷ stack) e h not = grind (arith, entry_at-append, option_or, find_one, (apart_more done stack e h.2))
 
 pub walks_pop : (rom : Rom) (done : List Entry) (stack more : List PartialEntry) → ArePartial rom done (stack ++ more) → ArePartial rom done stack
 walks_pop rom done [] more h = tt
@@ -171,7 +149,7 @@ abbrev pub IsNeeded : Rom → List Entry → ℕ × Key → List Entry → List 
 IsNeeded rom from root done stack addr key = IsGiven from root addr key ⊎ IsCalled rom done stack addr key
 
 pub needed_grows : (rom : Rom) (from : List Entry) (root : ℕ × Key) (a b : List Entry) (old new : List PartialEntry) → Extends a b → ((addr : ℕ) (key : Key) → IsPresent a old addr key → IsPresent b new addr key) → (addr : ℕ) (key : Key) → IsNeeded rom from root a old addr key → IsNeeded rom from root b new addr key
-needed_grows rom from root a b old new ext present addr key n = ⊎_elim (λ r. inl r) (λ c. inr (called_grows rom a b old new ext present addr key c)) n
+needed_grows rom from root a b old new ext present addr key n = grind (arith, (called_grows rom a b old new ext present addr key))
 
 module _ (rom : Rom) (from : List Entry) (root : ℕ × Key) (done : List Entry) (stack : List PartialEntry) (partial : PartialEntry) (h : InProgress rom from root done (stack ++ partial ∷ [])) where
   long : length (stack ++ partial ∷ []) ≡ length stack + 1
@@ -183,25 +161,16 @@ module _ (rom : Rom) (from : List Entry) (root : ℕ × Key) (done : List Entry)
 
     found_more : (made : List Entry) → IsAim rom from root made → Extends (done ++ e ∷ []) made
     found_more made m addr key g q =
-        let ext = (h.forced made m).0 in
         let p = chain_pop made (MOST_WORDS + 1) 0 stack partial (h.forced made m).1 in
-        let pl = listed_at made partial.addr partial.key p.f p.found_it in
-        let same : e ≡ p.f = same_made rom done made e p.f ext f.made (m.all p.f pl.listed).made (f.addr ∙ sym pl.addr_is) (f.key ∙ sym pl.key_is) in
-        by_found (entry_at done addr key) refl ext p.found_it same pl.addr_is pl.key_is
-      where
-        by_found : (o : Option Entry) → entry_at done addr key ≡ o → Extends done made → {x : Entry} → entry_at made partial.addr partial.key ≡ Some x → e ≡ x → x.addr ≡ partial.addr → x.key ≡ partial.key → entry_at made addr key ≡ Some g
-        by_found (Some y) t ext there same a k = grind (arith, extends_more)
-        by_found None t ext {x = x} there same a k = grind (arith, entry_at, option_or, entry_at-append, listed_at)
+        let pl = listed_at made partial.addr partial.key p.0 p.1 in
+        let same : e ≡ p.0 = same_made rom done made e p.0 (h.forced made m).0 f.made (m.all p.0 pl.listed).made (f.addr ∙ sym pl.addr_is) (f.key ∙ sym pl.key_is) in
+        grind (arith, entry_at, option_or, entry_at-append, (h.forced made m).0, pl, listed_at)
 
     ends_at : entry_at (done ++ e ∷ []) partial.addr partial.key ≡ Some e
     ends_at = grind (arith, (apart_pop done stack partial h.apart), (entry_at (e ∷ []) partial.addr partial.key), (at_holds partial.addr partial.key e f.addr f.key), f, (entry_at-append done (e ∷ []) partial.addr partial.key), option_or)
 
     pub present_finished : (addr : ℕ) (key : Key) → IsPresent done (stack ++ partial ∷ []) addr key → IsPresent (done ++ e ∷ []) stack addr key
-    present_finished addr key (inl has) = inl (has.0, extends_more done (e ∷ []) addr key has.0 has.1)
-    present_finished addr key (inr m) =
-        ⊎_elim (λ x. inr x)
-        (λ x. ⊎_elim (λ s. inl (e, subst (λ a. entry_at (done ++ e ∷ []) a key ≡ Some e) s.0 (subst (λ (k : Key). entry_at (done ++ e ∷ []) partial.addr k ≡ Some e) s.1 ends_at))) (λ b. absurd b) x)
-        (making_append stack (partial ∷ []) addr key m)
+    present_finished addr key h2 = grind (arith, extends_more, ends_at, (making_append stack (partial ∷ []) addr key))
 
     was_present : (addr : ℕ) (key : Key) → IsPresent (done ++ e ∷ []) stack addr key → IsPresent done (stack ++ partial ∷ []) addr key
     was_present addr key h2 = grind (arith, making_left, entry_at, option_or, entry_at-append, listed_at, only_listed, making_last, f)
@@ -219,5 +188,5 @@ module _ (rom : Rom) (from : List Entry) (root : ℕ × Key) (done : List Entry)
           linked = are_grown rom done (done ++ e ∷ []) ext root stack (are_popped rom done root stack partial h.linked);
           needed = λ addr key p. needed_grows rom from root done (done ++ e ∷ []) (stack ++ partial ∷ []) stack ext present_finished addr key (h.needed addr key (was_present addr key p));
           room = omega (arith, h.room, long, len);
-          forced = λ made m. let p = chain_pop made (MOST_WORDS + 1) 0 stack partial (h.forced made m).1 in (found_more made m, chain_less made (MOST_WORDS + 1) p.f.words 0 stack (omega arith) p.chain);
+          forced = λ made m. let p = chain_pop made (MOST_WORDS + 1) 0 stack partial (h.forced made m).1 in (found_more made m, chain_less made (MOST_WORDS + 1) p.0.words 0 stack (omega arith) p.2);
         }

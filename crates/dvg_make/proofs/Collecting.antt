@@ -1,35 +1,21 @@
 -- Root after root, and frame after frame.
-use Rattle.dvg_make.proofs.Common.{Machine, ◌≡◌, ℕ, zero, suc, ◌+◌, ◌<◌, ◌≤◌, List, [], ◌∷◌, ◌++◌, length, Option, Some, None, refl, sym, ap, subst, arith, ◌⊎◌, inl, inr, ⊎_elim, Contains, slice_get, Bool, false, Rom, IsKey, Entry, Key, MOST_ENTRIES, listed_at, HasEntry, AllMade, IsAskedFor, EntryFault, Unstraight, Deep, TooManyWords, TooManyEntries, Memory, FramesRefuse, Extends, IsAim, NoAim, InProgress, Bars, obstacle_fault, Collected, HasCalls, IsFramed, BarsHere, AllFramed, PartialEntry, Obstacle, shapes, IsMaking, IsCalled, IsToldOf, TellsHere, keyed_context, start, FrameCall, known_before, rules, Contains-append_left, Contains-append_right, Contains-append_cases, Contains-get_or, take, drop, get_or, take-suc, take-append-drop, IsTrue, ◌↔◌, InRom, HasAsked, make_fault_of, Refuses, BarsList, NoFramesMade, HasAll, IsBlocked, IsRefused, BarsCalls, NoneHasCalls, BlocksHere, Blocked, asked_shape, IsToldFrom, KeyedCall, IsGivenHere, RootOutside, IsNamedBy, IsNeededBy, EntryCause, UnlessMemory}
-use Rattle.std.proofs.lemmas.Option.{slice_get-get_or}
+use Rattle.dvg_make.proofs.Common.{Machine, ◌≡◌, ℕ, zero, suc, ◌+◌, ◌<◌, ◌≤◌, List, [], ◌∷◌, ◌++◌, length, Option, Some, None, refl, sym, subst, arith, ◌⊎◌, inl, inr, ⊎_elim, Contains, slice_get, Bool, false, Rom, IsKey, Entry, Key, MOST_ENTRIES, listed_at, HasEntry, AllMade, IsAskedFor, EntryFault, TooManyEntries, Memory, FramesRefuse, Extends, IsAim, NoAim, InProgress, Bars, obstacle_fault, Collected, HasCalls, IsFramed, BarsHere, AllFramed, PartialEntry, Obstacle, shapes, IsMaking, IsCalled, IsToldOf, TellsHere, keyed_context, start, FrameCall, known_before, rules, Contains-append_left, Contains-append_right, Contains-append_cases, Contains-get_or, take, drop, get_or, common_steps, take-suc, take-append-drop, IsTrue, ◌↔◌, InRom, HasAsked, make_fault_of, Refuses, BarsList, NoFramesMade, HasAll, IsBlocked, IsRefused, BarsCalls, NoneHasCalls, BlocksHere, Blocked, asked_shape, IsToldFrom, KeyedCall, IsGivenHere, RootOutside, IsNamedBy, IsNeededBy, EntryCause, UnlessMemory}
+use Rattle.std.proofs.lemmas.Option.{slice_get-get_or, slice_get_read}
 use Rattle.dvg_make.proofs.Onward.{listed_entry}
 use Rattle.dvg_make.proofs.Framing.{done_made, collected_more, call_grows, keyed_call, called_told, calls_grow, has_calls_grow}
 use Rattle.dvg_make.proofs.Merging.{only_listed}
-pub use Rattle.dvg_make.proofs.OneList.{made_all}
+pub use Rattle.dvg_make.proofs.OneFrame.{made_all}
 use Rattle.dvg_make.proofs.Finishing.{roots_made}
-use Rattle.dvg_make.proofs.Telling.{length_links, room_of_none}
-use Rattle.dvg_make.proofs.Turns.{called_none}
+use Rattle.dvg_make.proofs.Telling.{room_of_none, called_none}
 
 -- ---- what is taken
 
 in_taken : {A : Type 0} (xs : List A) (n : ℕ) (x : A) → Contains (take n xs) x → Contains xs x
 in_taken xs n x c = subst (λ l. Contains l x) (take-append-drop n xs) (Contains-append_left (take n xs) (drop n xs) x c)
 
--- an element of what is taken stands at the same place in the whole
-taken_at : {A : Type 0} (xs : List A) (i j : ℕ) (x : A) → slice_get (take i xs) j ≡ Some x → slice_get xs j ≡ Some x
-taken_at [] zero j x e = e
-taken_at [] (suc i) j x e = e
-taken_at (y ∷ xs) zero j x e = absurd cc
-taken_at (y ∷ xs) (suc i) zero x e = e
-taken_at (y ∷ xs) (suc i) (suc j) x e = taken_at xs i j x e
-
--- and those before it are taken, too
-taken_before : {A : Type 0} (xs : List A) (i j : ℕ) (x z : A) → slice_get (take i xs) j ≡ Some x → Contains (take j xs) z → Contains (take i xs) z
-taken_before [] zero j x z e c = absurd cc
-taken_before [] (suc i) j x z e c = absurd cc
-taken_before (y ∷ xs) zero j x z e c = absurd cc
-taken_before (y ∷ xs) (suc i) zero x z e c = absurd (omega (arith, c.1))
-taken_before (y ∷ xs) (suc i) (suc j) x z e (zero, lt, is) = (zero, omega arith, is)
-taken_before (y ∷ xs) (suc i) (suc j) x z e (suc k, lt, is) = let c = taken_before xs i j x z e (k, omega (arith, lt), is) in (suc c.0, omega (arith, c.1), c.2)
+-- an element of what is taken stands at the same place in the whole, and those before it are taken, too
+stands_taken : {A : Type 0} (xs : List A) (n : ℕ) (x : A) → Contains (take n xs) x → (i : ℕ) × (slice_get xs i ≡ Some x) × ((z : A) → Contains (take i xs) z → Contains (take n xs) z)
+stands_taken xs n x (i, lt, is) = (i, slice_get_read xs (length xs) i x refl (grind (arith, common_steps)) (grind (arith, common_steps)), λ z c. grind (arith, common_steps))
 
 -- ---- roots
 
@@ -46,11 +32,9 @@ module _ (rom : Rom) (roots : List (ℕ × Key)) (i : ℕ) (d : ℕ × Key) (don
 
   -- so what a refusal says of such lists, it says of those that have all that frames call, too
   pub root_barred : (frames : List (List ℕ)) (why : EntryFault) → Bars rom done ((get_or roots i d).0, (get_or roots i d).1) why → BarsList rom roots frames why
-  root_barred frames (Unstraight word) b = none_made frames b
-  root_barred frames Deep b = none_made frames b
-  root_barred frames TooManyWords b = none_made frames b
   root_barred frames TooManyEntries b = λ list all has. b list (aims list all (λ a k r. has a k (inl r)))
   root_barred frames Memory b = tt
+  root_barred frames why b = none_made frames b
 
   outside : (InRom rom.map (get_or roots i d).0 × IsKey (get_or roots i d).1 → ⊥) → (frames : List (List ℕ)) → NoFramesMade rom roots frames
   outside not frames list m =
@@ -60,11 +44,6 @@ module _ (rom : Rom) (roots : List (ℕ × Key)) (i : ℕ) (d : ℕ × Key) (don
       not ((subst (λ a. rom.map.rom_first ≤ a) l.addr_is e.addr_low, subst (λ a. a ≤ rom.map.rom_last) l.addr_is e.addr_high), subst IsKey l.key_is e.key)
 
 -- ---- what is needed
-
-got_somewhere : {A : Type 0} (xs : List A) (x : A) → Contains xs x → (i : ℕ) × (slice_get xs i ≡ Some x)
-got_somewhere [] x c = absurd (omega (arith, c.1))
-got_somewhere (y ∷ xs) x (zero, lt, is) = (zero, ap Some is)
-got_somewhere (y ∷ xs) x (suc k, lt, is) = let r = got_somewhere xs x (k, omega (arith, lt), is) in (suc r.0, r.1)
 
 in_links : (chain : List PartialEntry) (addr : ℕ) (key : Key) → IsMaking chain addr key → Contains (shapes chain) (asked_shape (addr, key))
 in_links [] addr key m = absurd m
@@ -81,7 +60,7 @@ needed_by rom list chain addr key c =
     }
 
 room_of_links : (list : List Entry) (chain : List PartialEntry) → length list + length chain ≤ MOST_ENTRIES → length list + length (shapes chain) ≤ MOST_ENTRIES
-room_of_links list chain room = let long = length_links chain in omega (arith, long, room)
+room_of_links list chain room = grind (arith, common_steps)
 
 module _ (machine : Machine) (roots : List (ℕ × Key)) (frames : List (List ℕ)) (list : List Entry) where
   abbrev IsNamed : ℕ → Key → Type 0
@@ -92,14 +71,10 @@ module _ (machine : Machine) (roots : List (ℕ × Key)) (frames : List (List �
 
   -- one of so many roots
   named_taken : (n : ℕ) → HasAll (take n roots) list → (addr : ℕ) (key : Key) → Contains (take n roots) (addr, key) → IsNamed addr key
-  named_taken n has addr key c =
-      let g = got_somewhere (take n roots) (addr, key) c in
-      named_at g.0 addr key (taken_at roots n g.0 (addr, key) g.1) (λ a k b. has a k (taken_before roots n g.0 (addr, key) (a, k) g.1 b))
+  named_taken n has addr key c = let g = stands_taken roots n (addr, key) c in named_at g.0 addr key g.1 (λ a k b. has a k (g.2 (a, k) b))
 
   named_root : HasAll roots list → (addr : ℕ) (key : Key) → Contains roots (addr, key) → IsNamed addr key
-  named_root has addr key c =
-      let g = got_somewhere roots (addr, key) c in
-      named_at g.0 addr key g.1 (λ a k b. has a k (in_taken roots g.0 (a, k) b))
+  named_root has addr key c = named_at c.0 addr key (slice_get_read roots (length roots) c.0 (addr, key) refl c.1 (sym c.2)) (λ a k b. has a k (in_taken roots c.0 (a, k) b))
 
   -- a call of a frame
   named_call : (frame : ℕ) (words : List ℕ) → slice_get frames frame ≡ Some words → HasAsked machine roots (take frame frames) list → (addr : ℕ) (key : Key) → KeyedCall machine words list addr key → IsNamed addr key
@@ -109,8 +84,8 @@ module _ (machine : Machine) (roots : List (ℕ × Key)) (frames : List (List �
   -- of one of so many
   named_before : (n : ℕ) (words : List ℕ) → Contains (take n frames) words → HasAsked machine roots (take n frames) list → (addr : ℕ) (key : Key) → KeyedCall machine words list addr key → IsNamed addr key
   named_before n words c has addr key k =
-      let g = got_somewhere (take n frames) words c in
-      named_call g.0 words (taken_at frames n g.0 words g.1) (λ a k. ⊎_elim (λ r. has a k (inl r)) (λ b. has a k (inr (b.0, taken_before frames n g.0 words b.0 g.1 b.1, b.2)))) addr key k
+      let g = stands_taken frames n words c in
+      named_call g.0 words g.1 (λ a k. ⊎_elim (λ r. has a k (inl r)) (λ b. has a k (inr (b.0, g.2 b.0 b.1, b.2)))) addr key k
 
 -- what is told of a root, whatever the frames are
 root_told : (rom : Rom) (roots : List (ℕ × Key)) (i : ℕ) (d : ℕ × Key) (done : List Entry) → i < length roots → Collected rom (take i roots) done → (chain : List PartialEntry) (obstacle : Obstacle) → IsToldFrom rom done ((get_or roots i d).0, (get_or roots i d).1) chain obstacle → (frames : List (List ℕ)) → IsToldOf rom roots frames None chain obstacle
@@ -189,8 +164,7 @@ module _ (rom : Rom) (roots : List (ℕ × Key)) (frames : List (List ℕ)) (i :
 
   module _ (new : List Entry) (ext : Extends old new) (f : IsFramed rom now old new) where
     still_asked : (addr : ℕ) (key : Key) → IsAskedFor rom.machine roots (take i frames) old addr key → IsAskedFor rom.machine roots (take (suc i) frames) new addr key
-    still_asked addr key (inl r) = inl r
-    still_asked addr key (inr c) = inr (c.0, was_taken c.0 c.1, calls_grow rom.machine c.0 old new ext (h.has_calls c.0 c.1) addr key c.2)
+    still_asked addr key a = ⊎_elim (λ r. inl r) (λ c. inr (c.0, was_taken c.0 c.1, calls_grow rom.machine c.0 old new ext (h.has_calls c.0 c.1) addr key c.2)) a
 
     pub framed_next : AllFramed rom roots (take (suc i) frames) new
     framed_next =
@@ -217,11 +191,9 @@ module _ (rom : Rom) (roots : List (ℕ × Key)) (frames : List (List ℕ)) (i :
   none_framed none list m = let all = made_all rom (IsAskedFor rom.machine roots frames list) list m in none list all (has_before list all m.rooted) (has_now list all m.rooted)
 
   list_barred : (why : EntryFault) → BarsCalls rom now old why → BarsList rom roots frames why
-  list_barred (Unstraight word) b = none_framed b
-  list_barred Deep b = none_framed b
-  list_barred TooManyWords b = none_framed b
   list_barred TooManyEntries b = λ list all has. b list all (has_before list all has) (has_now list all has)
   list_barred Memory b = tt
+  list_barred why b = none_framed b
 
   frame_refused : (at : ℕ) (why : EntryFault) → BarsHere rom now old at why → FramesRefuse rom roots frames (record { call = Some (record { frame = i; at = at }); why = why })
   frame_refused at why b = record { list = list_barred why b.0; root = tt; frame = (now, slice_get-get_or frames i d lt, b.1, b.2) }
@@ -233,10 +205,8 @@ module _ (rom : Rom) (roots : List (ℕ × Key)) (frames : List (List ℕ)) (i :
 
 -- what a refusal says where there is no frame
 pub as_make_fault : (rom : Rom) (roots : List (ℕ × Key)) (why : EntryFault) → BarsList rom roots [] why → Refuses rom roots (make_fault_of why)
-as_make_fault rom roots (Unstraight word) b = λ list m. b list (roots_made rom roots list m)
-as_make_fault rom roots Deep b = λ list m. b list (roots_made rom roots list m)
-as_make_fault rom roots TooManyWords b = λ list m. b list (roots_made rom roots list m)
 as_make_fault rom roots TooManyEntries b = λ list m.
     let long = b list (made_all rom (λ addr key. Contains roots (addr, key)) list m) (roots_made rom roots list m).rooted in
     omega (arith, long, m.certificate.few)
 as_make_fault rom roots Memory b = tt
+as_make_fault rom roots why b = λ list m. b list (roots_made rom roots list m)

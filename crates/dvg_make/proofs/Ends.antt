@@ -1,14 +1,27 @@
 -- What a made entry says of its shape: at each item, and at the end.
-use Rattle.dvg_make.proofs.Common.{Machine, ◌≡◌, ◌≢◌, ℕ, zero, suc, ◌+◌, ◌<◌, ◌≤◌, List, [], ◌∷◌, Option, Some, None, refl, sym, ap, ◌∙◌, subst, arith, cell_at, Rom, rom_word, screen, Window, Cell, Missing, Odd, Holds, Format, Instr, entry_at, Entry, Key, next_address, LeadsTo, Context, shape_context, target, callee_at, callee, callee_words, scale_before, place_before, words_before, depth_before, depth_under, known_before, extent, seen_at, HasCallee, InBox, relative_corners, ShapeKeeps, CellKeeps, Exact, ShapeWhy, Item, Shape, Known, Seen, word_count-some, lit_points, HoldsAll, IsLeast, HasEntry, EachItem, MadeEntry, keyed_context, IsStraight, AllFine, rules, AllBefore, all_left, all_right, AtLast, all_kept, AtEnd, MadeKeeps, AllHold, IsFine, Point, LitBox, IsInside}
+use Rattle.dvg_make.proofs.Common.{Machine, ◌≡◌, ◌≢◌, ℕ, zero, suc, ◌+◌, ◌<◌, ◌≤◌, List, [], ◌∷◌, Option, Some, None, refl, sym, ap, subst, arith, ⊎_elim, cell_at, Rom, rom_word, screen, Window, Cell, Missing, Odd, Holds, Format, Instr, entry_at, Entry, Key, next_address, LeadsTo, Context, shape_context, target, callee_at, callee, callee_words, scale_before, place_before, words_before, depth_before, depth_under, known_before, extent, seen_at, HasCallee, InBox, relative_corners, ShapeKeeps, CellKeeps, Exact, Mode, ShapeWhy, Item, Shape, Known, Seen, word_count-some, lit_points, HoldsAll, IsLeast, HasEntry, EachItem, AtEachOf, AtEveryPlace, everywhere, AllKeep, ShapePlaceKeeps, MadeEntry, keyed_context, IsStraight, AllFine, rules, all_left, all_right, AtLast, MadeKeeps, IsFine, Point, LitBox, IsInside, Contains, Good, GoodShape, AllInWindow, ItemInWindow}
 use Rattle.dvg_check.specs.declared.fault.ShapeWhy.TheVariants as shape
 pub use Rattle.dvg_make.specs.Private.Covering.{known_of}
-use Rattle.dvg_make.proofs.Matching.{gathered, Matched, gathered_same, exact_named}
+use Rattle.dvg_make.proofs.Matching.{gathered, Matched, gathered_same, exact_named, none_or_some}
 
 -- ---- at an item
 
-rule_at : (rom : Rom) (list : List Entry) (e : Entry) → MadeEntry rom list e → (earlier : List Item) (i : Item) → LeadsTo Shape (rom_word rom) e.addr earlier i.at → cell_at (rom_word rom) i.at ≡ Holds i.format i.instr → (w : Window) (why : ShapeWhy) → why ≢ shape.OffScreen → ShapeKeeps Exact w e (seen_at (shape_context rom.machine list e) earlier i) why
-rule_at rom list e made earlier i lead is w why not =
-    subst (λ cell. CellKeeps shape.Unmapped shape.Odd (λ j. ShapeKeeps Exact w e (seen_at (shape_context rom.machine list e) earlier j)) i.at cell why) is (made.keeps earlier i.at lead why w not)
+-- something stands wherever items lead
+abbrev pub Stands : Rom → ℕ → Type 0
+Stands rom addr = (items : List Item) (p : ℕ) → LeadsTo Shape (rom_word rom) addr items p → (format : Format) × (instr : Instr) × (cell_at (rom_word rom) p ≡ Holds format instr)
+
+-- by the rules of shapes, but for what is lit at absolute places
+module _ (mode : Mode) (rom : Rom) (list : List Entry) (e : Entry) (keeps : AllKeep Shape (rom_word rom) e.addr (λ earlier p why. (w : Window) → why ≢ shape.OffScreen → ShapePlaceKeeps mode w rom list e earlier p why)) where
+  pub rule_at : (earlier : List Item) (i : Item) → LeadsTo Shape (rom_word rom) e.addr earlier i.at → cell_at (rom_word rom) i.at ≡ Holds i.format i.instr → (w : Window) (why : ShapeWhy) → why ≢ shape.OffScreen → ShapeKeeps mode w e (seen_at (shape_context rom.machine list e) earlier i) why
+  rule_at earlier i lead is w why not = subst (λ cell. CellKeeps shape.Unmapped shape.Odd (λ j. ShapeKeeps mode w e (seen_at (shape_context rom.machine list e) earlier j)) i.at cell why) is (keeps earlier i.at lead why w not)
+
+  pub stands_at : Stands rom e.addr
+  stands_at items p lead = by_cell (cell_at (rom_word rom) p) (λ why. keeps items p lead why screen)
+    where
+      by_cell : (cell : Cell) → ((why : ShapeWhy) → why ≢ shape.OffScreen → CellKeeps shape.Unmapped shape.Odd (λ j. ShapeKeeps mode screen e (seen_at (shape_context rom.machine list e) items j)) p cell why) → (format : Format) × (instr : Instr) × (cell ≡ Holds format instr)
+      by_cell Missing k = absurd (k shape.Unmapped (λ x. cc x) refl)
+      by_cell Odd k = absurd (k shape.Odd (λ x. cc x) refl)
+      by_cell (Holds format instr) k = (format, instr, refl)
 
 -- what a made entry says of an item that is seen
 pub record Allows (e : Entry) (v : Seen) : Type 0 where
@@ -18,12 +31,8 @@ pub record Allows (e : Entry) (v : Seen) : Type 0 where
 
 pub allows_at : (rom : Rom) (list : List Entry) (e : Entry) → MadeEntry rom list e → (earlier : List Item) (i : Item) → LeadsTo Shape (rom_word rom) e.addr earlier i.at → cell_at (rom_word rom) i.at ≡ Holds i.format i.instr → Allows e (seen_at (shape_context rom.machine list e) earlier i)
 allows_at rom list e made earlier i lead is =
-    let k = rule_at rom list e made earlier i lead is screen in
-    record {
-      straight = record { no_halt = k shape.HaltInShape (λ q. cc q); place = k shape.BeamUnknown (λ q. cc q); scale = k shape.ScaleUnknown (λ q. cc q) };
-      deep = k shape.TooDeep (λ q. cc q);
-      many = k shape.TooManyWords (λ q. cc q);
-    }
+    let k = rule_at Exact rom list e made.keeps earlier i lead is screen in
+    search (k shape.HaltInShape (λ q. cc q), k shape.BeamUnknown (λ q. cc q), k shape.ScaleUnknown (λ q. cc q), k shape.TooDeep (λ q. cc q), k shape.TooManyWords (λ q. cc q))
 
 -- a called entry has fewer words
 pub callee_less : (rom : Rom) (list : List Entry) (e : Entry) → MadeEntry rom list e → (earlier : List Item) (i : Item) → LeadsTo Shape (rom_word rom) e.addr earlier i.at → cell_at (rom_word rom) i.at ≡ Holds i.format i.instr → (to : ℕ) (g : Entry) → target Shape i.instr ≡ Some to → entry_at list to (scale_before (shape_context rom.machine list e) earlier) ≡ Some g → g.words < e.words
@@ -38,17 +47,11 @@ pub record Sums (machine : Machine) (list : List Entry) (items : List Item) (e :
   pub known : known_before (shape_context machine list e) items ≡ known_of e
   pub box : IsLeast (lit_points (shape_context machine list e) items) e.lit
 
-pub at_last : (o : Option ℕ) (P : Type 0) → o ≡ None → AtLast o P → P
-at_last o P e h = grind (arith)
-
 pub sums_of : (rom : Rom) (list : List Entry) (e : Entry) → MadeEntry rom list e → (earlier : List Item) (i : Item) → LeadsTo Shape (rom_word rom) e.addr earlier i.at → cell_at (rom_word rom) i.at ≡ Holds i.format i.instr → next_address Shape i ≡ None → Sums rom.machine list (i ∷ earlier) e
 sums_of rom list e made earlier i lead is last =
-    let k = rule_at rom list e made earlier i lead is screen in
-    let place = at_last (next_address Shape i) _ last (k shape.EndDiffers (λ q. cc q)) in
-    let scale = at_last (next_address Shape i) _ last (k shape.ScaleDiffers (λ q. cc q)) in
-    let words = at_last (next_address Shape i) _ last (k shape.WordsDiffer (λ q. cc q)) in
-    let depth = at_last (next_address Shape i) _ last (k shape.DepthDiffers (λ q. cc q)) in
-    record { known = λ x. record { place = place x; scale = scale x; words = words x; depth = depth x }; box = made.box earlier i lead is last }
+    let k = rule_at Exact rom list e made.keeps earlier i lead is screen in
+    let known : known_before (shape_context rom.machine list e) (i ∷ earlier) ≡ known_of e = grind (arith, last, (k shape.EndDiffers (λ q. cc q)), (k shape.ScaleDiffers (λ q. cc q)), (k shape.WordsDiffer (λ q. cc q)), (k shape.DepthDiffers (λ q. cc q))) in
+    record { known = known; box = made.box earlier i lead is last }
 
 both_inside : (a b : LitBox) → IsInside a b → IsInside b a → a ≡ b
 both_inside a b h k = grind (arith)
@@ -70,36 +73,16 @@ pub record Stops (rom : Rom) (addr : ℕ) : Type 0 where
   pub is : cell_at (rom_word rom) i.at ≡ Holds i.format i.instr
   pub last : next_address Shape i ≡ None
 
--- something stands wherever items lead
-abbrev pub Stands : Rom → ℕ → Type 0
-Stands rom addr = (items : List Item) (p : ℕ) → LeadsTo Shape (rom_word rom) addr items p → (format : Format) × (instr : Instr) × (cell_at (rom_word rom) p ≡ Holds format instr)
-
-pub stands_at : (rom : Rom) (list : List Entry) (e : Entry) → MadeEntry rom list e → Stands rom e.addr
-stands_at rom list e made items p lead = by_cell (cell_at (rom_word rom) p) refl
-  where
-    by_cell : (c : Cell) → cell_at (rom_word rom) p ≡ c → (format : Format) × (instr : Instr) × (c ≡ Holds format instr)
-    by_cell Missing q = absurd (subst (λ cell. CellKeeps shape.Unmapped shape.Odd (λ j. ShapeKeeps Exact screen e (seen_at (shape_context rom.machine list e) items j)) p cell shape.Unmapped) q (made.keeps items p lead shape.Unmapped screen (λ x. cc x)) refl)
-    by_cell Odd q = absurd (subst (λ cell. CellKeeps shape.Unmapped shape.Odd (λ j. ShapeKeeps Exact screen e (seen_at (shape_context rom.machine list e) items j)) p cell shape.Odd) q (made.keeps items p lead shape.Odd screen (λ x. cc x)) refl)
-    by_cell (Holds format instr) q = (format, instr, refl)
-
 -- where no item's words go over a bound, the items end
 module _ (rom : Rom) (c : Context) (addr most : ℕ) (stands : Stands rom addr) (few : (earlier : List Item) (i : Item) → LeadsTo Shape (rom_word rom) addr earlier i.at → cell_at (rom_word rom) i.at ≡ Holds i.format i.instr → words_before c (i ∷ earlier) ≤ most) where
   find_last : (n : ℕ) (items : List Item) (p : ℕ) → LeadsTo Shape (rom_word rom) addr items p → most ≤ words_before c items + n → Stops rom addr
   find_last zero items p lead le =
       let h = stands items p lead in
-      let more = few items (record { at = p; format = h.0; instr = h.1 }) lead h.2 in
-      absurd (omega (arith, more, le, word_count-some h.0))
-  find_last (suc n) items p lead le = by_next (next_address Shape i) refl (λ q l k. find_last n (i ∷ items) q l k)
-    where
-      h : (format : Format) × (instr : Instr) × (cell_at (rom_word rom) p ≡ Holds format instr)
-      h = stands items p lead
-
-      i : Item
-      i = record { at = p; format = h.0; instr = h.1 }
-
-      by_next : (o : Option ℕ) → next_address Shape i ≡ o → ((q : ℕ) → LeadsTo Shape (rom_word rom) addr (i ∷ items) q → most ≤ words_before c (i ∷ items) + n → Stops rom addr) → Stops rom addr
-      by_next None is more = record { items = items; i = i; leads = lead; is = h.2; last = is }
-      by_next (Some q) is more = more q (lead, h.2, is) (omega (arith, le, word_count-some h.0))
+      absurd (omega (arith, few items (record { at = p; format = h.0; instr = h.1 }) lead h.2, le, word_count-some h.0))
+  find_last (suc n) items p lead le =
+      let h = stands items p lead in
+      let i : Item = record { at = p; format = h.0; instr = h.1 } in
+      ⊎_elim (λ is. record { items = items; i = i; leads = lead; is = h.2; last = is }) (λ q. find_last n (i ∷ items) q.0 (lead, h.2, q.1) (omega (arith, le, word_count-some h.0))) (none_or_some (next_address Shape i))
 
   pub stops : Stops rom addr
   stops = find_last most [] addr refl (omega arith)
@@ -111,21 +94,14 @@ pub record Ends (rom : Rom) (list : List Entry) (e : Entry) : Type 0 where
   pub sums : Sums rom.machine list (stops.i ∷ stops.items) e
   pub fine : AllFine (shape_context rom.machine list e) (stops.i ∷ stops.items)
 
-fine_at : (rom : Rom) (list : List Entry) (e : Entry) → MadeEntry rom list e → (earlier : List Item) (i : Item) → LeadsTo Shape (rom_word rom) e.addr earlier i.at → cell_at (rom_word rom) i.at ≡ Holds i.format i.instr → IsFine (shape_context rom.machine list e) earlier i
-fine_at rom list e made earlier i lead is = grind (arith, (allows_at rom list e made earlier i lead is))
-
-pub all_fine : (rom : Rom) (list : List Entry) (e : Entry) → MadeEntry rom list e → (items : List Item) (p : ℕ) → LeadsTo Shape (rom_word rom) e.addr items p → AllFine (shape_context rom.machine list e) items
-all_fine rom list e made [] p lead = tt
-all_fine rom list e made (i ∷ earlier) p lead = (all_fine rom list e made earlier i.at lead.0, fine_at rom list e made earlier i lead.0 lead.1)
+all_fine : (rom : Rom) (list : List Entry) (e : Entry) → MadeEntry rom list e → (items : List Item) (i : Item) → LeadsTo Shape (rom_word rom) e.addr items i.at → cell_at (rom_word rom) i.at ≡ Holds i.format i.instr → AllFine (shape_context rom.machine list e) (i ∷ items)
+all_fine rom list e made [] i lead is = (tt, record { straight = (allows_at rom list e made [] i lead is).straight; keyed = made.keyed [] i lead is })
+all_fine rom list e made (j ∷ items) i lead is = (all_fine rom list e made items j lead.0 lead.1, record { straight = (allows_at rom list e made (j ∷ items) i lead is).straight; keyed = made.keyed (j ∷ items) i lead is })
 
 pub made_ends : (rom : Rom) (list : List Entry) (e : Entry) → MadeEntry rom list e → Ends rom list e
 made_ends rom list e made =
-    let s = stops rom (shape_context rom.machine list e) e.addr e.words (stands_at rom list e made) (λ earlier i lead is. (allows_at rom list e made earlier i lead is).many) in
-    record {
-      stops = s;
-      sums = sums_of rom list e made s.items s.i s.leads s.is s.last;
-      fine = (all_fine rom list e made s.items s.i.at s.leads, fine_at rom list e made s.items s.i s.leads s.is);
-    }
+    let s = stops rom (shape_context rom.machine list e) e.addr e.words (stands_at Exact rom list e made.keeps) (λ earlier i lead is. (allows_at rom list e made earlier i lead is).many) in
+    record { stops = s; sums = sums_of rom list e made s.items s.i s.leads s.is s.last; fine = all_fine rom list e made s.items s.i s.leads s.is }
 
 -- a made entry has words
 pub made_some : (rom : Rom) (list : List Entry) (e : Entry) → MadeEntry rom list e → 1 ≤ e.words
@@ -145,58 +121,52 @@ module _ (rom : Rom) (list : List Entry) (e : Entry) where
     deep : depth_under i.instr (callee c earlier i.instr) ≤ e.depth
     many : words_before c (i ∷ earlier) ≤ e.words
     holds : HoldsAll e.lit (relative_corners (extent c earlier i.instr) (place_before c earlier))
-    known : AtLast (next_address Shape i) (known_before c (i ∷ earlier) ≡ known_of e)
-
-  kept_at : (earlier : List Item) (i : Item) → AtItem earlier i → (w : Window) (why : ShapeWhy) → why ≢ shape.OffScreen → ShapeKeeps Exact w e (seen_at c earlier i) why
-  kept_at earlier i h w h4 not = grind (arith, has_callee, target, scale_before, next_address)
+    ends : AtLast (next_address Shape i) (Sums rom.machine list (i ∷ earlier) e)
 
   kept_place : (earlier : List Item) (i : Item) → cell_at (rom_word rom) i.at ≡ Holds i.format i.instr → AtItem earlier i → (why : ShapeWhy) → MadeKeeps rom list e earlier i.at why
-  kept_place earlier i is h why w not = grind (arith, seen_at, kept_at)
+  kept_place earlier i is h why w not = grind (arith, seen_at, has_callee, target, scale_before, next_address)
 
-  kept_before : (items : List Item) (p : ℕ) → LeadsTo Shape (rom_word rom) e.addr items p → AllFine c items → depth_before c items ≤ e.depth → words_before c items ≤ e.words → HoldsAll e.lit (lit_points c items) → AllBefore (MadeKeeps rom list e) items
-  kept_before [] p lead fine deep many holds = tt
-  kept_before (i ∷ earlier) p lead fine deep many holds = (
-    kept_before earlier i.at lead.0 fine.0 (omega (arith, deep)) (omega (arith, many)) (all_right (InBox e.lit) (relative_corners (extent c earlier i.instr) (place_before c earlier)) (lit_points c earlier) holds),
-    kept_place earlier i lead.1
-        (search (rules, fine.1, many, all_left (InBox e.lit) (relative_corners (extent c earlier i.instr) (place_before c earlier)) (lit_points c earlier) holds, subst (λ o. AtLast o (known_before c (i ∷ earlier) ≡ known_of e)) (sym lead.2) tt)),
-  )
+  -- such an item stands at the place
+  abbrev At : List Item → ℕ → Type 0
+  At earlier p = (format : Format) × (instr : Instr) × (cell_at (rom_word rom) p ≡ Holds format instr) × AtItem earlier (record { at = p; format = format; instr = instr })
 
-  -- what holds at these items and at the last, holds at each item
-  abbrev AtCell : (List Item → Item → Type 0) → List Item → ℕ → Cell → Type 0
-  AtCell P earlier p Missing = Unit {0}
-  AtCell P earlier p Odd = Unit {0}
-  AtCell P earlier p (Holds format instr) = P earlier (record { at = p; format = format; instr = instr })
+  at_items : (items : List Item) (i : Item) → LeadsTo Shape (rom_word rom) e.addr items i.at → cell_at (rom_word rom) i.at ≡ Holds i.format i.instr → AllFine c (i ∷ items) → depth_before c (i ∷ items) ≤ e.depth → words_before c (i ∷ items) ≤ e.words → HoldsAll e.lit (lit_points c (i ∷ items)) → AtLast (next_address Shape i) (Sums rom.machine list (i ∷ items) e) → AtEachOf At (i ∷ items)
+  at_items [] i lead is fine deep many holds ends = (tt, (i.format, i.instr, is, search (rules, fine.1, many, ends, all_left (InBox e.lit) (relative_corners (extent c [] i.instr) (place_before c [])) [] holds)))
+  at_items (j ∷ items) i lead is fine deep many holds ends =
+      let corners = relative_corners (extent c (j ∷ items) i.instr) (place_before c (j ∷ items)) in (
+        at_items items j lead.0 lead.1 fine.0 (omega (arith, deep)) (omega (arith, many)) (all_right (InBox e.lit) corners (lit_points c (j ∷ items)) holds) (subst (λ o. AtLast o (Sums rom.machine list (j ∷ items) e)) (sym lead.2) tt),
+        (i.format, i.instr, is, search (rules, fine.1, many, ends, all_left (InBox e.lit) corners (lit_points c (j ∷ items)) holds)),
+      )
 
-  each_before : (P : List Item → Item → Type 0) (items : List Item) (p : ℕ) → LeadsTo Shape (rom_word rom) e.addr items p → AllHold P items → AllBefore {Why = Unit {0}} (λ earlier p why. AtCell P earlier p (cell_at (rom_word rom) p)) items
-  each_before P [] p lead h = tt
-  each_before P (i ∷ earlier) p lead h = (each_before P earlier i.at lead.0 h.0, λ why. subst (AtCell P earlier i.at) (sym lead.1) h.1)
+  pub ends_made : Ends rom list e → MadeEntry rom list e
+  ends_made h =
+      let all : AtEveryPlace Shape (rom_word rom) e.addr At = everywhere Shape (rom_word rom) e.addr At h.stops.items h.stops.i h.stops.leads h.stops.is h.stops.last
+      (at_items h.stops.items h.stops.i h.stops.leads h.stops.is h.fine (omega (arith, ap (λ (k : Known). k.depth) h.sums.known)) (omega (arith, ap (λ (k : Known). k.words) h.sums.known)) h.sums.box.holds (subst (λ o. AtLast o (Sums rom.machine list (h.stops.i ∷ h.stops.items) e)) (sym h.stops.last) h.sums)) in
+      let each : EachItem rom e.addr AtItem = λ earlier j l k. let a = all earlier j.at l in subst (AtItem earlier) (let same : record { at = j.at; format = a.0; instr = a.1 } ≡ j = grind (arith, a.2, k) in same) a.3 in
+      record {
+        keeps = λ earlier p l. let a = all earlier p l in kept_place earlier (record { at = p; format = a.0; instr = a.1 }) a.2 a.3;
+        keyed = λ earlier j l k. (each earlier j l k).fine.keyed;
+        box = λ earlier j l k last. (subst (λ o. AtLast o (Sums rom.machine list (j ∷ earlier) e)) last (each earlier j l k).ends).box;
+      }
 
-  module _ (h : Ends rom list e) where
-    each_item : (P : List Item → Item → Type 0) → AllHold P (h.stops.i ∷ h.stops.items) → EachItem rom e.addr P
-    each_item P all earlier j l k =
-        subst (AtCell P earlier j.at) k (all_kept Shape (rom_word rom) e.addr (Unit {0}) (λ earlier p why. AtCell P earlier p (cell_at (rom_word rom) p)) h.stops.items h.stops.i h.stops.leads h.stops.is h.stops.last (each_before P h.stops.items h.stops.i.at h.stops.leads all.0, λ why. subst (AtCell P h.stops.items h.stops.i.at) (sym h.stops.is) all.1) earlier j.at l tt)
+-- ---- good where nothing that is lit at an absolute place leaves the window
 
-    fine_each : (items : List Item) → AllFine c items → AllHold (IsFine c) items
-    fine_each [] f = tt
-    fine_each (i ∷ earlier) f = (fine_each earlier f.0, f.1)
+pub other_window : (mode : Mode) (rom : Rom) (list : List Entry) (e : Entry) (w v : Window) (earlier : List Item) (p : ℕ) (why : ShapeWhy) → why ≢ shape.OffScreen → ShapePlaceKeeps mode w rom list e earlier p why → ShapePlaceKeeps mode v rom list e earlier p why
+other_window mode rom list e w v earlier p why not = grind (arith, cell_at, rom_word, seen_at, shape_context)
 
-    end_each : (Q : List Item → Type 0) (items : List Item) (p : ℕ) → LeadsTo Shape (rom_word rom) e.addr items p → AllHold (λ earlier j. next_address Shape j ≡ None → Q (j ∷ earlier)) items
-    end_each Q [] p lead = tt
-    end_each Q (i ∷ earlier) p lead = (end_each Q earlier i.at lead.0, λ last. let no : Some p ≡ None = sym lead.2 ∙ last in cc no)
+module _ (rom : Rom) (list : List Entry) (w : Window) where
+  pub in_window : (mode : Mode) → Good mode w rom list → AllInWindow w rom list
+  in_window mode good e c earlier i lead is = subst (λ cell. CellKeeps shape.Unmapped shape.Odd (λ j. ShapeKeeps mode w e (seen_at (shape_context rom.machine list e) earlier j)) i.at cell shape.OffScreen) is (good e c earlier i.at lead shape.OffScreen)
 
-    at_end : (Q : List Item → Type 0) → Q (h.stops.i ∷ h.stops.items) → AtEnd rom e.addr Q
-    at_end Q q = each_item (λ earlier j. next_address Shape j ≡ None → Q (j ∷ earlier)) (end_each Q h.stops.items h.stops.i.at h.stops.leads, λ x. q)
+  -- a made entry is good where nothing that its shape lights at an absolute place leaves the window
+  pub good_entry : (e : Entry) → MadeEntry rom list e → EachItem rom e.addr (ItemInWindow w (shape_context rom.machine list e)) → GoodShape Exact w rom list e
+  good_entry e made all earlier p lead shape.OffScreen = by_cell (cell_at (rom_word rom) p) refl
+    where
+      by_cell : (cell : Cell) → cell_at (rom_word rom) p ≡ cell → CellKeeps shape.Unmapped shape.Odd (λ j. ShapeKeeps Exact w e (seen_at (shape_context rom.machine list e) earlier j)) p cell shape.OffScreen
+      by_cell Missing q = λ x. cc x
+      by_cell Odd q = λ x. cc x
+      by_cell (Holds format i) q = all earlier (record { at = p; format = format; instr = i }) lead q
+  good_entry e made all earlier p lead why = made.keeps earlier p lead why w (λ q. cc q)
 
-    pub ends_made : MadeEntry rom list e
-    ends_made =
-        let deep : depth_before c (h.stops.i ∷ h.stops.items) ≡ e.depth = ap (λ (k : Known). k.depth) h.sums.known in
-        let many : words_before c (h.stops.i ∷ h.stops.items) ≡ e.words = ap (λ (k : Known). k.words) h.sums.known in
-        record {
-          keeps = all_kept Shape (rom_word rom) e.addr ShapeWhy (MadeKeeps rom list e) h.stops.items h.stops.i h.stops.leads h.stops.is h.stops.last (
-            kept_before h.stops.items h.stops.i.at h.stops.leads h.fine.0 (omega (arith, deep)) (omega (arith, many)) (all_right (InBox e.lit) (relative_corners (extent c h.stops.items h.stops.i.instr) (place_before c h.stops.items)) (lit_points c h.stops.items) h.sums.box.holds),
-            kept_place h.stops.items h.stops.i h.stops.is
-                (search (rules, h.fine.1, all_left (InBox e.lit) (relative_corners (extent c h.stops.items h.stops.i.instr) (place_before c h.stops.items)) (lit_points c h.stops.items) h.sums.box.holds, subst (λ o. AtLast o (known_before c (h.stops.i ∷ h.stops.items) ≡ known_of e)) (sym h.stops.last) h.sums.known)),
-          );
-          keyed = λ earlier j l g. (each_item (IsFine c) (fine_each (h.stops.i ∷ h.stops.items) h.fine) earlier j l g).keyed;
-          box = at_end (λ all. IsLeast (lit_points c all) e.lit) h.sums.box;
-        }
+  pub in_exact : ((e : Entry) → Contains list e → MadeEntry rom list e) → AllInWindow w rom list → Good Exact w rom list
+  in_exact each all e c = good_entry e (each e c) (all e c)

@@ -2,7 +2,7 @@
 use Rattle.dvg_make.proofs.Common.{◌≡◌, ℕ, List, [], length, Some, sym, ◌∙◌, arith, inl, inr, ⊎_elim, Contains, Rom, rom_word, IsEntry, IsRising, IsCertificate, entry_at, Entry, Key, shape_context, callee_at, scale_before, HasEntry, Needs, IsAskedFor, FramesMade, keyed_context, Extends, IsCalled, AllFramed, listed_at, IsMap, Made, all_listed}
 use Rattle.dvg_make.proofs.Onward.{fine_taken}
 use Rattle.dvg_make.proofs.Matching.{exact_named, found_listed}
-use Rattle.dvg_make.proofs.Growing.{scale_grows, made_grows}
+use Rattle.dvg_make.proofs.Merging.{scale_grows, made_grows}
 use Rattle.dvg_make.proofs.Framing.{calls_grow, calls_shrink}
 
 module _ (rom : Rom) (roots : List (ℕ × Key)) (frames : List (List ℕ)) (done list : List Entry) (h : AllFramed rom roots frames done) (rises : IsRising list) (same : (addr : ℕ) (key : Key) → entry_at list addr key ≡ entry_at done addr key) (long : length list ≡ length done) where
@@ -22,8 +22,7 @@ module _ (rom : Rom) (roots : List (ℕ × Key)) (frames : List (List ℕ)) (don
   needs_it f listed_f c = grind (arith, listed_at, ext, scale_before, shape_context, keyed_context, scale_grows, fine_taken, callee_at, exact_named, found_listed, rom_word)
 
   asked_has : (addr : ℕ) (key : Key) → IsAskedFor rom.machine roots frames list addr key → HasEntry list addr key
-  asked_has addr key (inl r) = let x = h.rooted addr key r in (x.0, ext addr key x.0 x.1)
-  asked_has addr key (inr c) = let x = h.has_calls c.0 c.1 addr key (calls_shrink rom.machine c.0 done list ext (h.has_calls c.0 c.1) addr key c.2) in (x.0, ext addr key x.0 x.1)
+  asked_has addr key a = ⊎_elim (λ r. let x = h.rooted addr key r in (x.0, ext addr key x.0 x.1)) (λ c. let x = h.has_calls c.0 c.1 addr key (calls_shrink rom.machine c.0 done list ext (h.has_calls c.0 c.1) addr key c.2) in (x.0, ext addr key x.0 x.1)) a
 
   asked_grows : (addr : ℕ) (key : Key) → IsAskedFor rom.machine roots frames done addr key → IsAskedFor rom.machine roots frames list addr key
   asked_grows addr key h2 = grind (arith, calls_grow, ext)

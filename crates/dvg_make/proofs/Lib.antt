@@ -5,18 +5,14 @@ pub mod Agreeing
 pub mod Knowing
 pub mod Small
 pub mod Onward
-pub mod Growing
 pub mod Joining
 pub mod Merging
 pub mod Linking
 pub mod Bettering
 pub mod Chains
-pub mod Crowds
 pub mod Telling
 pub mod Turns
 pub mod Finishing
-pub mod OneList
-pub mod Windows
 pub mod FrameBest
 pub mod Stacks
 pub mod Framing
@@ -24,3 +20,4 @@ pub mod Collecting
 pub mod Causes
 pub mod OneFrame
 pub mod OwnCertificate
+pub mod Pairs

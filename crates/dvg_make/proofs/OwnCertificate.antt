@@ -1,10 +1,9 @@
 -- A frame judged by the certificate that is made for it.
-use Rattle.dvg_make.proofs.Common.{Machine, Board, ◌≡◌, ℕ, ◌≤◌, List, [], ◌∷◌, Option, None, Some, subst, arith, Result, Ok, Err, cell_at, Rom, frame_word, Window, Cell, Entry, frame_context, seen_at, Item, CellKeeps, GoodFrame, Exact, EntryFault, Unstraight, Deep, TooManyWords, TooManyEntries, Memory, FrameCall, FramesRefuse, FrameRefused, max, IfOk, Frame, FrameKeeps, AllKeep, FramePlaceKeeps, Safe, CountsAtHalt, SafeOnCircuit, CountsOnCircuit, FrameWhy, no_fault, no_shape_fault, one_count, FrameMade, BarsFrame, CallBarredAt, VerdictByMade, AreLeast, CheckMeans, checked, refusal_at, IsJudged, Shapes}
+use Rattle.dvg_make.proofs.Common.{Machine, Board, ◌≡◌, ℕ, ◌≤◌, List, [], ◌∷◌, Option, None, Some, subst, arith, Result, Ok, Err, Rom, frame_word, Window, Entry, frame_context, seen_at, GoodFrame, Exact, EntryFault, Memory, FrameCall, FramesRefuse, FrameRefused, max, IfOk, Frame, AllKeep, FramePlaceKeeps, Safe, CountsAtHalt, SafeOnCircuit, CountsOnCircuit, no_fault, no_shape_fault, one_count, FrameMade, BarsFrame, CallBarredAt, VerdictByMade, AreLeast, CheckMeans, checked, refusal_at, IsJudged}
 use Rattle.dvg_check.specs.Verdict.{PartsVerdict}
 use Rattle.dvg_check.specs.Causes.{verdict_of}
 use Rattle.dvg_check.specs.declared.finding.RomFinding.{RomFinding}
 use Rattle.dvg_check.specs.declared.verdict.Yes.{Yes}
-use Rattle.dvg_check.specs.declared.fault.FrameWhy.TheVariants as frame
 use Rattle.dvg_check.specs.declared.verdict.Refusal.{Refusal}
 use Rattle.dvg_check.specs.declared.verdict.Refusal.TheVariants as refusal
 use Rattle.dvg_make.proofs.FrameBest.{none_better}
@@ -12,24 +11,13 @@ use Rattle.dvg_make.proofs.FrameBest.{none_better}
 -- ---- budgets
 
 module _ (machine : Machine) (w : Window) (words : List ℕ) (list : List Entry) where
-  abbrev Kept : ℕ → List Item → ℕ → FrameWhy → Cell → Type 0
-  Kept budget earlier p why cell = CellKeeps frame.Unmapped frame.Odd (λ i. FrameKeeps w budget (seen_at (frame_context machine list) earlier i)) p cell why
-
-  raised_cell : (a b : ℕ) (earlier : List Item) (p : ℕ) (why : FrameWhy) (cell : Cell) → a ≤ b → Kept a earlier p why cell → Kept b earlier p why cell
-  raised_cell a b earlier p why cell le h = grind (arith, seen_at, frame_context)
-
   -- a frame that is good within a budget is so within each greater one
   raised : (a b count depth : ℕ) → a ≤ b → GoodFrame w machine words list a count depth → GoodFrame w machine words list b count depth
   raised a b count depth le g =
-      let keeps : AllKeep Frame (frame_word machine words) 0 (FramePlaceKeeps w machine words list b) =
-      λ earlier p lead why. raised_cell a b earlier p why (cell_at (frame_word machine words) p) le (g.keeps earlier p lead why) in
+      let keeps : AllKeep Frame (frame_word machine words) 0 (FramePlaceKeeps w machine words list b) = λ earlier p lead why. grind (arith, seen_at, frame_context, (g.keeps earlier p lead why)) in
       search keeps
 
 -- ---- the verdict
-
--- the shapes of this list, taken as good
-abbrev pub taken : Rom → Window → List Entry → Shapes
-taken rom w list = record { rom = rom; list = list; window = w; mode = Exact }
 
 module _ (rom : Rom) (words : List ℕ) (w : Window) (budget : ℕ) (made : List Entry) (m : FrameMade rom words made) where
   -- the counts by the made certificate are the least
@@ -42,14 +30,12 @@ module _ (rom : Rom) (words : List ℕ) (w : Window) (budget : ℕ) (made : List
       (omega (arith, same.count_is, best.2), omega (arith, same.depth_is, best.3))
 
   judged_refused : (r : Refusal) → PartsVerdict Exact w rom made words budget (Err r) → CheckMeans rom words w budget r
-  judged_refused (refusal.Image f) v = absurd v
-  judged_refused refusal.BudgetRange v = absurd v
-  judged_refused (refusal.Cert f) v = absurd v
   judged_refused refusal.IndexMemory v = tt
   judged_refused (refusal.Shape f) v = λ mode list b n d le a. no_shape_fault Exact w rom made f (none_better rom words w mode list made b n d a m).4.good v
   judged_refused (refusal.Frame f) v = λ mode list b n d le a.
       let best = none_better rom words w mode list made b n d a m in
       no_fault w rom.machine words made budget best.0 best.1 f (raised rom.machine w words made b budget best.0 best.1 le best.4.frame) v.1
+  judged_refused r v = absurd v
 
   -- the checker's answer by the made certificate has each clause of `judge`
   pub judged_by : (answer : Result Yes RomFinding)
@@ -73,10 +59,7 @@ module _ (rom : Rom) (words : List ℕ) where
   pub made_refused : (w : Window) (budget : ℕ) (call : Option FrameCall) (why : EntryFault) → FramesRefuse rom [] (words ∷ []) (record { call = call; why = why }) → FrameRefused rom words w budget (refusal_at call why)
   made_refused w budget None why h = tt
   made_refused w budget (Some call) Memory h = tt
-  made_refused w budget (Some call) (Unstraight word) h = (h.list, (here call (Unstraight word) h).1)
-  made_refused w budget (Some call) Deep h = (h.list, (here call Deep h).1)
-  made_refused w budget (Some call) TooManyWords h = (h.list, (here call TooManyWords h).1)
-  made_refused w budget (Some call) TooManyEntries h = (h.list, (here call TooManyEntries h).1)
+  made_refused w budget (Some call) why h = (h.list, (here call why h).1)
 
   pub made_verdict : (w : Window) (budget : ℕ) (call : Option FrameCall) (why : EntryFault) → FramesRefuse rom [] (words ∷ []) (record { call = call; why = why }) → VerdictByMade rom words w budget (Err (refusal_at call why))
   made_verdict w budget call why h = grind (arith, here)

@@ -1,5 +1,5 @@
 -- What the maker makes has only small numbers: on either machine a word moves the beam by 1024 screen places at most.
-use Rattle.dvg_make.proofs.Common.{Source, rules, Machine, Board, ◌≡◌, ℕ, zero, suc, ◌+◌, ◌<◌, ◌≤◌, List, [], ◌∷◌, Option, Some, None, refl, sym, ap, ◌∙◌, subst, arith, ints, AllByRecursion, Contains, IfSome, if◌then◌else◌, slice_get, cell_at, Rom, rom_word, Point, Cell, Holds, Format, Instr, Labs, Halt, Jsrl, Rtsl, Jmpl, IsKey, IsEntry, entry_at, End, Entry, Key, LitBox, Empty, MOST_DEPTH, MOST_WORDS, LeadsTo, Context, shape_context, target, callee_at, callee, callee_words, scale_before, place_before, words_before, depth_before, known_before, InBox, extent_of, relative_corners, extent, Item, Shape, Known, listed_at, all_append, word_count-some, lit_points, IsLeast, HasEntry, MadeEntry, keyed_context, entry_of, AllFine, Profile, ℤ, pos, negsuc, neg_ℤ, ◌*◌, ◌/◌, ◌%◌, nat_le, nat_tests, ◌≤ℤ◌, ◌*ℤ◌, ◌==◌, origin, effective_scale, factor, rounded, axis_move, displacement, labs_place, opcode, is_long_opcode, labs_field, magnitude_and_sign, instruction_of, word_count, cell_holding, cell_of_words, cell_of_format, word_of_rom, DrawFields, Short, Long, Draws, IsEnd, IsBox, draw_effect, callee_effect, effect_of, draw_extent, callee_extent, all_map, Bool, true, false}
+use Rattle.dvg_make.proofs.Common.{Source, rules, Machine, Board, ◌≡◌, ℕ, zero, suc, ◌+◌, ◌<◌, ◌≤◌, List, [], ◌∷◌, Option, Some, None, ap, subst, arith, ints, AllByRecursion, Contains, IfSome, if◌then◌else◌, slice_get, cell_at, Rom, rom_word, Point, Cell, Holds, Format, Instr, Labs, Halt, Jsrl, Rtsl, Jmpl, IsKey, IsEntry, entry_at, End, Entry, Key, LitBox, Empty, MOST_DEPTH, MOST_WORDS, LeadsTo, Context, shape_context, target, callee, callee_words, scale_before, place_before, words_before, depth_before, known_before, InBox, extent_of, relative_corners, extent, Item, Shape, Known, listed_at, all_append, word_count-some, lit_points, IsLeast, MadeEntry, keyed_context, entry_of, AllFine, Profile, ℤ, pos, negsuc, neg_ℤ, ◌*◌, ◌/◌, ◌%◌, nat_le, nat_tests, ◌≤ℤ◌, ◌*ℤ◌, ◌==◌, origin, effective_scale, factor, rounded, axis_move, displacement, labs_place, opcode, labs_field, magnitude_and_sign, instruction_of, word_count, DrawFields, Short, Long, Draws, IsEnd, IsBox, callee_effect, effect_of, callee_extent, all_map, Bool, true}
 use Rattle.std.proofs.Math.Pow.{pow_mono}
 use Rattle.std.proofs.lemmas.Nat.{mul-le}
 use Rattle.dvg_items.specs.Bounds.{IsReached, IsReachedPlace, IsReachedBox, IsReachedEffect, IsReachedExtent}
@@ -50,12 +50,6 @@ small_displacement : (machine : Machine) (d : DrawFields) (g : ℕ) → IsSmallD
 unfolding displacement
 small_displacement machine d g h = grind (arith, (small_move machine d.dx d.lscale g h.0), (small_move machine d.dy d.lscale g h.1))
 
-small_draw : (machine : Machine) (d : DrawFields) (scale : Key) → IsSmallDraw d → IsReachedEffect WORD_REACH 1 (draw_effect machine d scale)
-small_draw machine d scale h = grind (arith, small_displacement)
-
-small_drawn : (machine : Machine) (bright : ℕ) (d : DrawFields) (scale : Key) → IsSmallDraw d → IsReachedExtent WORD_REACH 1 (draw_extent machine bright d scale)
-small_drawn machine bright d scale h = grind (arith, small_origin, small_displacement)
-
 -- ---- what an instruction says
 
 -- an instruction of this format: a LABS sets the beam no further than its words may move it
@@ -82,25 +76,9 @@ abbrev IsSmallCell : Machine → Cell → Type 0
 IsSmallCell machine (Holds format i) = IsSmallInstr machine format i
 IsSmallCell machine cell = Unit {0}
 
-small_holding : (machine : Machine) (format : Format) (o : Option Instr) → IfSome o (IsSmallInstr machine format) → IsSmallCell machine (cell_holding format o)
-small_holding machine format o h = grind (arith)
-
--- the opcode of LABS is a long one
-long_labs : (op : ℕ) → nat_le op 10 ≡ false → (op == 10) ≡ true → 2 ≤ 1
-long_labs op short e = let more : 10 < op = grind (arith, nat_tests) in let same : op ≡ 10 = grind (arith, nat_tests) in omega (arith, more, same)
-
 small_cell : (word : Source) (p : ℕ) → IsSmallCell word.machine (cell_at word p)
 unfolding cell_at
-small_cell word p = by_words (word.word p) (word.word (p + 1))
-  where
-    by_format : (long : Bool) (first : ℕ) (o : Option ℕ) → is_long_opcode (opcode first) ≡ long → IsSmallCell word.machine (cell_of_format word.machine (if long then Long else Short) first o)
-    by_format true first None e = tt
-    by_format true first (Some second) e = small_holding word.machine Long (instruction_of word.machine first second) (small_instr word.machine Long first second (λ q. omega arith))
-    by_format false first o e = small_holding word.machine Short (instruction_of word.machine first 0) (small_instr word.machine Short first 0 (long_labs (opcode first) e))
-
-    by_words : (a b : Option ℕ) → IsSmallCell word.machine (cell_of_words word.machine a b)
-    by_words None b = tt
-    by_words (Some first) b = by_format (is_long_opcode (opcode first)) first b refl
+small_cell word p = grind (arith, nat_tests, (small_instr word.machine Long), (small_instr word.machine Short))
 
 small_held : (word : Source) (i : Item) → cell_at word i.at ≡ Holds i.format i.instr → IsSmallInstr word.machine i.format i.instr
 small_held word i is = subst (IsSmallCell word.machine) is (small_cell word i.at)
@@ -116,15 +94,15 @@ small_shown o h = grind (arith)
 -- ---- what an item does
 
 small_effect : (machine : Machine) (format : Format) (i : Instr) (scale : Key) (o : Option Entry) → IsSmallInstr machine format i → IfSome o IsSmallEntry → IsReachedEffect WORD_REACH (word_count format + callee_words o) (effect_of machine i scale o)
-small_effect machine format (Draws d) scale o h k = effect_more WORD_REACH 1 (word_count format + callee_words o) (draw_effect machine d scale) (omega (arith, word_count-some format)) (small_draw machine d scale h)
+small_effect machine format (Draws d) scale o h k = grind (arith, small_displacement, (reached_more WORD_REACH 1 (word_count format + callee_words o)), word_count-some)
 small_effect machine format (Labs x y g) scale o h k = reached_more WORD_REACH (word_count format) (word_count format + callee_words o) (labs_place machine x y) (omega arith) h
-small_effect machine format Halt scale o h k = small_origin (word_count format + callee_words o)
-small_effect machine format Rtsl scale o h k = small_origin (word_count format + callee_words o)
 small_effect machine format (Jsrl to) scale o h k = effect_more WORD_REACH (callee_words o) (word_count format + callee_words o) (callee_effect o) (omega arith) (small_called o k)
 small_effect machine format (Jmpl to) scale o h k = effect_more WORD_REACH (callee_words o) (word_count format + callee_words o) (callee_effect o) (omega arith) (small_called o k)
+small_effect machine format i scale o h k = small_origin (word_count format + callee_words o)
 
 small_extent : (machine : Machine) (format : Format) (i : Instr) (scale : Key) (o : Option Entry) → IsSmallInstr machine format i → IfSome o IsSmallEntry → IsReachedExtent WORD_REACH (word_count format + callee_words o) (extent_of machine i scale o)
-small_extent machine format i scale o h k = search (rules, (extent_more WORD_REACH), callee_words, word_count-some, small_drawn, small_shown)
+small_extent machine format (Draws d) scale o h k = grind (arith, small_origin, small_displacement, (reached_more WORD_REACH 1 (word_count format + callee_words o)), word_count-some)
+small_extent machine format i scale o h k = search (rules, (extent_more WORD_REACH), callee_words, word_count-some, small_shown)
 
 -- ---- along the items
 
@@ -169,24 +147,19 @@ least_good n (p ∷ ps) box h k = search (rules, h.0, k.holds.0, k.least (wall W
 
 -- ---- made entries
 
--- a call finds its entry at the very scale
-small_callee : (list : List Entry) (o : Option ℕ) (scale : Key) → ((to : ℕ) → o ≡ Some to → HasEntry list to scale) → ((to : ℕ) (g : Entry) → o ≡ Some to → entry_at list to scale ≡ Some g → IsSmallEntry g) → IfSome (callee_at list o scale) IsSmallEntry
-small_callee list o scale has small = grind (arith, exact_named)
-
 -- the entries that items call are small
 abbrev SmallCalls : Rom → List Entry → ℕ → Key → Type 0
 SmallCalls rom list addr key =
     (earlier : List Item) (i : Item) → LeadsTo Shape (rom_word rom) addr earlier i.at → cell_at (rom_word rom) i.at ≡ Holds i.format i.instr
     → (to : ℕ) (g : Entry) → target Shape i.instr ≡ Some to → entry_at list to (scale_before (keyed_context rom.machine list key) earlier) ≡ Some g → IsSmallEntry g
 
+-- what leads to a place, and one item more
+before_small : (rom : Rom) (list : List Entry) (addr : ℕ) (key : Key) → SmallCalls rom list addr key → (items : List Item) (p : ℕ) → LeadsTo Shape (rom_word rom) addr items p → AllFine (keyed_context rom.machine list key) items → AllSmall (keyed_context rom.machine list key) items
+before_small rom list addr key calls [] p lead fine = tt
+before_small rom list addr key calls (j ∷ earlier) p lead fine = (before_small rom list addr key calls earlier j.at lead.0 fine.0, grind (arith, (small_held (rom_word rom) j), exact_named, (calls earlier j)))
+
 all_small : (rom : Rom) (list : List Entry) (addr : ℕ) (key : Key) → SmallCalls rom list addr key → (items : List Item) (i : Item) → LeadsTo Shape (rom_word rom) addr items i.at → cell_at (rom_word rom) i.at ≡ Holds i.format i.instr → AllFine (keyed_context rom.machine list key) (i ∷ items) → AllSmall (keyed_context rom.machine list key) (i ∷ items)
-all_small rom list addr key calls items i lead is fine =
-    (before items i.at lead fine.0, record { fields = small_held (rom_word rom) i is; callee = small_callee list (target Shape i.instr) (scale_before (keyed_context rom.machine list key) items) fine.1.keyed (calls items i lead is) })
-  where
-    before : (items : List Item) (p : ℕ) → LeadsTo Shape (rom_word rom) addr items p → AllFine (keyed_context rom.machine list key) items → AllSmall (keyed_context rom.machine list key) items
-    before [] p lead fine = tt
-    before (j ∷ earlier) p lead fine =
-        (before earlier j.at lead.0 fine.0, record { fields = small_held (rom_word rom) j lead.1; callee = small_callee list (target Shape j.instr) (scale_before (keyed_context rom.machine list key) earlier) fine.1.keyed (calls earlier j lead.0 lead.1) })
+all_small rom list addr key calls items i lead is fine = (before_small rom list addr key calls items i.at lead fine.0, grind (arith, (small_held (rom_word rom) i), exact_named, (calls items i)))
 
 -- by the number of words
 small_up_to : (rom : Rom) (list : List Entry) → ((e : Entry) → Contains list e → MadeEntry rom list e) → (n : ℕ) (e : Entry) → MadeEntry rom list e → e.words < n → IsSmallEntry e
@@ -210,17 +183,14 @@ box_within n box le h = search (rules)
 
 -- ---- its address
 
--- something stands where the items start
-first_stands : (word : Source) (addr : ℕ) (items : List Item) (p : ℕ) (format : Format) (i : Instr) → LeadsTo Shape word addr items p → cell_at word p ≡ Holds format i → (f : Format) × (j : Instr) × (cell_at word addr ≡ Holds f j)
-first_stands word addr [] p format i lead is = (format, i, ap (cell_at word) (sym lead) ∙ is)
-first_stands word addr (j ∷ earlier) p format i lead is = first_stands word addr earlier j.at j.format j.instr lead.0 lead.1
-
-cell_some : (word : Source) (p : ℕ) (format : Format) (i : Instr) → cell_at word p ≡ Holds format i → (w : ℕ) × (word.word p ≡ Some w)
+in_rom : (rom : Rom) (p : ℕ) (format : Format) (i : Instr) → cell_at (rom_word rom) p ≡ Holds format i → (rom.map.rom_first ≤ p) × (p ≤ rom.map.rom_last)
 unfolding cell_at
-cell_some word p format i is = grind (arith)
+in_rom rom p format i is = grind (arith, nat_le, slice_get, nat_tests)
 
-in_rom : (rom : Rom) (p w : ℕ) → word_of_rom rom p ≡ Some w → (rom.map.rom_first ≤ p) × (p ≤ rom.map.rom_last)
-in_rom rom p w e = grind (arith, nat_le, slice_get, nat_tests)
+-- something stands where the items start
+first_in_rom : (rom : Rom) (addr : ℕ) (items : List Item) (p : ℕ) (format : Format) (i : Instr) → LeadsTo Shape (rom_word rom) addr items p → cell_at (rom_word rom) p ≡ Holds format i → (rom.map.rom_first ≤ addr) × (addr ≤ rom.map.rom_last)
+first_in_rom rom addr [] p format i lead is = grind (arith, in_rom)
+first_in_rom rom addr (j ∷ earlier) p format i lead is = first_in_rom rom addr earlier j.at j.format j.instr lead.0 lead.1
 
 -- ---- what the maker makes is an entry
 
@@ -235,7 +205,5 @@ made_is_entry rom list made addr key items i lit lead is fine least words depth 
     let small = all_small rom list addr key (λ earlier j l k to g t f. small_up_to rom list made (g.words + 1) g (made g (listed_at list to _ g f).listed) (omega arith)) items i lead is fine in
     let n : ℕ = words_before (keyed_context rom.machine list key) (i ∷ items) in
     let box = least_good n (lit_points (keyed_context rom.machine list key) (i ∷ items)) lit (points_small rom.machine list key (i ∷ items) small) least in
-    let first = first_stands (rom_word rom) addr items i.at i.format i.instr lead is in
-    let some = cell_some (rom_word rom) addr first.0 first.1 first.2 in
-    let there = in_rom rom addr some.0 some.1 in
+    let there = first_in_rom rom addr items i.at i.format i.instr lead is in
     search (rules, there.0, there.1, key_is, place_within n (place_before (keyed_context rom.machine list key) (i ∷ items)) words (place_small rom.machine list key (i ∷ items) small), box_within n lit words box, depth, words, scale_is)

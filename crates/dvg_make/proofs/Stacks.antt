@@ -1,5 +1,5 @@
 -- The stack of shapes in the making, as pairs of an address and key with a shape.
-use Rattle.dvg_make.proofs.Common.{◌≡◌, ℕ, zero, suc, ◌+◌, ◌-◌, ◌<◌, List, [], ◌∷◌, ◌++◌, length, Some, None, refl, sym, ap, ◌∙◌, subst, arith, inl, inr, values_of, Entry, Key, at_holds, pair_test, PartialEntry, entry_of, All, IsOwnPartial, IsMaking, rules, common_steps, cond, is_some, lookup, All-nil, All-cons, All-head, All-tail, slice_range, at_means, pair_eq, Bool, true, false, slice_get}
+use Rattle.dvg_make.proofs.Common.{◌≡◌, ℕ, zero, suc, ◌+◌, ◌-◌, ◌<◌, List, [], ◌∷◌, ◌++◌, length, Some, None, refl, ap, ◌∙◌, arith, values_of, Key, at_holds, pair_test, PartialEntry, All, IsOwnPartial, IsMaking, rules, common_steps, cond, is_some, lookup, All-nil, All-cons, All-head, All-tail, slice_range, at_means, pair_eq, Bool, true, slice_get}
 use Rattle.indexmap.specs.IndexMap.{set_value_at}
 use Rattle.indexmap.proofs.MapLemmas.{split_last}
 
@@ -10,40 +10,21 @@ module _ (addr : ℕ) (key : Key) where
   abbrev test : ℕ × Key → Bool
   test = pair_eq (addr, key)
 
-  -- an entry of the shape's address and key
-  abbrev as_entry : PartialEntry → Entry
-  as_entry w = entry_of w.addr w.key w.cursor.known w.lit
-
   own_means : (p : (ℕ × Key) × PartialEntry) → IsOwnPartial p → test p.0 ≡ true → (p.1.addr ≡ addr) × (p.1.key ≡ key)
-  own_means p own t = at_means addr key (as_entry p.1) (sym (pair_test addr key (as_entry p.1)) ∙ ap test (sym own) ∙ t)
+  own_means p own t = grind (arith, at_means, pair_test)
 
-  by_answer : {P : Type 0} (b : Bool) → (b ≡ true → P) → (b ≡ false → P) → P
-  by_answer b p q = grind (arith)
-
-  -- what is found has the address and the key
-  pub found_own : (ps : Pairs) → All IsOwnPartial ps → (w : PartialEntry) → lookup test ps ≡ Some w → (w.addr ≡ addr) × (w.key ≡ key)
+  -- what is found has the address and the key, and is in the making
+  pub found_own : (ps : Pairs) → All IsOwnPartial ps → (w : PartialEntry) → lookup test ps ≡ Some w → ((w.addr ≡ addr) × (w.key ≡ key)) × IsMaking (values_of ps) addr key
   found_own [] own w e = cc e
-  found_own (p ∷ ps) own w e =
-      by_answer (test p.0)
-      (λ t. let is : p.1 ≡ w = cc (sym (ap (λ b. cond b (Some p.1) (lookup test ps)) t) ∙ e) in subst (λ (x : PartialEntry). (x.addr ≡ addr) × (x.key ≡ key)) is (own_means p (All-head IsOwnPartial p ps own) t))
-      (λ f. found_own ps (All-tail IsOwnPartial p ps own) w (sym (ap (λ b. cond b (Some p.1) (lookup test ps)) f) ∙ e))
+  found_own (p ∷ ps) own w e = grind (arith, cond, lookup, (own_means p (All-head IsOwnPartial p ps own)), (found_own ps (All-tail IsOwnPartial p ps own) w))
 
   -- what is in the making is found
   pub making_found : (ps : Pairs) → All IsOwnPartial ps → IsMaking (values_of ps) addr key → is_some (lookup test ps) ≡ true
   making_found [] own m = absurd m
-  making_found (p ∷ ps) own (inl same) = ap (λ b. is_some (cond b (Some p.1) (lookup test ps))) (ap test (All-head IsOwnPartial p ps own) ∙ pair_test addr key (as_entry p.1) ∙ at_holds addr key (as_entry p.1) same.0 same.1)
-  making_found (p ∷ ps) own (inr later) = grind (arith, by_answer, is_some, cond, (making_found ps (All-tail IsOwnPartial p ps own) later))
-
-  -- and the other way round
-  pub found_making : (ps : Pairs) → All IsOwnPartial ps → (w : PartialEntry) → lookup test ps ≡ Some w → IsMaking (values_of ps) addr key
-  found_making [] own w e = cc e
-  found_making (p ∷ ps) own w e =
-      by_answer (test p.0)
-      (λ t. inl (own_means p (All-head IsOwnPartial p ps own) t))
-      (λ f. inr (found_making ps (All-tail IsOwnPartial p ps own) w (sym (ap (λ b. cond b (Some p.1) (lookup test ps)) f) ∙ e)))
+  making_found (p ∷ ps) own m = grind (arith, is_some, cond, lookup, at_holds, pair_test, (All-head IsOwnPartial p ps own), (making_found ps (All-tail IsOwnPartial p ps own)))
 
   pub none_found : (ps : Pairs) → All IsOwnPartial ps → (IsMaking (values_of ps) addr key → ⊥) → lookup test ps ≡ None
-  none_found ps own not = grind (arith, found_making)
+  none_found ps own not = grind (arith, found_own)
 
 -- ---- the top
 
@@ -61,13 +42,12 @@ set_last [] n rest old w long e = not_nil old rest [] e
 set_last (p ∷ []) zero [] old w long e =
     (refl, λ a k own. All-cons IsOwnPartial (p.0, w) [] (All-head IsOwnPartial p [] own ∙ (let same : p.1 ≡ old = cc e in ap (λ (x : PartialEntry). (x.addr, x.key)) same) ∙ (λ j. (a j, k j))) (All-nil IsOwnPartial))
 set_last (p ∷ []) zero (r ∷ rest) old w long e = not_nil old rest [] (cc e)
-set_last (p ∷ []) (suc n) rest old w long e = absurd (omega (arith, long))
-set_last (p ∷ q ∷ ps) zero rest old w long e = absurd (omega (arith, long))
 set_last (p ∷ q ∷ ps) (suc n) [] old w long e = absurd (cc e)
 set_last (p ∷ q ∷ ps) (suc n) (r ∷ rest) old w long e =
     let first : p.1 ≡ r = cc e in
     let more = set_last (q ∷ ps) n rest old w (omega (arith, long)) (cc e) in
     ((λ j. first j ∷ more.0 j), λ a k own. All-cons IsOwnPartial p (set_value_at (q ∷ ps) n w) (All-head IsOwnPartial p (q ∷ ps) own) (more.1 a k (All-tail IsOwnPartial p (q ∷ ps) own)))
+set_last ps n rest old w long e = absurd (omega (arith, long))
 
 -- the last of them
 pub top_is : (ps : Pairs) (p : (ℕ × Key) × PartialEntry) → slice_get ps (length ps - 1) ≡ Some p → 0 < length ps → (rest : List PartialEntry) × (values_of ps ≡ rest ++ p.1 ∷ [])

@@ -1,14 +1,7 @@
 -- What is told where the making stops.
-use Rattle.dvg_make.proofs.Common.{◌≡◌, ℕ, zero, suc, ◌+◌, ◌<◌, ◌≤◌, List, [], ◌∷◌, ◌++◌, length, slice_get, Some, None, refl, sym, ap, ◌∙◌, subst, arith, inl, inr, length-append, Contains, Rom, entry_at, Entry, Key, MOST_ENTRIES, Known, PartialEntry, Obstacle, ShapeAt, EntryCause, Reaches, start, shape_of, IsWaiting, IsStopped, shapes, IsMaking, Apart, InProgress, NotBegun, Cursor, AreUnmade, CauseAt, Tells, asked_shape, AreLinked, TellsObstacle, IsNoRoot}
+use Rattle.dvg_make.proofs.Common.{◌≡◌, ℕ, zero, suc, ◌+◌, ◌<◌, ◌≤◌, List, [], ◌∷◌, ◌++◌, length, slice_get, Some, None, sym, ap, ◌∙◌, subst, arith, inl, inr, length-append, Contains, Rom, entry_at, Entry, Key, MOST_ENTRIES, Known, PartialEntry, Obstacle, ShapeAt, EntryCause, Reaches, start, shape_of, IsWaiting, IsStopped, shapes, IsMaking, Apart, InProgress, NotBegun, Cursor, AreUnmade, CauseAt, Tells, asked_shape, AreLinked, TellsObstacle, IsNoRoot, IsUnique, common_steps}
 use Rattle.dvg_make.specs.declared.account.EntryCause.TheVariants as cause
-use Rattle.dvg_make.specs.Accounts.{IsUnique}
-use Rattle.dvg_make.proofs.Onward.{reached}
-use Rattle.dvg_make.proofs.Linking.{links_push, last_push, are_moved}
-use Rattle.dvg_make.proofs.Turns.{calls_it, apart_moved}
-
-pub length_links : (stack : List PartialEntry) → length (shapes stack) ≡ length stack
-length_links [] = refl
-length_links (w ∷ stack) = let e = length_links stack in omega (arith, e)
+pub use Rattle.dvg_make.proofs.Turns.{calls_it, apart_moved, reached, links_push, last_push, are_moved, begun_ok, begun_present, called_moved, refused, as_bar, not_err, if_err_same, walks_last, none_here, finished_new, making_finished, present_finished, first_fault, first_ok, first_present, called_none}
 
 slice_links : (stack : List PartialEntry) (i : ℕ) (w : PartialEntry) → slice_get stack i ≡ Some w → slice_get (shapes stack) i ≡ Some (shape_of w)
 slice_links [] i w e = absurd cc
@@ -49,23 +42,13 @@ module _ (rom : Rom) (from : List Entry) (root : ℕ × Key) (done : List Entry)
   -- what it calls is not begun
   module _ (new : PartialEntry) (addr : ℕ) (w : IsWaiting rom done partial new addr) where
     crowded_out : NotBegun done (stack ++ new ∷ []) addr new.cursor.known.scale cause.TooManyEntries → CauseAt rom done (shapes (stack ++ new ∷ [])) new.cursor.at new.cursor.known cause.TooManyEntries
-    crowded_out b =
-        let long = length_links (stack ++ new ∷ []) in (
-          shape_of (start addr new.cursor.known.scale),
-          calls_it rom from root done stack partial h new addr w,
-          w.none,
-          λ c. b.1 (contained (stack ++ new ∷ []) (start addr new.cursor.known.scale) c),
-          record { unique = h.is_done.unique; unmade = are_unmade done (stack ++ new ∷ []) (apart_moved rom from root done stack partial h new addr w); many = omega (arith, long, b.0) },
-        )
+    crowded_out b = grind (arith, common_steps, (calls_it rom from root done stack partial h new addr w), (contained (stack ++ new ∷ []) (start addr new.cursor.known.scale)), (are_unmade done (stack ++ new ∷ []) (apart_moved rom from root done stack partial h new addr w)))
 
     not_begun : (why : EntryCause) → NotBegun done (stack ++ new ∷ []) addr new.cursor.known.scale why → CauseAt rom done (shapes (stack ++ new ∷ [])) new.cursor.at new.cursor.known why
     not_begun why b = grind (arith, crowded_out, calls_it, shape_of, slice_links)
 
     pub tells_not_begun : (chain : List PartialEntry) → chain ≡ stack ++ new ∷ [] → (obstacle : Obstacle) (why : EntryCause) → obstacle ≡ record { cursor = new.cursor; cause = why } → NotBegun done chain addr new.cursor.known.scale why → TellsObstacle rom done root chain obstacle
-    tells_not_begun chain e obstacle why s b =
-        subst (λ c. TellsObstacle rom done root c obstacle) (sym e)
-        (subst (TellsObstacle rom done root (stack ++ new ∷ [])) (sym s)
-        (tells_last rom done root stack new (are_moved rom done root stack partial new (λ j. record { addr = sym w.same_addr j; key = sym w.same_key j }) h.linked) new.cursor.at new.cursor.known why (reached rom done new w.partial) (not_begun why (subst (λ c. NotBegun done c addr new.cursor.known.scale why) e b))))
+    tells_not_begun chain e obstacle why s b = rw (e, s) (tells_last rom done root stack new (are_moved rom done root stack partial new (λ j. record { addr = sym w.same_addr j; key = sym w.same_key j }) h.linked) new.cursor.at new.cursor.known why (reached rom done new w.partial) (not_begun why (rw e at b)))
 
 -- where nothing is begun
 pub room_of_none : (done : List Entry) (chain : List PartialEntry) → chain ≡ [] → length done ≤ MOST_ENTRIES → length done + length chain ≤ MOST_ENTRIES

@@ -1,12 +1,62 @@
 -- What begins, and what each turn gives.
-use Rattle.dvg_make.proofs.Common.{◌≡◌, ℕ, zero, suc, Some, ◌+◌, ◌<◌, ◌≤◌, List, [], ◌∷◌, ◌++◌, length, None, refl, sym, ap, ◌∙◌, subst, arith, inl, inr, length-append, Result, false, Rom, rom_word, IsKey, entry_at, Entry, Key, ADDRESS_END, MOST_ENTRIES, MOST_WORDS, PartialEntry, start, IsPartial, IsWaiting, IsMaking, Apart, IsPresent, IsCalled, Chain, IsAim, NoAim, Bars, IsDone, NotBegun, InProgress, EntryCause, shape_of, listed_at, OnOk, IfErr, IsErrAnd, EntryFault, Unstraight, Deep, TooManyWords, TooManyEntries, Memory, AllCalled, IsBegun, CallsAt, Precedes, entry_fault, slice_get}
+use Rattle.dvg_make.proofs.Common.{◌≡◌, ℕ, zero, suc, Some, ◌+◌, ◌<◌, ◌≤◌, List, [], ◌∷◌, ◌++◌, length, None, refl, sym, ap, ◌∙◌, subst, arith, inl, inr, length-append, Result, false, Rom, rom_word, IsKey, entry_at, Entry, Key, ADDRESS_END, MOST_ENTRIES, MOST_WORDS, PartialEntry, start, IsPartial, IsWaiting, IsMaking, Apart, IsPresent, IsCalled, Chain, IsAim, NoAim, Bars, IsDone, NotBegun, InProgress, EntryCause, shape_of, listed_at, OnOk, IfErr, IsErrAnd, EntryFault, TooManyEntries, Memory, AllCalled, IsBegun, CallsAt, Precedes, entry_fault, slice_get, Bool, is_at, is_some, entry_of, at_holds, at_means, AllByRecursion, Extends, HasEntry, IsUnique}
+use Rattle.std.specs.Set.{is_member}
+use Rattle.std.specs.Cmp.{IsEquivalence}
+use Rattle.std.specs.List.{IsDistinct}
+use Rattle.std.proofs.lemmas.Map.Made.{length-le_from_is_member}
 use Rattle.std.specs.Result.{is_err}
 use Rattle.dvg_make.specs.declared.account.EntryCause.TheVariants as cause
-use Rattle.dvg_make.proofs.Linking.{are_moved, are_pushed}
-use Rattle.dvg_make.proofs.Onward.{reached}
-use Rattle.dvg_make.proofs.Crowds.{crowded}
+pub use Rattle.dvg_make.proofs.Linking.{are_moved, are_pushed, links_push, last_push}
+pub use Rattle.dvg_make.proofs.Onward.{reached}
 use Rattle.dvg_make.proofs.Ends.{made_some}
-use Rattle.dvg_make.proofs.Chains.{none_deep, forced_begun, apart_pop, apart_push, walks_pop, walks_push, making_append, making_left, making_last, IsNeeded, needed_grows}
+pub use Rattle.dvg_make.proofs.Chains.{none_deep, forced_begun, apart_pop, apart_push, walks_pop, walks_push, making_append, making_left, making_last, IsNeeded, needed_grows, walks_last, none_here, finished_new, making_finished, present_finished}
+
+-- ---- a list that has so many different entries has at least that length
+
+-- whether two entries have the same address and key
+abbrev same : Entry → Entry → Bool
+same e f = is_at e.addr e.key f
+
+same_law : IsEquivalence same
+same_law = record { refl = λ e. at_holds e.addr e.key e refl refl; symm = λ e f. grind (arith, at_means, at_holds); congr = λ e f g is. grind (arith, at_means, at_holds) }
+
+member_is : (l : List Entry) (e : Entry) → is_member same l e ≡ is_some (entry_at l e.addr e.key)
+member_is [] e = refl
+member_is (x ∷ l) e = grind (arith, (member_is l e), entry_at, is_member)
+
+none_same : (l : List Entry) (e : Entry) → entry_at l e.addr e.key ≡ None → AllByRecursion (λ f. same e f ≡ false) l
+none_same [] e none = tt
+none_same (x ∷ l) e none = grind (arith, entry_at, is_at, (none_same l e))
+
+-- the entries and the shapes in the making, all as entries
+abbrev whole : List Entry → List PartialEntry → List Entry
+whole done [] = done
+whole done (w ∷ stack) = entry_of w.addr w.key w.cursor.known w.lit ∷ whole done stack
+
+length_whole : (done : List Entry) (stack : List PartialEntry) → length (whole done stack) ≡ length done + length stack
+length_whole done [] = omega arith
+length_whole done (w ∷ stack) = let e = length_whole done stack in omega (arith, e)
+
+present : (done : List Entry) (stack : List PartialEntry) (addr : ℕ) (key : Key) (f : Entry) → entry_at (whole done stack) addr key ≡ Some f → IsPresent done stack addr key
+present done [] addr key f e = inl (f, e)
+present done (w ∷ stack) addr key f e = grind (arith, is_at, at_means, entry_at, (present done stack addr key f))
+
+distinct : (done : List Entry) (stack : List PartialEntry) → IsUnique done → Apart done stack → IsDistinct same (whole done stack)
+unfolding IsDistinct
+distinct [] [] unique apart = tt
+distinct (e ∷ done) [] unique apart = (none_same done e unique.0, distinct done [] unique.1 tt)
+distinct done (w ∷ stack) unique apart = (none_same (whole done stack) (entry_of w.addr w.key w.cursor.known w.lit) (grind (arith, (present done stack w.addr w.key))), distinct done stack unique apart.2)
+
+making_found : (made : List Entry) (most n : ℕ) (stack : List PartialEntry) (addr : ℕ) (key : Key) → Chain made most stack n → IsMaking stack addr key → HasEntry made addr key
+making_found made most n [] addr key h m = absurd m
+making_found made most n (v ∷ stack) addr key h m = grind (arith, (making_found made h.0.words n stack addr key h.3))
+
+crowded : (done made : List Entry) (most n : ℕ) (stack : List PartialEntry) → IsUnique done → Apart done stack → Extends done made → Chain made most stack n → length done + length stack ≤ length made
+crowded done made most n stack unique apart ext chain =
+    let few = length-le_from_is_member same_law (whole done stack) made (distinct done stack unique apart) (λ e m. grind (arith, member_is, is_some, (present done stack e.addr e.key), ext, (making_found made most n stack e.addr e.key chain))) in
+    omega (arith, few, length_whole done stack)
+
+-- ---- what begins, and what each turn gives
 
 making_slice : (stack : List PartialEntry) (i : ℕ) (w : PartialEntry) (addr : ℕ) (key : Key) → slice_get stack i ≡ Some w → w.addr ≡ addr → w.key ≡ key → IsMaking stack addr key
 making_slice [] i w addr key e a k = cc e
@@ -57,14 +107,7 @@ module _ (rom : Rom) (from : List Entry) (root : ℕ × Key) (done : List Entry)
   called_begun = grind (arith, (reached rom done new w.partial), (making_left (stack ++ new ∷ []) (start addr at_key ∷ []) new.addr new.key (making_last stack new new.addr new.key refl refl)), (start addr at_key), (making_last stack new new.addr new.key refl refl), (rom_word rom))
 
   needed_begun : (a : ℕ) (k : Key) → IsPresent done ((stack ++ new ∷ []) ++ start addr at_key ∷ []) a k → IsNeeded rom from root done ((stack ++ new ∷ []) ++ start addr at_key ∷ []) a k
-  needed_begun a k p = by_case p
-    where
-      old : IsPresent done (stack ++ partial ∷ []) a k → IsNeeded rom from root done ((stack ++ new ∷ []) ++ start addr at_key ∷ []) a k
-      old x = needed_grows rom from root done done (stack ++ partial ∷ []) ((stack ++ new ∷ []) ++ start addr at_key ∷ []) (λ y z e q. q) present_begun a k (h.needed a k x)
-
-      by_case : IsPresent done ((stack ++ new ∷ []) ++ start addr at_key ∷ []) a k → IsNeeded rom from root done ((stack ++ new ∷ []) ++ start addr at_key ∷ []) a k
-      by_case (inl has) = old (inl has)
-      by_case (inr m) = grind (arith, old, was_begun, start, called_begun, making_append)
+  needed_begun a k p = grind (arith, was_begun, start, called_begun, making_append, (needed_grows rom from root done done (stack ++ partial ∷ []) ((stack ++ new ∷ []) ++ start addr at_key ∷ []) (λ y z e q. q) present_begun a k))
 
   -- the item at which it waits
   pub calls_it : CallsAt rom new.cursor.at new.cursor.known (shape_of (start addr at_key))
@@ -100,31 +143,20 @@ module _ (rom : Rom) (from : List Entry) (root : ℕ × Key) (done : List Entry)
   refuses at (cause.Ring index) b = none_deep rom from root done stack partial h new addr w (making_slice (stack ++ new ∷ []) index b.0 addr at_key b.1 b.2 b.3)
   refuses at cause.TooManyEntries b = none_large b.0 b.1
   refuses at cause.Memory b = tt
-  refuses at cause.RootOutside b = absurd b
-  refuses at cause.Missing b = absurd b
-  refuses at cause.Odd b = absurd b
-  refuses at cause.Halt b = absurd b
-  refuses at cause.BeamUnknown b = absurd b
-  refuses at cause.ScaleUnknown b = absurd b
-  refuses at (cause.Deep to key) b = absurd b
-  refuses at (cause.TooManyWords words) b = absurd b
+  refuses at why b = absurd b
 
 -- nothing is begun
 pub called_none : (rom : Rom) (from : List Entry) (root : ℕ × Key) (chain : List PartialEntry) → chain ≡ [] → AllCalled rom from root from chain
 called_none rom from root chain e = grind (arith)
 
 pub as_bar : (rom : Rom) (from : List Entry) (root : ℕ × Key) (f : EntryFault) → NoAim rom from root → Bars rom from root f
-as_bar rom from root (Unstraight word) n = n
-as_bar rom from root Deep n = n
-as_bar rom from root TooManyWords n = n
 as_bar rom from root TooManyEntries n = λ made m. absurd (n made m)
 as_bar rom from root Memory n = tt
+as_bar rom from root f n = n
 
 module _ (rom : Rom) (from : List Entry) (root : ℕ × Key) (done : List Entry) (stack : List PartialEntry) (partial : PartialEntry) (h : InProgress rom from root done (stack ++ partial ∷ [])) (new : PartialEntry) (addr : ℕ) (w : IsWaiting rom done partial new addr) (pushed : List PartialEntry) (e : pushed ≡ stack ++ new ∷ []) where
   pub begun_ok : (begun : List PartialEntry) → IsBegun done pushed begun addr new.cursor.known.scale → InProgress rom from root done begun
-  begun_ok begun b =
-      subst (InProgress rom from root done) (sym (b.stack ∙ ap (λ (s : List PartialEntry). s ++ start addr new.cursor.known.scale ∷ []) e))
-      (making_begun rom from root done stack partial h new addr w (λ m. b.other (subst (λ s. IsMaking s addr new.cursor.known.scale) (sym e) m)) (subst (λ (s : List PartialEntry). length done + length s < MOST_ENTRIES) e b.few))
+  begun_ok begun b = let x = rw e at b in rw x.stack (making_begun rom from root done stack partial h new addr w x.other x.few)
 
   pub begun_present : (begun : List PartialEntry) → IsBegun done pushed begun addr new.cursor.known.scale → (a : ℕ) (k : Key) → IsPresent done (stack ++ partial ∷ []) a k → IsPresent done begun a k
   begun_present begun b a k p = subst (λ s. IsPresent done s a k) (sym (b.stack ∙ ap (λ (s : List PartialEntry). s ++ start addr new.cursor.known.scale ∷ []) e)) (present_begun rom from root done stack partial h new addr w a k p)
@@ -133,9 +165,7 @@ module _ (rom : Rom) (from : List Entry) (root : ℕ × Key) (done : List Entry)
   refused at why b = refuses rom from root done stack partial h new addr w at why (subst (λ s. NotBegun done s addr new.cursor.known.scale why) e b)
 
 pub first_ok : (rom : Rom) (done : List Entry) (addr : ℕ) (key : Key) → IsDone rom done → addr < ADDRESS_END → IsKey key → entry_at done addr key ≡ None → (old begun : List PartialEntry) → old ≡ [] → IsBegun done old begun addr key → InProgress rom done (addr, key) done begun
-first_ok rom done addr key h near is none old begun e b0 =
-    let b : IsBegun done [] begun addr key = subst (λ s. IsBegun done s begun addr key) e b0 in
-    subst (InProgress rom done (addr, key) done) (sym b.stack) (first_begun rom done addr key h near is none (omega (arith, b.few)))
+first_ok rom done addr key h near is none old begun e b = let x = rw e at b in rw x.stack (first_begun rom done addr key h near is none (omega (arith, x.few)))
 
 pub on_ok : {T E : Type 0} (r : Result T E) (P : Type 0) → P → OnOk r P
 on_ok r P h = grind (arith)

@@ -4,6 +4,7 @@
 ghost use Rattle.dvg_make.specs.Laws.{OneLeast, OneMade, OneFramesMade, GoodInWindow, NoneBetter, WorkedExampleMade};
 
 /// Points have one least box at most.
+#[tactic(auto, using(crate::proofs::Ends::one_least))]
 pub fn one_least()
     ensures { OneLeast }
 {}

@@ -27,6 +27,7 @@ impl Model for MadeEntries {
     ghost invariant = { λ done. IsKeyed done.found.entries };
 }
 
+#[tactic(auto, using(crate::proofs::Pairs::pairs))]
 impl MadeEntries {
     /// No entry so far.
     pub fn new(alloc: Global) -> MadeEntries

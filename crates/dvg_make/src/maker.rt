@@ -75,6 +75,7 @@ impl Making {
 }
 
 /// Makes the entries of all roots, of all that frames call, and of all that these need.
+#[tactic(auto, using(crate::proofs::Turns::if_err_same))]
 fn make_all(
     alloc: Global,
     rom: &RomImage,
@@ -116,6 +117,7 @@ fn certificate_of(alloc: Global, map: RomMap, mut done: MadeEntries) -> Result<M
 
 /// Makes what [`make_for_frames`] makes. The refusal comes with the shapes in the making.
 #[inline(never)]
+#[tactic(auto, using(crate::proofs::Causes::stuck_cause))]
 pub fn make_indexed(
     alloc: Global,
     rom: &RomImage,
@@ -145,6 +147,7 @@ pub fn make_indexed(
 /// frame accepted; 62 by the number of entries only where the certificate would be too long, and then another one may be accepted.
 /// A root outside the ROM or with a scale over 15 is 60. 63 comes where there was no memory. What is lit at an absolute place may
 /// lie anywhere: no window is asked. Takes memory for the entries and for the shapes in the making.
+#[tactic(auto, using(crate::proofs::Causes::stuck_cause))]
 pub fn make_for_frames(
     alloc: Global,
     rom: &RomImage,
@@ -171,6 +174,7 @@ pub fn make_for_frames(
 /// Refuses 60 to 62 only where there is no such certificate, and 63 where there was no memory. The first fault met is answered,
 /// as [`make_for_frames`] does: roots and items in order, an entry that an item needs before the item. A shape is walked once for
 /// each scale at which it is needed, and a long one no further than to where it is known what comes.
+#[tactic(auto, using(crate::proofs::Collecting::as_make_fault, crate::proofs::Causes::root_cause))]
 pub fn make(alloc: Global, rom: &RomImage, roots: &[(u16, Key)]) -> Result<Cert, MakeFault>
     ensures ok { IfOk result (λ cert. Made rom.now roots.now cert.entries) }
     ensures map { IfOk result (λ cert. cert.map ≡ rom.now.map) }

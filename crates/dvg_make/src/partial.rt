@@ -120,6 +120,7 @@ impl PartialEntry {
     /// The whole entry, by the tail from the next item on. `None` if what the tail lights would lie at an unknown place, or if
     /// the depth, or one word more than the words, would pass the limit.
     #[inline(never)]
+    #[tactic(auto, using(crate::proofs::Joining::ends_by))]
     fn end_by(&self, machine: Machine, tail: &Entry) -> Option<Entry>
         requires here { IsSoundCursor self.now.cursor }
         requires near { self.now.cursor.at < ADDRESS_END }
@@ -138,6 +139,7 @@ impl PartialEntry {
     }
 
     /// The whole entry, if a tail from the next item on was kept and can be used.
+    #[tactic(auto, using(crate::proofs::Joining::ends_by_one))]
     fn known_end(&self, machine: Machine, tails: &MadeEntries) -> Option<Entry>
         requires here { IsSoundCursor self.now.cursor }
         requires near { self.now.cursor.at < ADDRESS_END }

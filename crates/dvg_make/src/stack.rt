@@ -70,6 +70,7 @@ impl Stack {
     }
 
     /// The shape that was pushed last.
+    #[tactic(auto, using(crate::proofs::Stacks::top_is))]
     pub fn top(&self) -> Option<PartialEntry>
         ensures some { IfSome result (λ partial. (rest : List PartialValue) × (self.now ≡ rest ++ partial ∷ [])) }
         ensures none { IfNone result (self.now ≡ []) }

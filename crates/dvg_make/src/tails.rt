@@ -35,6 +35,7 @@ fn is_long(from: u16, to: u16) -> bool {
 }
 
 /// Adds the empty partial entry at a word address and a scale, if the address is a mark.
+#[tactic(auto, using(crate::proofs::Chains::walks_push, crate::proofs::Turns::start_walk))]
 fn push_mark(marks: &mut Vec<PartialEntry>, at: u16, scale: Key) -> Result<(), AllocError>
     requires near { at < ADDRESS_END }
     requires scale { IsKey scale }
@@ -48,6 +49,7 @@ fn push_mark(marks: &mut Vec<PartialEntry>, at: u16, scale: Key) -> Result<(), A
 
 impl Making {
     /// The entry for exactly this scale that an instruction calls, if it is made.
+    #[tactic(auto, using(dvg_items::proofs::Listed::listed_at))]
     fn made_callee(&self, instr: &Instr, scale: Key) -> Option<Entry>
         ensures { IfSome result (λ callee. Contains self.now.done callee) }
     {
@@ -98,6 +100,7 @@ impl Making {
 
     /// Keeps the tails at the marks of a made shape, if it is long. The last one comes first, so that each other one takes only the
     /// items up to the next mark. `end` is the word address at which the making of the shape ended.
+    #[tactic(auto, using(crate::proofs::Chains::walks_last, crate::proofs::Chains::walks_pop))]
     pub fn keep_tails(&mut self, rom: &RomImage, shape: &Entry, end: u16) -> Result<(), AllocError>
         requires right { IsRightFor rom.now self.old }
         requires key { IsKey shape.now.key }

@@ -21,6 +21,7 @@ pub fn place_line_of(entry: &EntryPlaces) -> EntryLine
     line
 }
 
+#[tactic(auto, using(crate::proofs::Lines::numbers))]
 fn push_places(line: &mut EntryLine, places: &CallPlaces)
     requires { array_vec_len line.old ≤ 73 }
     ensures text { line.new.items ≡ line.old.items ++ places_text places.now }

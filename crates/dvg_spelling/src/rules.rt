@@ -169,6 +169,7 @@ fn push_row(text: &mut String, rule: &Rule) -> Result<(), AllocError>
 }
 
 /// Adds a line for each of these rules.
+#[tactic(auto, using(std::proofs::lemmas::Grind::common_steps, crate::proofs::Tables::rows_next))]
 fn push_rows(text: &mut String, rules: &[Rule]) -> Result<(), AllocError>
     ensures { OnOk result (string_bytes text.new ≡ string_bytes text.old ++ rows_text rules.now) }
 {

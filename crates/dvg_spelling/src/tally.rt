@@ -107,6 +107,7 @@ fn push_refused(line: &mut Summary, number: u32, count: u32)
 }
 
 /// How many were refused by each number that has any.
+#[tactic(auto, using(std::proofs::lemmas::Grind::common_steps, crate::proofs::Tallies::refused_next))]
 fn push_refusals(line: &mut Summary, refused: &[u32; 256])
     requires { length line.old.items ≤ 19 }
     ensures text { line.new.items ≡ line.old.items ++ refused_texts 0 refused.now }

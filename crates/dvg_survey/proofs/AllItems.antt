@@ -12,11 +12,7 @@ module _ (kind : Kind) (word : Source) (first : ℕ) where
   -- no more stand than all
   pub no_more : (a : List Item) → AreAll kind word first a → (b : List Item) → Stand kind word first b → length a < length b → ⊥
   no_more a all [] k lt = omega (arith, lt)
-  no_more a all (j ∷ b) k lt =
-      ⊎_elim
-      (λ less. no_more a all b (stand_before b j.at k.0) less)
-      (λ le. all.last j (subst (λ x. Stand kind word first (j ∷ x)) (sym (same_stand a b all.stand (stand_before b j.at k.0) (omega (arith, lt, le)))) k))
-      (cases_lt (length a) (length b))
+  no_more a all (j ∷ b) k lt = grind (arith, (no_more a all b (stand_before b j.at k.0)), (all.last j), (same_stand a b all.stand (stand_before b j.at k.0)))
 
   -- what all items keep, those up to any item that stands keep
   within : (P : List Item → Type 0) → ((i : Item) (rest : List Item) → P (i ∷ rest) → P rest) → (a b : List Item) → Stand kind word first a → Stand kind word first b → length b ≤ length a → P a → P b

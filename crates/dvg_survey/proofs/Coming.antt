@@ -1,6 +1,7 @@
 -- What a frame comes to, link after link: each link is a step, and in the end no entry that the frame comes to is left out.
-use Rattle.dvg_survey.proofs.Common.{Source, ◌≡◌, ℕ, ◌<◌, List, [], ◌∷◌, length, sym, subst, Option, None, Some, slice_get, slice_get_within, arith, AllByRecursion, IfSome, Rom, Entry, entry_at, Item, Context, callee, all_append, listed_at, Call, Stand, AreCalls, call_of, calls_among, Link, IsStep, all_left, all_right, Calls}
+use Rattle.dvg_survey.proofs.Common.{Source, ◌≡◌, ℕ, ◌<◌, List, [], ◌∷◌, ◌++◌, length, sym, subst, Option, None, Some, slice_get_within, arith, AllByRecursion, IfSome, Rom, Entry, entry_at, Item, Context, callee, all_append, listed_at, Call, Stand, AreCalls, call_of, calls_among, Link, IsStep, all_left, all_right, Calls}
 use Rattle.dvg_survey.proofs.AllItems.{stand_before, up_to}
+use Rattle.dvg_survey.proofs.Linking.{at_still}
 
 -- ---- the calls of all items
 
@@ -23,17 +24,20 @@ module _ (c : Context) (word : Source) (first : ℕ) where
         let own = up_to c.kind word first (λ items. AllByRecursion P (calls_among c items)) (λ i rest. all_left P (calls_among c rest) (call_of i (callee c rest i.instr))) all are (subst (AllByRecursion P) is h) (k.item ∷ k.earlier) (k.leads, k.stands) in
         grind (arith, calls_among, call_of, callee, (all_right P (calls_among c k.earlier) (call_of k.item (callee c k.earlier k.item.instr)) own))
 
+-- its entry is the one that the list has at its address and key
+pub call_named : (c : Context) (word : Source) (first : ℕ) (call : Call) → Calls c word first call → entry_at c.list call.entry.addr call.entry.key ≡ Some call.entry
+call_named c word first call k = grind (arith, listed_at, entry_at)
+
 -- ---- steps from link to link
 
 module _ (rom : Rom) (words : List ℕ) (list : List Entry) where
-  -- the entry of a step is the one that the list has at its address and key
   pub step_named : (links : List Link) (from : Option ℕ) (call : Call) → IsStep rom words list links from call → entry_at list call.entry.addr call.entry.key ≡ Some call.entry
   step_named links from call s = grind (arith, listed_at, entry_at)
 
-  -- with links that have all of these it is a step too
-  pub step_still : (links new : List Link) → ((k : ℕ) (x : Link) → slice_get links k ≡ Some x → slice_get new k ≡ Some x) → (from : Option ℕ) (call : Call) → IsStep rom words list links from call → IsStep rom words list new from call
-  step_still links new still None call s = s
-  step_still links new still (Some j) call s = (s.0, still j s.0 s.1, s.2)
+  -- with more links it is a step too
+  pub step_still : (links more : List Link) (from : Option ℕ) (call : Call) → IsStep rom words list links from call → IsStep rom words list (links ++ more) from call
+  step_still links more None call s = s
+  step_still links more (Some j) call s = (s.0, at_still links more j s.0 s.1, s.2)
 
   pub step_within : (links : List Link) (from : Option ℕ) (call : Call) → IsStep rom words list links from call → IfSome from (λ j. j < length links)
   step_within links None call s = tt

@@ -1,6 +1,5 @@
 pub mod Common
 pub mod AllItems
-pub mod Losing
 pub mod Walking
 pub mod AllShapes
 pub mod Marks

@@ -15,18 +15,10 @@ module _ (w : Window) (x_low x_high y_low y_high a b c d x_min x_max y_min y_max
   InRanges = (a ≤ℤ x) × (x ≤ℤ b) × (c ≤ℤ y) × (y ≤ℤ d)
 
   in_ranges : InRanges → LitInWindow w (box_extent (Span x_low x_high y_low y_high)) (whole_place x y)
-  in_ranges (l, r, m, t) =
-      let l = (left x).0 l in
-      let r = (right x).0 r in
-      let m = (bottom y).0 m in
-      let t = (top y).0 t in (
-        record { left = omega (arith, ints, l, x_min_is); right = omega (arith, ints, r, x_max_is, box.0.2); bottom = omega (arith, ints, m, y_min_is); top = omega (arith, ints, t, y_max_is, box.1.2) },
-        (record { left = omega (arith, ints, l, x_min_is, box.0.2); right = omega (arith, ints, r, x_max_is); bottom = omega (arith, ints, m, y_min_is, box.1.2); top = omega (arith, ints, t, y_max_is) }, tt),
-      )
+  in_ranges h = grind (arith, ints, (left x), (right x), (bottom y), (top y))
 
   ranges_in : LitInWindow w (box_extent (Span x_low x_high y_low y_high)) (whole_place x y) → InRanges
-  ranges_in (low, (high, more)) =
-      ((left x).1 (omega (arith, ints, low.left, x_min_is)), (right x).1 (omega (arith, ints, high.right, x_max_is)), (bottom y).1 (omega (arith, ints, low.bottom, y_min_is)), (top y).1 (omega (arith, ints, high.top, y_max_is)))
+  ranges_in h = grind (arith, ints, (left x), (right x), (bottom y), (top y))
 
   pub box_places : (places : CallPlaces) (lit : LitBox) → lit ≡ Span x_low x_high y_low y_high → HasPlace places x y ↔ InRanges
       → HasPlace places x y ↔ LitInWindow w (box_extent lit) (whole_place x y)

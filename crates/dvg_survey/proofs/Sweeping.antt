@@ -1,18 +1,13 @@
 -- The entries from which calls lead to a shape that lights outside the window, found sweep by sweep.
-use Rattle.dvg_survey.proofs.Common.{get_or-set_other, ◌≡◌, ℕ, ◌+◌, ◌<◌, Bool, true, false, List, [], ◌∷◌, ◌++◌, length, get_or, take, Option, Some, None, refl, sym, ap, ◌∙◌, subst, arith, ◌⊎◌, inl, inr, ⊎_elim, Contains, IfSome, Rom, rom_word, cell_at, Holds, Entry, entry_at, Item, Shape, Cursor, LeadsTo, Context, shape_context, callee, scale_before, target, seen_at, IsSomeCertificate, listed_claim, Seen, Call, AreAll, LeadsOn, KeyedWord, with_word, AreNone, IsSeenAt, get_or_default, Contains-append_left, Contains-push, Contains-push_cases, IfNone, IsPermutation, Window, Missing, Odd, IsOnlyAt, HasNoneAt, IsRising, place_before, extent, LitInWindow, named_listed, ShapeKeeps, CellKeeps, ShapePlaceKeeps, EntryPlaces, ArePlaces, AreAllPlaces, IsNotEmpty, ShapeKeepsWindow, is_broken, IsUnbroken, IsCleanItem, IsClean, IsFaulty, Breaks, AllBreak, IsSwept, TellsBroken}
-use native.Mathlib.Numerals.{unary_clauses}
-use Rattle.std.proofs.Math.Seq.{take-suc}
+use Rattle.dvg_survey.proofs.Common.{get_or-set_other, Format, Instr, ◌≡◌, ℕ, ◌+◌, ◌<◌, Bool, true, false, List, [], ◌∷◌, ◌++◌, length, get_or, take, Option, Some, None, refl, sym, ap, ◌∙◌, subst, arith, ◌⊎◌, inl, inr, ⊎_elim, Contains, IfSome, Rom, rom_word, cell_at, Holds, Entry, entry_at, Item, Shape, Cursor, Context, shape_context, callee, scale_before, target, seen_at, IsSomeCertificate, listed_claim, Seen, Call, LeadsOn, KeyedWord, with_word, AreNone, IsSeenAt, get_or_default, Contains-append_left, Contains-push, Contains-push_cases, IfNone, IsPermutation, Window, IsOnlyAt, HasNoneAt, IsRising, place_before, extent, LitInWindow, named_listed, EntryPlaces, ArePlaces, AreAllPlaces, IsNotEmpty, ShapeKeepsWindow, IsSoundStep, Step, length-append, step_past, is_broken, IsUnbroken, IsCleanItem, IsClean, IsFaulty, Breaks, AllBreak, IsSwept, TellsBroken}
+use Rattle.std.proofs.lemmas.List.{take_more}
 use Rattle.std.proofs.Math.ListN.{get_or-eq_default}
 use Rattle.std.proofs.lemmas.Grind.{get_or-set_at}
-use Rattle.std.proofs.lemmas.List.{length-append}
 use Rattle.std.proofs.lemmas.List.Sorted.{Contains-permutation, IsPermutation-sym}
-use Rattle.dvg_words.specs.declared.instruction.Cell.{Cell}
 use Rattle.dvg_cert.proofs.OnlyEntries.{found}
-use Rattle.dvg_check.specs.declared.fault.Mode.TheVariants.{Bound}
-use Rattle.dvg_check.specs.declared.fault.ShapeWhy.TheVariants as shape
 use Rattle.dvg_survey.proofs.AllItems.{up_to}
 use Rattle.dvg_survey.proofs.Marks.{here_or_other, others_among}
-use Rattle.dvg_survey.proofs.Walking.{Walked, seen_is}
+use Rattle.dvg_survey.proofs.Walking.{Walked, HoldsOfAll, Past, past, seen_is}
 
 -- ---- the items of one shape
 
@@ -25,12 +20,13 @@ module _ (w : Window) (rom : Rom) (list : List Entry) (marks : List Bool) (e : E
   abbrev c : Context
   c = shape_context rom.machine list e
 
-  pub all_clean : (all : List Item) → AreAll Shape (rom_word rom) e.addr all → CleanItems w marks c all → IsClean w rom list marks e
-  all_clean all are h earlier i leads stands = (up_to Shape (rom_word rom) e.addr (CleanItems w marks c) (λ j rest p. p.0) all are h (i ∷ earlier) (leads, stands)).1
+  pub all_clean : HoldsOfAll c (rom_word rom) e.addr (CleanItems w marks c) → IsClean w rom list marks e
+  all_clean (all, are, h) earlier i leads stands = (up_to Shape (rom_word rom) e.addr (CleanItems w marks c) (λ j rest p. p.0) all are h (i ∷ earlier) (leads, stands)).1
 
-  module _ (items : List Item) (here : Cursor) (walked : Walked c (rom_word rom) e.addr items here) (v : Seen) (s : IsSeenAt rom.machine list Shape (rom_word rom) here v) where
-    pub clean_on : CleanItems w marks c items → IsCleanItem w marks v → CleanItems w marks c (v.item ∷ items)
-    clean_on h clean = (h, subst (IsCleanItem w marks) (seen_is c (rom_word rom) e.addr items here walked v s) clean)
+  pub clean_past : (here : Cursor) → Walked c (rom_word rom) e.addr (CleanItems w marks c) here → (v : Seen) → IsSeenAt rom.machine list Shape (rom_word rom) here v → (step : Step) → step ≡ step_past Shape v → IsSoundStep step → IsCleanItem w marks v
+      → Past c (rom_word rom) e.addr (CleanItems w marks c) step
+  clean_past here k v s step goes sound clean =
+      past c (rom_word rom) e.addr (CleanItems w marks c) here k v s (CleanItems w marks c) step goes sound (k.holds, subst (IsCleanItem w marks) (seen_is c (rom_word rom) e.addr (CleanItems w marks c) here k v s) clean)
 
   -- ---- what an entry that is not clean breaks
 
@@ -63,8 +59,9 @@ only list rising e f he hf a k = by (entry_at list e.addr e.key) (found list e.a
     by None h = absurd (h.1 e he refl refl)
     by (Some g) h = h.0.3 f hf a k ∙ sym (h.0.3 e he refl refl)
 
-pub take_next : (es : List Entry) (n : ℕ) (d : Entry) → n < length es → take (n + 1) es ≡ take n es ++ get_or es n d ∷ []
-take_next es n d lt = simp unary_clauses (take-suc es n d lt)
+-- what holds of each entry and of one more
+over_push : (P : Entry → Type 0) (es : List Entry) (e : Entry) → ((f : Entry) → Contains es f → P f) → P e → (f : Entry) → Contains (es ++ e ∷ []) f → P f
+over_push P es e old new f h = ⊎_elim (old f) (λ here. subst P here new) (Contains-push_cases es e f h)
 
 module _ (w : Window) (rom : Rom) (list : List Entry) where
   more_break : IsSomeCertificate list → (old new : List Bool) (e : Entry) → new ≡ with_word old (e.addr, e.key) → Contains list e → Breaks w rom list e
@@ -77,43 +74,38 @@ module _ (w : Window) (rom : Rom) (list : List Entry) where
 
   -- ---- a sweep
 
-  -- over one entry more, a clean one
-  pub kept_on : (swept next left more : List Entry) (old new marks : List Bool) (e : Entry) → next ≡ swept ++ e ∷ [] → more ≡ left ++ e ∷ [] → marks ≡ new → IsClean w rom list new e
-      → IsSwept w rom list swept left old new → IsSwept w rom list next more old marks
-  kept_on swept next left more old new marks e next_is more_is same clean s =
-      let all : IsSwept w rom list (swept ++ e ∷ []) (left ++ e ∷ []) old new = record {
-        broken = s.broken;
-        still = s.still;
-        each = λ f h. ⊎_elim
-            (λ was. ⊎_elim (λ k. inl (Contains-append_left left (e ∷ []) f k)) (λ m. inr m) (s.each f was))
-            (λ here. inl (subst (Contains (left ++ e ∷ [])) here (Contains-push left e)))
-            (Contains-push_cases swept e f h);
-        from = λ f h. ⊎_elim (λ was. Contains-append_left swept (e ∷ []) f (s.from f was)) (λ here. subst (Contains (swept ++ e ∷ [])) here (Contains-push swept e)) (Contains-push_cases left e f h);
-        few = omega (arith, s.few, length-append left (e ∷ []), length-append swept (e ∷ []));
-        clean = λ few f h. ⊎_elim
-            (λ was. s.clean (omega (arith, few, length-append left (e ∷ []), length-append swept (e ∷ []))) f was)
-            (λ here. subst (IsClean w rom list new) here clean)
-            (Contains-push_cases swept e f h);
-      } in
-      rw (next_is, more_is, same) all
+  -- over one entry more
+  module _ (swept left more : List Entry) (old new marks : List Bool) (n : ℕ) (d : Entry) (lt : n < length swept) (s : IsSwept w rom list (take n swept) left old new) where
+    abbrev e : Entry
+    e = get_or swept n d
 
-  -- one that is not, which is marked
-  pub marked_on : (swept next left more : List Entry) (old new marks : List Bool) (e : Entry) → next ≡ swept ++ e ∷ [] → more ≡ left → marks ≡ with_word new (e.addr, e.key) → is_broken marks e ≡ true
-      → IsSomeCertificate list → Contains list e → IsFaulty w rom list new e → IsSwept w rom list swept left old new → IsSwept w rom list next more old marks
-  marked_on swept next left more old new marks e next_is more_is adds there cert listed faulty s =
-      let still : (f : Entry) → is_broken new f ≡ true → is_broken marks f ≡ true = still_marked new marks (e.addr, e.key) adds in
-      let all : IsSwept w rom list (swept ++ e ∷ []) left old marks = record {
-        broken = more_break cert new marks e adds listed (faulty_breaks w rom list new e s.broken faulty) s.broken;
-        still = λ f m. still f (s.still f m);
-        each = λ f h. ⊎_elim
-            (λ was. ⊎_elim (λ k. inl k) (λ m. inr (still f m)) (s.each f was))
-            (λ here. inr (subst (λ (x : Entry). is_broken marks x ≡ true) here there))
-            (Contains-push_cases swept e f h);
-        from = λ f h. Contains-append_left swept (e ∷ []) f (s.from f h);
-        few = omega (arith, s.few, length-append swept (e ∷ []));
-        clean = λ few. absurd (omega (arith, few, s.few, length-append swept (e ∷ [])));
-      } in
-      rw (next_is, more_is) all
+    -- a clean one
+    pub kept_on : more ≡ left ++ e ∷ [] → marks ≡ new → IsClean w rom list new e → IsSwept w rom list (take (n + 1) swept) more old marks
+    kept_on more_is same clean =
+        rw (take_more swept n d lt, more_is, same)
+        (record {
+          broken = s.broken;
+          still = s.still;
+          each = over_push (λ f. Contains (left ++ e ∷ []) f ⊎ (is_broken new f ≡ true)) (take n swept) e (λ f was. ⊎_elim (λ k. inl (Contains-append_left left (e ∷ []) f k)) (λ m. inr m) (s.each f was)) (inl (Contains-push left e));
+          from = over_push (Contains (take n swept ++ e ∷ [])) left e (λ f was. Contains-append_left (take n swept) (e ∷ []) f (s.from f was)) (Contains-push (take n swept) e);
+          few = omega (arith, s.few, length-append left (e ∷ []), length-append (take n swept) (e ∷ []));
+          clean = λ few. over_push (IsClean w rom list new) (take n swept) e (s.clean (omega (arith, few, length-append left (e ∷ []), length-append (take n swept) (e ∷ [])))) clean;
+        })
+
+    -- one that is not, which is marked
+    pub marked_on : IsSomeCertificate list → ((f : Entry) → Contains swept f → Contains list f) → more ≡ left → marks ≡ with_word new (e.addr, e.key) → is_broken marks e ≡ true → IsFaulty w rom list new e
+        → IsSwept w rom list (take (n + 1) swept) more old marks
+    marked_on cert listed more_is adds there faulty =
+        let still : (f : Entry) → is_broken new f ≡ true → is_broken marks f ≡ true = still_marked new marks (e.addr, e.key) adds in
+        rw (take_more swept n d lt, more_is)
+        (record {
+          broken = more_break cert new marks e adds (listed e (n, lt, get_or_default swept n e d lt)) (faulty_breaks w rom list new e s.broken faulty) s.broken;
+          still = λ f m. still f (s.still f m);
+          each = over_push (λ f. Contains left f ⊎ (is_broken marks f ≡ true)) (take n swept) e (λ f was. ⊎_elim (λ k. inl k) (λ m. inr (still f m)) (s.each f was)) (inr there);
+          from = λ f h. Contains-append_left (take n swept) (e ∷ []) f (s.from f h);
+          few = omega (arith, s.few, length-append (take n swept) (e ∷ []));
+          clean = λ few. absurd (omega (arith, few, s.few, length-append (take n swept) (e ∷ [])));
+        })
 
   -- ---- sweep after sweep
 
@@ -135,21 +127,19 @@ module _ (w : Window) (rom : Rom) (list : List Entry) where
   pub covered_on : (swept left : List Entry) (old new : List Bool) → Covered swept old → IsSwept w rom list swept left old new → Covered left new
   covered_on swept left old new h s = grind (arith)
 
+  clean_keeps : (marks : List Bool) (e : Entry) → IsClean w rom list marks e → ShapeKeepsWindow w rom list e
+  clean_keeps marks e clean items p at =
+      let lit : (format : Format) (instr : Instr) → cell_at (rom_word rom) p ≡ Holds format instr → LitInWindow w (extent (shape_context rom.machine list e) items instr) (place_before (shape_context rom.machine list e) items) = λ format instr is. (clean items (record { at = p; format = format; instr = instr }) at is).0 in
+      grind (arith, cell_at, lit, seen_at)
+
   -- an entry that is not marked leads to none that breaks the rule
   unbroken_keeps : (marks : List Bool) → ((e : Entry) → Contains list e → is_broken marks e ≡ false → IsClean w rom list marks e)
       → (calls : List Call) (e goal : Entry) → Contains list e → is_broken marks e ≡ false → LeadsOn rom list e calls goal → ShapeKeepsWindow w rom list goal
-  unbroken_keeps marks clean [] e goal listed m leads items p at =
-      subst (λ (x : Entry). ShapePlaceKeeps Bound w rom list x items p shape.OffScreen) leads (by (cell_at (rom_word rom) p) refl)
-    where
-      by : (cell : Cell) → cell_at (rom_word rom) p ≡ cell → CellKeeps shape.Unmapped shape.Odd (λ i. ShapeKeeps Bound w e (seen_at (shape_context rom.machine list e) items i)) p cell shape.OffScreen
-      by Missing is = λ no. cc no
-      by Odd is = λ no. cc no
-      by (Holds format instr) is =
-          (clean e listed m items (record { at = p; format = format; instr = instr }) (subst (λ (x : Entry). LeadsTo Shape (rom_word rom) x.addr items p) (sym leads) at) is).0
-  unbroken_keeps marks clean (call ∷ rest) e goal listed m leads items p at =
+  unbroken_keeps marks clean [] e goal listed m leads = subst (ShapeKeepsWindow w rom list) leads (clean_keeps marks e (clean e listed m))
+  unbroken_keeps marks clean (call ∷ rest) e goal listed m leads =
       let k = leads.0 in
       let unbroken = subst (IsUnbroken marks) k.callee_is (clean e listed m k.earlier k.item k.leads k.stands).1 in
-      unbroken_keeps marks clean rest call.entry goal (named_listed list (target Shape k.item.instr) (scale_before (shape_context rom.machine list e) k.earlier) call.entry k.callee_is) unbroken leads.1 items p at
+      unbroken_keeps marks clean rest call.entry goal (named_listed list (target Shape k.item.instr) (scale_before (shape_context rom.machine list e) k.earlier) call.entry k.callee_is) unbroken leads.1
 
   pub told : (swept left : List Entry) (old new : List Bool) → Covered swept old → IsSwept w rom list swept left old new → length left ≡ length swept → TellsBroken w rom list new
   told swept left old new h s same e listed = grind (arith, unbroken_keeps)
@@ -171,5 +161,4 @@ places_next w rom list given same marks tells n d lt old new p entry adds places
     let e : Entry = get_or given n d in
     let there : Contains given e = (n, lt, get_or_default given n e d lt) in
     let own : ArePlaces w rom list e p.places = places rom list (subst (λ (l : List Entry). Contains l e) same there) (subst (λ (l : List Entry). TellsBroken w rom l marks) same tells) in
-    subst (λ (es : List Entry). AreAllPlaces w rom list es new) (sym (take_next given n d lt))
-    (subst (λ (ps : List EntryPlaces). AreAllPlaces w rom list (take n given ++ e ∷ []) ps) (sym adds) (all_push w rom list (take n given) old e p entry own some h))
+    rw (take_more given n d lt, adds) (all_push w rom list (take n given) old e p entry own some h)

@@ -1,7 +1,7 @@
 -- What is lit behind an item, from the points that a tail lights.
-use Rattle.dvg_survey.proofs.Common.{◌≡◌, sym, List, [], ◌∷◌, ◌++◌, refl, arith, Point, End, Rel, Abs, Lost, LitBox, Empty, Span, HoldsAll, IsLeast, LitExtent, InBox, absolute_corners, relative_corners, IsJoined, all_map, relative_part, absolute_part, rules, common_steps, ints, map, origin, shift, IsInside, corners, in_wider, origin_shift, shift_shift, moved, place_over}
+use Rattle.dvg_survey.proofs.Common.{◌≡◌, sym, List, [], ◌∷◌, ◌++◌, refl, arith, Point, End, Rel, Abs, Lost, LitBox, Empty, Span, HoldsAll, IsLeast, LitExtent, InBox, absolute_corners, relative_corners, AreJoined, append-nil, all_map, relative_part, absolute_part, rules, common_steps, ints, map, origin, shift, IsInside, corners, in_wider, origin_shift, shift_shift, moved, place_over}
 use Rattle.std.specs.Prelude.{◌-ℤ◌}
-use Rattle.std.proofs.lemmas.List.{map-append, append-nil}
+use Rattle.std.proofs.lemmas.List.{map-append}
 use Rattle.dvg_items.specs.declared.lit.LitExtent.TheVariants.{Between}
 use Rattle.dvg_survey.proofs.Walking.{least_none}
 
@@ -89,7 +89,7 @@ pub spanning_least : (p q : Point) (box : LitBox) → InBox box p → InBox box 
 spanning_least p q box first second least = grind (arith, origin_shift)
 
 -- of points that are those of two lists
-pub both_least : (ps qs all : List Point) (a b box : LitBox) → IsJoined a b box → IsLeast ps a → IsLeast qs b
+pub both_least : (ps qs all : List Point) (a b box : LitBox) → AreJoined a b box → IsLeast ps a → IsLeast qs b
     → ((other : LitBox) → HoldsAll other ps → HoldsAll other qs → HoldsAll other all)
     → ((other : LitBox) → HoldsAll other all → HoldsAll other ps) → ((other : LitBox) → HoldsAll other all → HoldsAll other qs) → IsLeast all box
 both_least ps qs all a b box j h k into first second = grind (arith, (wider a box ps j.first h.holds), (wider b box qs j.second k.holds))

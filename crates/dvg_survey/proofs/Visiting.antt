@@ -1,5 +1,5 @@
 -- A walk over a shape that stops where an earlier one came by: what is called from there on was met then.
-use Rattle.dvg_survey.proofs.Common.{◌≡◌, ℕ, ◌+◌, ◌<◌, ◌≤◌, List, [], ◌∷◌, ◌++◌, Option, Some, None, refl, sym, ap, ◌∙◌, subst, arith, ◌⊎◌, inl, inr, ⊎_elim, Bool, true, Contains, AllByRecursion, cell_at, Rom, rom_word, Holds, Entry, Key, IsKey, LeadsTo, next_address, callee_at, scale_before, shape_context, target, Item, Shape, Call, call_of, IsShapeCall, keyed, KeyedWord, is_marked, with_word, HasWord, Contains-append_left, Contains-append_right, unwrap_or, Format, Instr, scale_set, item_same, next_further, all_append, CallsFrom, IsMet, AreNewCalls}
+use Rattle.dvg_survey.proofs.Common.{◌≡◌, ℕ, ◌+◌, ◌<◌, ◌≤◌, List, [], ◌∷◌, ◌++◌, Option, Some, None, refl, sym, ap, ◌∙◌, subst, arith, ◌⊎◌, inl, inr, ⊎_elim, Bool, true, Contains, AllByRecursion, cell_at, Rom, rom_word, Holds, Entry, Key, IsKey, LeadsTo, next_address, callee_at, scale_before, shape_context, target, Item, Shape, Call, call_of, IsShapeCall, keyed, KeyedWord, is_marked, with_word, HasWord, Contains-append_left, Contains-append_right, unwrap_or, Format, Instr, scale_set, item_same, next_further, all_append, CallsFrom, IsMet, AllMet, AreNewCalls}
 use Rattle.dvg_survey.proofs.Coming.{one_call}
 use Rattle.dvg_survey.proofs.Marks.{there_or_here}
 
@@ -23,17 +23,13 @@ module _ (rom : Rom) (list : List Entry) (key : Key) (i : Item) (is : cell_at (r
 
   split : (earlier : List Item) (p : ℕ) → LeadsTo Shape (rom_word rom) i.at earlier p → ((earlier ≡ []) × (p ≡ i.at)) ⊎ Behind earlier p
   split [] p lead = inl (refl, lead)
-  split (j ∷ earlier) p lead = ⊎_elim (λ h. inr (at_first h)) (λ b. inr (further b)) (split earlier j.at lead.0)
-    where
-      at_first : (earlier ≡ []) × (j.at ≡ i.at) → Behind (j ∷ earlier) p
-      at_first h =
-          let same : j ≡ i = item_same j i h.1 (sym lead.1 ∙ ap (cell_at (rom_word rom)) h.1 ∙ is) in
-          let items : j ∷ earlier ≡ i ∷ [] = cc (same, h.0) in
-          record { next = p; goes = ap (next_address Shape) (sym same) ∙ lead.2; rest = []; leads = refl; scale = ap (scale_before (keyed rom.machine list key)) items }
-
-      further : Behind earlier j.at → Behind (j ∷ earlier) p
-      further b =
-          record { next = b.next; goes = b.goes; rest = j ∷ b.rest; leads = (b.leads, lead.1, lead.2); scale = ap (λ (k : Key). unwrap_or (scale_set j.instr (callee_at list (target Shape j.instr) k)) k) b.scale }
+  split (j ∷ earlier) p lead = ⊎_elim
+      (λ (h : (earlier ≡ []) × (j.at ≡ i.at)).
+      let same : j ≡ i = item_same j i h.1 (sym lead.1 ∙ ap (cell_at (rom_word rom)) h.1 ∙ is) in
+      let items : j ∷ earlier ≡ i ∷ [] = cc (same, h.0) in
+      inr (record { next = p; goes = ap (next_address Shape) (sym same) ∙ lead.2; rest = []; leads = refl; scale = ap (scale_before (keyed rom.machine list key)) items }))
+      (λ (b : Behind earlier j.at). inr (record { next = b.next; goes = b.goes; rest = j ∷ b.rest; leads = (b.leads, lead.1, lead.2); scale = ap (λ (k : Key). unwrap_or (scale_set j.instr (callee_at list (target Shape j.instr) k)) k) b.scale }))
+      (split earlier j.at lead.0)
 
   -- the item's own
   abbrev IsOwn : Call → Type 0
@@ -58,24 +54,18 @@ at_call : (i : Item) (call : Call) (o : Option Entry) → call.at ≡ i.at → o
 at_call i call o at is = subst (λ (x : Option Entry). Contains (call_of i x) call) (sym is) (0, omega arith, λ x. record { at = sym at x; entry = call.entry })
 
 module _ (rom : Rom) (list : List Entry) (e : Entry) (old : List Bool) where
-  -- the calls are the shape's own, and each one from its start and from each visited place was met, or is an open one
-  pub record Covers (now : List Bool) (calls : List Call) (Open : Call → Type 0) : Type 0 where
-    pub own : AllByRecursion (IsShapeCall rom list e) calls
-    pub all : (call : Call) → CallsFrom rom list (e.addr, e.key) call → IsMet rom list old calls call ⊎ Open call
-    pub visited : (place : KeyedWord) → HasWord now place → (call : Call) → CallsFrom rom list place call → IsMet rom list old calls call ⊎ Open call
+  -- among calls that have these, all from the walk's start and from each visited place were met, if all from where it stands were
+  abbrev Covers : List Bool → List Call → KeyedWord → Type 0
+  Covers now calls here = (all : List Call) → ((call : Call) → Contains calls call → Contains all call) → AllMet rom list old all here
+      → AllMet rom list old all (e.addr, e.key) × ((place : KeyedWord) → HasWord now place → AllMet rom list old all place)
 
-  -- where each open one was met, all were
-  closed : (now : List Bool) (calls : List Call) (Open : Call → Type 0) → Covers now calls Open → ((call : Call) → Open call → IsMet rom list old calls call) → AreNewCalls rom list e old now calls
-  closed now calls Open c met =
-      record { own = c.own; all = λ call k. ⊎_elim (λ h. h) (met call) (c.all call k); visited = λ place there call k. ⊎_elim (λ h. h) (met call) (c.visited place there call k) }
-
-  -- the open calls are those from where the walk stands
   pub record Goes (now : List Bool) (calls : List Call) (at : ℕ) (scale : Key) : Type 0 where
     pub items : List Item
     pub leads : LeadsTo Shape (rom_word rom) e.addr items at
     pub knows : scale ≡ scale_before (shape_context rom.machine list e) items
     pub key : IsKey scale
-    pub covers : Covers now calls (CallsFrom rom list (at, scale))
+    pub own : AllByRecursion (IsShapeCall rom list e) calls
+    pub covers : Covers now calls (at, scale)
     pub before : (place : KeyedWord) → HasWord now place → HasWord old place ⊎ (place.0 < at)
 
   pub starts : (calls : List Call) → IsKey e.key → calls ≡ [] → Goes old calls e.addr e.key
@@ -85,7 +75,8 @@ module _ (rom : Rom) (list : List Entry) (e : Entry) (old : List Bool) where
         leads = refl;
         knows = refl;
         key = key;
-        covers = record { own = subst (AllByRecursion (IsShapeCall rom list e)) (sym none) tt; all = λ call c. inr c; visited = λ place there call c. inl (inr (place, there, c)) };
+        own = subst (AllByRecursion (IsShapeCall rom list e)) (sym none) tt;
+        covers = λ all within met. (met, λ place there call c. inr (place, there, c));
         before = λ place there. inl there;
       }
 
@@ -93,13 +84,16 @@ module _ (rom : Rom) (list : List Entry) (e : Entry) (old : List Bool) where
     abbrev here : KeyedWord
     here = (at, scale)
 
+    ends : AllMet rom list old calls here → AreNewCalls rom list e old now calls
+    ends met = let k = g.covers calls (λ call h. h) met in record { own = g.own; all = k.0; visited = k.1 }
+
     -- at a place that was visited
     pub stops : is_marked now here ≡ true → AreNewCalls rom list e old now calls
-    stops was = closed now calls (CallsFrom rom list here) g.covers (λ call c. ⊎_elim (λ h. inr (here, h, c)) (λ lt. absurd (omega (arith, lt))) (g.before here (g.key, was)))
+    stops was = ends (λ call c. ⊎_elim (λ h. inr (here, h, c)) (λ lt. absurd (omega (arith, lt))) (g.before here (g.key, was)))
 
     -- where no item stands
     pub finds_none : ((format : Format) (instr : Instr) → cell_at (rom_word rom) at ≡ Holds format instr → ⊥) → AreNewCalls rom list e old now calls
-    finds_none none = closed now calls (CallsFrom rom list here) g.covers (λ call c. absurd (none c.item.format c.item.instr (ap (cell_at (rom_word rom)) (sym (only_here rom at none c.earlier c.item.at c.leads)) ∙ c.stands)))
+    finds_none none = ends (λ call c. absurd (none c.item.format c.item.instr (ap (cell_at (rom_word rom)) (sym (only_here rom at none c.earlier c.item.at c.leads)) ∙ c.stands)))
 
     -- past an item, whose place is visited with it
     module _ (format : Format) (instr : Instr) (stands : cell_at (rom_word rom) at ≡ Holds format instr) (callee : Option Entry) (callee_is : callee ≡ callee_at list (target Shape instr) scale)
@@ -111,29 +105,20 @@ module _ (rom : Rom) (list : List Entry) (e : Entry) (old : List Bool) where
         now_or_here : (place : KeyedWord) → HasWord new place → HasWord now place ⊎ (place ≡ here)
         now_or_here place there = there_or_here now here g.key place (subst (λ (marks : List Bool). HasWord marks place) visits there)
 
-        covered : (Open : Call → Type 0) → ((call : Call) → IsFurther rom list scale item stands call → Open call) → Covers new more Open
-        covered Open further =
-            record {
-              own = subst (AllByRecursion (IsShapeCall rom list e)) (sym grown) (all_append (IsShapeCall rom list e) calls (call_of item callee) g.covers.own
-                  (one_call (shape_context rom.machine list e) (rom_word rom) e.addr item g.items (g.leads, stands) callee (ap (callee_at list (target Shape instr)) (sym g.knows) ∙ sym callee_is)));
-              all = λ call c. on call (g.covers.all call c);
-              visited = λ place there call c. ⊎_elim
-                  (λ h. on call (g.covers.visited place h call c))
-                  (λ same. from_here call (subst (λ (x : KeyedWord). CallsFrom rom list x call) same c))
-                  (now_or_here place there);
-            }
-          where
-            among : (call : Call) → Contains (calls ++ call_of item callee) call → IsMet rom list old more call
-            among call h = inl (subst (λ (cs : List Call). Contains cs call) (sym grown) h)
+        own_more : AllByRecursion (IsShapeCall rom list e) more
+        own_more = subst (AllByRecursion (IsShapeCall rom list e)) (sym grown) (all_append (IsShapeCall rom list e) calls (call_of item callee) g.own
+            (one_call (shape_context rom.machine list e) (rom_word rom) e.addr item g.items (g.leads, stands) callee (ap (callee_at list (target Shape instr)) (sym g.knows) ∙ sym callee_is)))
 
-            from_here : (call : Call) → CallsFrom rom list here call → IsMet rom list old more call ⊎ Open call
-            from_here call c = ⊎_elim
-                (λ o. inl (among call (Contains-append_right calls (call_of item callee) call (at_call item call callee o.0 (callee_is ∙ o.1)))))
-                (λ f. inr (further call f))
-                (own_or_further rom list scale item stands call c)
-
-            on : (call : Call) → IsMet rom list old calls call ⊎ CallsFrom rom list here call → IsMet rom list old more call ⊎ Open call
-            on call = ⊎_elim (λ h. inl (⊎_elim (λ k. among call (Contains-append_left calls (call_of item callee) call k)) (λ k. inr k) h)) (from_here call)
+        covered : (all : List Call) → ((call : Call) → Contains more call → Contains all call) → ((call : Call) → IsFurther rom list scale item stands call → IsMet rom list old all call)
+            → AllMet rom list old all (e.addr, e.key) × ((place : KeyedWord) → HasWord new place → AllMet rom list old all place)
+        covered all within met =
+            let among : (call : Call) → Contains (calls ++ call_of item callee) call → Contains all call = λ call h. within call (subst (λ (cs : List Call). Contains cs call) (sym grown) h) in
+            let met_here : AllMet rom list old all here = λ call c. ⊎_elim
+            (λ o. inl (among call (Contains-append_right calls (call_of item callee) call (at_call item call callee o.0 (callee_is ∙ o.1)))))
+            (met call)
+            (own_or_further rom list scale item stands call c) in
+            let both = g.covers all (λ call h. among call (Contains-append_left calls (call_of item callee) call h)) met_here in
+            (both.0, λ place there. ⊎_elim (both.1 place) (λ same. subst (AllMet rom list old all) (sym same) met_here) (now_or_here place there))
 
         pub walks_on : (past : Key) (next : ℕ) → past ≡ unwrap_or (scale_set instr callee) scale → IsKey past → next_address Shape item ≡ Some next → Goes new more next past
         walks_on past next past_is key to =
@@ -142,7 +127,8 @@ module _ (rom : Rom) (list : List Entry) (e : Entry) (old : List Bool) where
               leads = (g.leads, stands, to);
               knows = scale_is ∙ ap (λ (k : Key). unwrap_or (scale_set instr (callee_at list (target Shape instr) k)) k) g.knows;
               key = key;
-              covers = covered (CallsFrom rom list (next, past)) at_next;
+              own = own_more;
+              covers = λ all within met. covered all within (λ call f. met call (grind (arith, scale_is)));
               before = λ place there. ⊎_elim
                   (λ h. ⊎_elim (λ k. inl k) (λ lt. inr (omega (arith, lt, further))) (g.before place h))
                   (λ same. let there_at : place.0 ≡ at = ap (λ (x : KeyedWord). x.0) same in inr (omega (arith, there_at, further)))
@@ -155,8 +141,5 @@ module _ (rom : Rom) (list : List Entry) (e : Entry) (old : List Bool) where
             further : at + 1 ≤ next
             further = next_further Shape item next to
 
-            at_next : (call : Call) → IsFurther rom list scale item stands call → CallsFrom rom list (next, past) call
-            at_next call f = grind (arith, scale_is)
-
         pub ends_here : next_address Shape item ≡ None → AreNewCalls rom list e old new more
-        ends_here none = closed new more (λ call. ⊥) (covered (λ call. ⊥) (λ call f. let no : None ≡ Some f.0 = sym none ∙ f.1 in cc no)) (λ call no. absurd no)
+        ends_here none = let k = covered more (λ call h. h) (λ call f. let no : None ≡ Some f.0 = sym none ∙ f.1 in cc no) in record { own = own_more; all = k.0; visited = k.1 }

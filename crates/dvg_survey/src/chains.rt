@@ -55,6 +55,7 @@ fn reach_from<E: Entries>(
 /// stands in the shape of the entry that the one before it names, and the last names the goal (profile). `None` exactly where the
 /// frame does not come to it. `entries` are those of the certificate. Goes breadth first over the shapes that the frame comes to,
 /// and over each word of the ROM once at most for each known scale there, however many shapes come by.
+#[tactic(auto, using(crate::proofs::SameEntry::entry_decides, std::proofs::lemmas::Option::slice_get_within))]
 pub fn find_chain<E: Entries>(
     alloc: Global,
     rom: &RomImage,

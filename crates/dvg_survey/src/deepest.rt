@@ -19,6 +19,7 @@ use std::alloc::{AllocError, Global};
 /// the same (profile). They end at an entry of depth 0, or where no call bears out the depth, or when they are as many as the
 /// entries; in a made certificate they end at depth 0. `entries` are those of the certificate. Goes over the items of each of these
 /// shapes once, and takes memory for the calls alone.
+#[tactic(auto, using(crate::proofs::Bearing::starts_down))]
 pub fn deepest_calls<E: Entries>(
     alloc: Global,
     rom: &RomImage,
@@ -44,6 +45,7 @@ pub fn deepest_calls<E: Entries>(
 }
 
 /// The first call of an entry's shape that bears out the depth that the entry claims.
+#[tactic(auto, using(crate::proofs::Walking::begins))]
 fn first_bearing<E: Entries>(rom: &RomImage, entries: &E, entry: &Entry) -> Option<Call>
     requires entries { IsSomeCertificate (E.list entries.now) }
     requires entry { IsClaim entry.now }

@@ -90,6 +90,7 @@ pub fn push_call(
 /// The calls of an entry's shape, in their order, up to the first word that was visited before at the same known scale: from there
 /// on, the shape that visited it makes the same calls. Marks each word that it goes over as visited. What an item calls depends on
 /// its word address and on the known scale there alone, so nothing else of what is known is kept.
+#[tactic(auto, using(crate::proofs::Visiting::starts, crate::proofs::Visiting::walks_on))]
 pub fn new_calls<E: Entries>(
     alloc: Global,
     rom: &RomImage,
@@ -133,6 +134,7 @@ pub fn lit_with(lit: &LitBox, seen: &Seen) -> LitBox
 }
 
 /// The least box of what all items of a walk light at absolute places.
+#[tactic(auto, using(crate::proofs::Walking::begins, crate::proofs::Walking::least_none))]
 pub fn extent_from<F: Fetch, E: Entries>(memory: &F, entries: &E, walk: &WalkContext) -> LitBox
     requires entries { IsSomeCertificate (E.list entries.now) }
     requires first { walk.now.first < ADDRESS_END }

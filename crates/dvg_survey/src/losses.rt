@@ -67,6 +67,7 @@ impl Losses {
 }
 
 /// The losses before a word address of a walk; `None` where the items don't lead to it.
+#[tactic(auto, using(crate::proofs::Walking::begins, crate::proofs::Walking::all_here, crate::proofs::Walking::none_past))]
 fn losses_before<F: Fetch, E: Entries>(
     memory: &F,
     entries: &E,

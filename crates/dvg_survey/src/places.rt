@@ -124,6 +124,7 @@ fn is_clean_item(window: &Window, seen: &Seen, broken: &KeyedWords) -> bool
 }
 
 /// Whether each item of an entry's shape is clean.
+#[tactic(auto, using(crate::proofs::Walking::begins))]
 fn is_clean<E: Entries>(
     window: &Window,
     rom: &RomImage,

@@ -40,6 +40,7 @@ impl Model for Reached {
 
 impl Reached {
     /// No entry so far.
+    #[tactic(auto, using(crate::proofs::Linking::no_names))]
     pub fn new(alloc: Global) -> Result<Reached, AllocError>
         ensures { IfOk result (λ reached. reached ≡ []) }
     {
@@ -57,6 +58,7 @@ impl Reached {
     }
 
     /// Adds a link, unless its entry was reached before.
+    #[tactic(auto, using(crate::proofs::Linking::names_push))]
     fn add(&mut self, link: Link) -> Result<(), AllocError>
         requires { IsClaim link.call.entry }
         ensures { OnOk result (self.new ≡ reach self.old link) }
@@ -82,6 +84,7 @@ impl Reached {
     }
 
     /// The calls that lead to the entry of the link at an index, the link's own call last.
+    #[tactic(auto, using(crate::proofs::Tracing::goes_down, crate::proofs::Tracing::traced_all))]
     pub fn chain(&self, alloc: Global, last: usize) -> Result<Vec<Call>, AllocError>
         requires last { last < length self.now }
         requires backward { IsBackward self.now }

@@ -59,5 +59,8 @@ counted xs n long e =
     ap (λ l. mask_l (map (top 7) l) % 2 ^ 64) (lanes_are xs long) ∙ ap (λ l. mask_l l % 2 ^ 64) (all_tops xs) ∙ mask_l-mod (map other xs) 64 (omega (arith, length-map xs other, long)) in
     e ∙ ap (λ m. cond (eqb m 0) 16 (count_trailing_zeros 64 m)) mask ∙ first_set_mask_l other xs 16 long (omega arith)
 
-pub few : (xs : List ℕ) (n : ℕ) → length xs ≡ 16 → n ≡ run_len xs → n ≤ 16
-few xs n long e = omega (arith, prefix_len-le-length (λ x. not (other x)) xs)
+pub lanes : (xs : List ℕ) (n : ℕ) → length xs ≡ 16 → ((k : ℕ) → get_or xs k 0 < 256)
+    → n ≡ cond (eqb (mask_l (map (top 7) (zip2 at_most (replicate 16 10) (zip2 minus xs (replicate 16 48)))) % 2 ^ 64) 0) 16
+    (count_trailing_zeros 64 (mask_l (map (top 7) (zip2 at_most (replicate 16 10) (zip2 minus xs (replicate 16 48)))) % 2 ^ 64))
+    → (n ≤ 16) × IsRun xs n
+lanes xs n long bytes e = let c = counted xs n long e in (omega (arith, c, prefix_len-le-length (λ x. not (other x)) xs), rw c (run xs bytes))

@@ -154,16 +154,17 @@ pub first_digits : (n : ℕ) (xs ys : List ℕ) → n ≤ 8 → ys ≡ take 8 (d
 first_digits n xs ys le e = ap (take n) e ∙ take-take n 8 xs le
 
 -- the first of some digits, and the last eight
-pub halves : (count : ℕ) (xs a b : List ℕ) → 8 ≤ count → count ≤ 16 → count ≤ length xs → AllDigits 10 (take count xs) → a ≡ take 8 (drop 0 xs) → b ≡ take 8 (drop (count - 8) xs)
-    → AllDigits 10 (take (count - 8) a) × AllDigits 10 (take 8 b) × (digits_value 10 (take (count - 8) a) < 100000000) × (digits_value 10 (take 8 b) < 100000000)
-    × (digits_value 10 (take count xs) ≡ digits_value 10 (take (count - 8) a) * 100000000 + digits_value 10 (take 8 b))
-halves count xs a b more few le h is_a is_b =
+pub halves : (count : ℕ) (xs : List ℕ) → 8 ≤ count → count ≤ 16 → count ≤ length xs → AllDigits 10 (take count xs)
+    → AllDigits 10 (take (count - 8) (take 8 (drop 0 xs))) × AllDigits 10 (take 8 (take 8 (drop (count - 8) xs)))
+    × (digits_value 10 (take (count - 8) (take 8 (drop 0 xs))) < 100000000) × (digits_value 10 (take 8 (take 8 (drop (count - 8) xs))) < 100000000)
+    × (digits_value 10 (take count xs) ≡ digits_value 10 (take (count - 8) (take 8 (drop 0 xs))) * 100000000 + digits_value 10 (take 8 (take 8 (drop (count - 8) xs))))
+halves count xs more few le h =
     let k : ℕ = count - 8 in
-    let whole : take count xs ≡ take k a ++ take 8 b = ap (λ (n : ℕ). take n xs) {y = k + 8} (omega arith) ∙ take-add k 8 xs ∙ rw (first_digits k xs a (omega arith) is_a, is_b, take-take 8 8 (drop k xs) (omega arith)) refl in
-    let d = both_digits (take k a) (take 8 b) (subst (AllDigits 10) whole h) in
-    let eight : length (take 8 b) ≡ 8 = rw is_b (grind (arith, take-take, length-take-le, length-drop)) in
-    let short : length (take k a) ≤ 8 = rw is_a (grind (arith, take-take, length-take-le)) in
-    (d.0, d.1, digits_value_short own (take k a) 8 d.0 short, digits_value_short own (take 8 b) 8 d.1 (omega (arith, eight)), ap (digits_value 10) whole ∙ rw eight at (after_both 0 (take k a) (take 8 b)))
+    let whole : take count xs ≡ take k (take 8 xs) ++ take 8 (take 8 (drop k xs)) = ap (λ (n : ℕ). take n xs) {y = k + 8} (omega arith) ∙ take-add k 8 xs ∙ rw (take-take k 8 xs (omega arith), take-take 8 8 (drop k xs) (omega arith)) refl in
+    let d = both_digits (take k (take 8 xs)) (take 8 (take 8 (drop k xs))) (subst (AllDigits 10) whole h) in
+    let eight : length (take 8 (take 8 (drop k xs))) ≡ 8 = grind (arith, take-take, length-take-le, length-drop) in
+    let short : length (take k (take 8 xs)) ≤ 8 = grind (arith, take-take, length-take-le) in
+    (d.0, d.1, digits_value_short own (take k (take 8 xs)) 8 d.0 short, digits_value_short own (take 8 (take 8 (drop k xs))) 8 d.1 (omega (arith, eight)), ap (digits_value 10) whole ∙ rw eight at (after_both 0 (take k (take 8 xs)) (take 8 (take 8 (drop k xs)))))
 
 -- ---- the digits among the first sixteen bytes
 

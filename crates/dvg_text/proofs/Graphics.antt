@@ -11,10 +11,6 @@ Graphic (b ∷ bs) = (SPACE < b) × Graphic bs
 abbrev pub Graphics : List Text → Type 0
 Graphics ws = AllByRecursion Graphic ws
 
-pub each_append : {X : Type 0} (P : X → Type 0) (xs ys : List X) → AllByRecursion P xs → AllByRecursion P ys → AllByRecursion P (xs ++ ys)
-each_append P [] ys h k = k
-each_append P (x ∷ xs) ys h k = (h.0, each_append P xs ys h.1 k)
-
 pub graphic_without : (c : ℕ) (w : Text) → c ≤ SPACE → Graphic w → Without c w
 graphic_without c [] le h = tt
 graphic_without c (b ∷ bs) le h = (grind (arith, nat_tests), graphic_without c bs le h.1)

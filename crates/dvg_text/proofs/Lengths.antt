@@ -1,5 +1,5 @@
 -- How long a line is.
-use Rattle.dvg_text.proofs.Common.{◌≡◌, ℕ, suc, ◌+◌, ◌≤◌, List, [], ◌∷◌, ◌++◌, length, arith, w64, MOST_ENTRIES, SPACE, codes, decimal, ℤ, pos, negsuc, signed_decimal, join_with_byte, length-append, length-decimal-le, ints, Key, End, LitBox, Entry, IsNumber, IsKey, IsEnd, IsBox, IsEntry, key_token, end_tokens, box_tokens, entry_tokens, entry_line, done_line}
+use Rattle.dvg_text.proofs.Common.{◌≡◌, ℕ, suc, ◌+◌, ◌≤◌, List, [], ◌∷◌, ◌++◌, length, arith, w64, MOST_ENTRIES, SPACE, codes, decimal, ℤ, pos, negsuc, signed_decimal, join_with_byte, length-append, length-decimal-le, MOST_WORDS, to_z-of_z, ints, Key, End, LitBox, Entry, IsNumber, IsKey, IsEnd, IsBox, IsEntry, key_token, end_tokens, box_tokens, entry_tokens, entry_line, done_line}
 use Rattle.std.proofs.Math.Nat.{le_trans}
 use mir.Val.{SFits}
 
@@ -24,6 +24,11 @@ number_le (negsuc n) h = omega (arith, length-decimal-le 13 (suc n) (omega arith
 pub number_fits : (z : ℤ) → IsNumber z → SFits w64 z
 number_fits z h = grind (arith, pos, negsuc)
 
+pub words_le : (n : ℕ) → n ≤ MOST_WORDS → length (decimal n) ≤ 7
+words_le n h = length-decimal-le 7 n (omega arith) (omega arith) (omega arith)
+
+pub ruleset number_texts = (number_le, number_fits, to_z-of_z)
+
 key_le : (k : Key) → IsKey k → length (key_token k) ≤ 3
 key_le k h = grind (arith, length-decimal-le)
 
@@ -35,16 +40,9 @@ box_le b h = grind (arith, number_le)
 
 pub length_entry : (first last : ℕ) (e : Entry) → IsEntry first last e → length (entry_line e) ≤ 148
 length_entry first last e h =
-    let back : List (List ℕ) = codes "depth" ∷ decimal e.depth ∷ codes "words" ∷ decimal e.words ∷ codes "scale" ∷ key_token e.scale ∷ [] in
-    let k = key_le e.key h.key in
-    let s = key_le e.scale h.scale in
     let d = length-decimal-le 1 e.depth (omega arith) (omega (arith, h.depth)) (omega (arith, h.depth)) in
     let w = length-decimal-le 7 e.words (omega arith) (omega (arith, h.words_high)) (omega (arith, h.words_high)) in
-    let b : weight back ≤ 37 = omega arith in
-    let m : weight (end_tokens e.stop ++ codes "box" ∷ box_tokens e.lit) ≤ 98 = omega (arith, weight-append (end_tokens e.stop) (codes "box" ∷ box_tokens e.lit), end_le e.stop h.stop, box_le e.lit h.lit) in
-    let all = weight-append (end_tokens e.stop ++ codes "box" ∷ box_tokens e.lit) back in
-    let t : weight (entry_tokens e) ≤ 148 = omega arith in
-    le_trans (join_le (entry_tokens e)) t
+    le_trans (join_le (entry_tokens e)) (simp weight-append (omega (arith, key_le e.key h.key, key_le e.scale h.scale, d, w, end_le e.stop h.stop, box_le e.lit h.lit)))
 
 pub length_done : (n : ℕ) → n ≤ MOST_ENTRIES → length (done_line n) ≤ 10
 length_done n h = omega (arith, length-decimal-le 4 n (omega arith) (omega arith) (omega arith), join_le (codes "done" ∷ decimal n ∷ []))

@@ -10,10 +10,8 @@ pub mod Steps
 pub mod WholeLines
 pub mod FirstLines
 pub mod Refusals
-pub mod LinesOfTexts
 pub mod Lengths
-pub mod OneAnswerLemmas
 pub mod Spelled
-pub mod AnyText
+pub mod NextLine
+pub mod EachByte
 pub mod TextLaws
-pub mod Pieces

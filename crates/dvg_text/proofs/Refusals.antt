@@ -1,5 +1,5 @@
 -- What refuses a text, from what the reader holds.
-use Rattle.dvg_text.proofs.Common.{◌≡◌, ◌≢◌, ℕ, zero, suc, ◌+◌, ◌-◌, ◌<◌, List, [], ◌∷◌, ◌++◌, length, get_or, take, drop, Ok, Err, refl, sym, ap, subst, ◌∙◌, append_assoc, arith, append-nil, length-append, length-take-le, nat_tests, MemoryMap, asteroids, LONGEST_LINE, LINE_FEED, Entry, IsCertificate, entry_line, rom_line, begun_with, text_of, ended, IsRefusal, HasEntryAt, IsElsewhere, Begun, Whole, Taken, Without, text_taken, line_number, IsTaken, IsUnended, IsRest, Holds, Meets, IsLineRefused, EndsLine, StartsWith, taken_of, IsStaged, CertFault, CertWhy, Unended, After, TooLong, Memory, no_entry_yet}
+use Rattle.dvg_text.proofs.Common.{◌≡◌, ◌≢◌, ℕ, zero, suc, ◌+◌, ◌-◌, ◌<◌, List, [], ◌∷◌, ◌++◌, length, get_or, take, drop, Ok, Err, refl, sym, ap, ◌∙◌, append_assoc, arith, append-nil, length-append, length-take-le, nat_tests, MemoryMap, asteroids, LONGEST_LINE, LINE_FEED, Entry, IsCertificate, entry_line, rom_line, begun_with, text_of, ended, IsRefusal, HasEntryAt, IsElsewhere, Begun, Whole, Taken, Without, text_taken, line_number, IsTaken, IsUnended, IsRest, Holds, Meets, IsLineRefused, EndsLine, StartsWith, taken_of, IsStaged, CertFault, CertWhy, Unended, After, TooLong, Memory, no_entry_yet}
 use Rattle.dvg_text.specs.declared.taken.Stage.{Stage}
 use Rattle.dvg_text.specs.declared.taken.Stage.TheVariants.{First, Rom}
 use Rattle.dvg_text.proofs.Graphics.{Without-append}
@@ -31,7 +31,7 @@ line_fault why taken line after h u free short w = grind (arith, (text_taken tak
 next_free : (n : ℕ) (xs : List ℕ) → n < length xs → Without LINE_FEED (take (suc n) xs) → (xs ≡ take n xs ++ get_or xs n 0 ∷ drop (suc n) xs) × Without LINE_FEED (take n xs) × (get_or xs n 0 ≢ LINE_FEED)
 next_free n [] lt h = absurd (omega arith)
 next_free zero (x ∷ xs) lt h = (refl, tt, λ e. absurd (grind (arith, nat_tests)))
-next_free (suc n) (x ∷ xs) lt h = let r = next_free n xs (omega arith) h.1 in (ap (λ (ys : List ℕ). x ∷ ys) r.0, (h.0, r.1), r.2)
+next_free (suc n) (x ∷ xs) lt h = grind (arith, (next_free n xs (omega arith) h.1))
 
 pub meets_long : (taken : Taken) (rest : List ℕ) (b : ℕ) → IsUnended taken → b ≢ LINE_FEED → length rest ≡ LONGEST_LINE - 1 → Meets taken rest b TooLong
 meets_long taken rest b u h n = grind (arith)
@@ -43,11 +43,8 @@ long_at k taken begun rest h u clear n lt free =
     let line : List ℕ = begun ++ take k rest in
     let m : length line ≡ LONGEST_LINE - 1 = omega (arith, length-append begun (take k rest), length-take-le k rest (omega arith)) in
     let parts : text_taken taken ++ (begun ++ rest) ≡ (text_taken taken ++ line) ++ b ∷ drop (suc k) rest =
-    ap (λ (t : List ℕ). text_taken taken ++ (begun ++ t)) r.0 ∙ again (text_taken taken) begun (take k rest) (b ∷ drop (suc k) rest) in
+    ap (λ (t : List ℕ). text_taken taken ++ (begun ++ t)) r.0 ∙ simp append_assoc in
     (text_taken taken ++ line, b, drop (suc k) rest, taken, line, parts, record { parts = refl; lines = h; begun = rest_of taken line u (Without-append LINE_FEED begun (take k rest) clear r.1) (omega arith) }, meets_long taken line b u r.2 m, refl)
-  where
-    again : (a b c d : List ℕ) → a ++ (b ++ (c ++ d)) ≡ (a ++ (b ++ c)) ++ d
-    again a b c d = simp append_assoc
 
 -- no line end where a line must have one
 pub end_fault : (why : CertWhy) (room : ℕ) (taken : Taken) (begun rest : List ℕ) → IsTaken taken → IsUnended taken → IsRest taken begun → room ≡ LONGEST_LINE - length begun → EndsLine room rest (Err why) → IsRefusal (text_taken taken ++ (begun ++ rest)) (line_number taken) why × (why ≢ Unended)
@@ -55,9 +52,7 @@ end_fault why room taken begun rest h u r n e = grind (arith, rest_free, long_at
 
 -- a line begun
 pub begins : (taken : Taken) (begun rest new : List ℕ) → IsTaken taken → IsUnended taken → IsRest taken begun → Without LINE_FEED rest → length rest < LONGEST_LINE - length begun → new ≡ begun ++ rest → Holds (text_taken taken ++ (begun ++ rest)) taken new
-begins taken begun rest new h u r free short e =
-    let s = rest_free taken begun r in
-    subst (λ (t : List ℕ). Holds (text_taken taken ++ (begun ++ rest)) taken t) (sym e) (record { parts = refl; lines = h; begun = rest_of taken (begun ++ rest) u (Without-append LINE_FEED begun rest s.0 free) (omega (arith, length-append begun rest)) })
+begins taken begun rest new h u r free short e = grind (arith, (rest_free taken begun r), (rest_of taken new u), Without-append, length-append)
 
 -- bytes after the last line
 pub after_refused : (line : ℕ) (f : CertFault) (taken : Taken) (begun rest : List ℕ) → IsTaken taken → IsRest taken begun → (IsUnended taken → ⊥) → line ≡ line_number taken → 0 < length rest → f ≡ record { line = line; why = After }
@@ -78,11 +73,7 @@ rom_at_line stage old map es taken line s v h is l = grind (arith, no_entry_yet,
 -- a line whose end has come, and that is refused
 pub line_refused : (why : CertWhy) (taken : Taken) (begun rest prefix after : List ℕ) → IsTaken taken → IsUnended taken → IsRest taken begun → rest ≡ prefix ++ LINE_FEED ∷ after → Without LINE_FEED prefix → length prefix < LONGEST_LINE - length begun → IsLineRefused taken (begun ++ prefix) why
     → IsRefusal (text_taken taken ++ (begun ++ rest)) (line_number taken) why × (why ≢ Unended)
-line_refused why taken begun rest prefix after h u r e free short w =
-    let s = rest_free taken begun r in
-    let f = line_fault why taken (begun ++ prefix) after h u (Without-append LINE_FEED begun prefix s.0 free) (omega (arith, length-append begun prefix)) w in
-    let parts : text_taken taken ++ (begun ++ rest) ≡ text_taken taken ++ ((begun ++ prefix) ++ LINE_FEED ∷ after) = ap (λ (t : List ℕ). text_taken taken ++ t) (ap (λ (t : List ℕ). begun ++ t) e ∙ sym (append_assoc begun prefix (LINE_FEED ∷ after))) in
-    subst (λ (t : List ℕ). IsRefusal t (line_number taken) why × (why ≢ Unended)) (sym parts) f
+line_refused why taken begun rest prefix after h u r e free short w = grind (arith, (rest_free taken begun r), Without-append, length-append, append_assoc, (line_fault why taken (begun ++ prefix) after h u))
 
 -- ---- entries whose lines stand first
 

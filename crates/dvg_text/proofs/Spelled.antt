@@ -1,14 +1,7 @@
 -- A line put together token by token, and a text line by line.
-use Rattle.dvg_text.proofs.Common.{◌≡◌, true, false, ℕ, ◌+◌, ◌<◌, List, [], ◌∷◌, ◌++◌, length, get_or, take, drop, Option, Result, refl, sym, ap, subst, ◌∙◌, append_assoc, arith, add-one, codes, decimal, OnErr, join_with_byte, flat_map, append-nil, length-append, take-append-le, take-append-drop, Appends, MemoryMap, is_asteroids, LINE_FEED, SPACE, Entry, entry_line, end_tokens, box_tokens, address_token, key_token, ended, begun_with, text_of, done_line, first_version_line, second_version_line, rom_line, heading, AppendsPrefix, spaced, Buffered, take-length, take-append-add, rules, common_steps, flat_map-append, Appends-nil, Appends-trans, cut_at}
+use Rattle.dvg_text.proofs.Common.{End, LitBox, ◌≡◌, true, false, ℕ, ◌+◌, ◌<◌, List, [], ◌∷◌, ◌++◌, length, get_or, take, drop, Option, Result, refl, sym, ap, subst, ◌∙◌, append_assoc, arith, add-one, codes, decimal, OnErr, flat_map, append-nil, length-append, take-append-le, take-append-drop, Appends, MemoryMap, is_asteroids, LINE_FEED, SPACE, Entry, entry_line, end_tokens, box_tokens, address_token, key_token, ended, begun_with, text_of, done_line, first_version_line, second_version_line, rom_line, AppendsPrefix, spaced, Buffered, take-length, take-append-add, rules, common_steps, flat_map-append, Appends-nil, Appends-trans, cut_at}
+use Rattle.dvg_text.proofs.WholeLines.{end_text, box_text, entry_joined}
 use Rattle.dvg_text.proofs.FirstLines.{begun_push, asteroids_is, first_taken, rom_taken}
-
-join_spaced : (w : List ℕ) (ws : List (List ℕ)) → join_with_byte SPACE (w ∷ ws) ≡ w ++ spaced ws
-join_spaced w [] = sym (append-nil w)
-join_spaced w (v ∷ vs) = ap (λ (t : List ℕ). w ++ SPACE ∷ t) (join_spaced v vs)
-
-spaced-append : (ws vs : List (List ℕ)) → spaced (ws ++ vs) ≡ spaced ws ++ spaced vs
-spaced-append [] vs = refl
-spaced-append (w ∷ ws) vs = ap (λ (t : List ℕ). SPACE ∷ (w ++ t)) (spaced-append ws vs) ∙ ap (λ (t : List ℕ). SPACE ∷ t) (sym (append_assoc w (spaced ws) (spaced vs)))
 
 -- a piece of a text was written in part
 sent_part : (old mid new : Option (List ℕ)) (text prefix piece tail : List ℕ) → text ≡ prefix ++ (piece ++ tail) → Appends old mid prefix → AppendsPrefix mid new piece → AppendsPrefix old new text
@@ -16,8 +9,7 @@ sent_part old mid new text prefix piece tail e h s =
     let n : ℕ = s.0 in
     let parts : take (length prefix + n) text ≡ prefix ++ take n piece =
     ap (take (length prefix + n)) e ∙ take-append-add prefix (piece ++ tail) n ∙ ap (λ (t : List ℕ). prefix ++ t) (take-append-le n piece tail s.1) in
-    let size : length text ≡ length prefix + (length piece + length tail) = ap length e ∙ length-append prefix (piece ++ tail) ∙ ap (λ (k : ℕ). length prefix + k) (length-append piece tail) in
-    (length prefix + n, omega (arith, size, s.1), subst (λ (t : List ℕ). Appends old new t) (sym parts) (Appends-trans old mid new prefix (take n piece) h s.2))
+    (length prefix + n, omega (arith, ap length e, length-append prefix (piece ++ tail), length-append piece tail, s.1), subst (λ (t : List ℕ). Appends old new t) (sym parts) (Appends-trans old mid new prefix (take n piece) h s.2))
 
 -- what was held is sent now, but for the rest
 pub buffered_on : (old mid new : Option (List ℕ)) (held rest text : List ℕ) → Buffered old mid held text → Buffered mid new rest held → Buffered old new rest text
@@ -25,11 +17,11 @@ buffered_on old mid new held rest text h k = grind (arith, rules, common_steps, 
 
 -- more is held
 pub buffered_more : (old new : Option (List ℕ)) (held line text : List ℕ) → Buffered old new held text → Buffered old new (held ++ line) (text ++ line)
-buffered_more old new held line text h = (h.0, h.1, ap (λ (t : List ℕ). t ++ line) h.2 ∙ append_assoc h.0 held line)
+buffered_more old new held line text h = grind (arith, append_assoc)
 
 -- all that was held is sent
 pub held_sent : (old mid new : Option (List ℕ)) (held text : List ℕ) → Buffered old mid held text → Appends mid new held → Appends old new text
-held_sent old mid new held text h s = subst (λ (t : List ℕ). Appends old new t) (sym h.2) (Appends-trans old mid new h.0 held h.1 s)
+held_sent old mid new held text h s = grind (arith, (Appends-trans old mid new h.0 held h.1 s))
 
 -- what was held is sent in part
 pub held_sent_in_part : (old mid new : Option (List ℕ)) (held text : List ℕ) → Buffered old mid held text → AppendsPrefix mid new held → AppendsPrefix old new text
@@ -47,32 +39,28 @@ put_on old mid new held part more rest h k = buffered_on old mid new (held ++ mo
 -- the text of a certificate from an entry on
 text_at : (map : MemoryMap) (es : List Entry) (i : ℕ) → text_of map es ≡ begun_with map (take i es) ++ (flat_map (λ e. ended (entry_line e)) (drop i es) ++ ended (done_line (length es)))
 unfolding begun_with
-text_at map es i =
-    let f : Entry → List ℕ = λ x. ended (entry_line x) in
-    let first : List ℕ = flat_map ended (heading map) in
-    let a : flat_map f es ≡ flat_map f (take i es) ++ flat_map f (drop i es) = ap (flat_map f) (sym (take-append-drop i es)) ∙ flat_map-append f (take i es) (drop i es) in
-    ap (λ (t : List ℕ). (first ++ t) ++ ended (done_line (length es))) a ∙ again first (flat_map f (take i es)) (flat_map f (drop i es)) (ended (done_line (length es)))
-  where
-    again : (a b c d : List ℕ) → (a ++ (b ++ c)) ++ d ≡ (a ++ b) ++ (c ++ d)
-    again a b c d = simp append_assoc
+text_at map es i = grind (arith, (take-append-drop i es), (flat_map-append (λ (e : Entry). ended (entry_line e)) (take i es) (drop i es)), append_assoc)
 
 -- one more entry
 begun_next : (map : MemoryMap) (es : List Entry) (i : ℕ) (d : Entry) → i < length es → begun_with map (take (i + 1) es) ≡ begun_with map (take i es) ++ ended (entry_line (get_or es i d))
 begun_next map es i d lt = rw add-one (ap (begun_with map) (cut_at es i d lt).1) ∙ begun_push map (take i es) (get_or es i d)
 
-line_parts : (before shape hex key endw : List ℕ) (stop : List (List ℕ)) (boxw : List ℕ) (lit : List (List ℕ)) (d1 d w1 w s1 s : List ℕ)
-    → (((((((((((((before ++ shape) ++ SPACE ∷ hex) ++ SPACE ∷ key) ++ SPACE ∷ endw) ++ spaced stop) ++ SPACE ∷ boxw) ++ spaced lit) ++ SPACE ∷ d1) ++ SPACE ∷ d) ++ SPACE ∷ w1) ++ SPACE ∷ w) ++ SPACE ∷ s1) ++ SPACE ∷ s) ++ LINE_FEED ∷ []
-    ≡ before ++ (join_with_byte SPACE (shape ∷ hex ∷ key ∷ endw ∷ ((stop ++ boxw ∷ lit) ++ d1 ∷ d ∷ w1 ∷ w ∷ s1 ∷ s ∷ [])) ++ LINE_FEED ∷ [])
-line_parts before shape hex key endw stop boxw lit d1 d w1 w s1 s =
-    let back : List (List ℕ) = d1 ∷ d ∷ w1 ∷ w ∷ s1 ∷ s ∷ [] in
-    let parts : spaced ((stop ++ boxw ∷ lit) ++ back) ≡ (spaced stop ++ SPACE ∷ (boxw ++ spaced lit)) ++ spaced back = spaced-append (stop ++ boxw ∷ lit) back ∙ ap (λ (t : List ℕ). t ++ spaced back) (spaced-append stop (boxw ∷ lit)) in
-    regroup before shape (SPACE ∷ hex) (SPACE ∷ key) (SPACE ∷ endw) (spaced stop) (SPACE ∷ boxw) (spaced lit) (SPACE ∷ d1) (SPACE ∷ d) (SPACE ∷ w1) (SPACE ∷ w) (SPACE ∷ s1) (SPACE ∷ s) (LINE_FEED ∷ []) ∙ ap (λ (t : List ℕ). before ++ ((shape ++ SPACE ∷ (hex ++ SPACE ∷ (key ++ SPACE ∷ (endw ++ t)))) ++ LINE_FEED ∷ [])) (sym parts) ∙ ap (λ (t : List ℕ). before ++ (t ++ LINE_FEED ∷ [])) (sym (join_spaced shape (hex ∷ key ∷ endw ∷ ((stop ++ boxw ∷ lit) ++ back))))
-  where
-    regroup : (z a b c d e f g h i j k l m n : List ℕ) → (((((((((((((z ++ a) ++ b) ++ c) ++ d) ++ e) ++ f) ++ g) ++ h) ++ i) ++ j) ++ k) ++ l) ++ m) ++ n ≡ z ++ ((a ++ (b ++ (c ++ (d ++ ((e ++ (f ++ g)) ++ (h ++ (i ++ (j ++ (k ++ (l ++ (m ++ []))))))))))) ++ n)
-    regroup z a b c d e f g h i j k l m n = simp (append_assoc, append-nil)
+spaced_end : (e : End) → spaced (end_tokens e) ≡ SPACE ∷ end_text e
+spaced_end e = grind (arith, append-nil, append_assoc)
 
-pub spelled_entry : (before : List ℕ) (e : Entry) → (((((((((((((before ++ codes "shape") ++ SPACE ∷ address_token e.addr) ++ SPACE ∷ key_token e.key) ++ SPACE ∷ codes "end") ++ spaced (end_tokens e.stop)) ++ SPACE ∷ codes "box") ++ spaced (box_tokens e.lit)) ++ SPACE ∷ codes "depth") ++ SPACE ∷ decimal e.depth) ++ SPACE ∷ codes "words") ++ SPACE ∷ decimal e.words) ++ SPACE ∷ codes "scale") ++ SPACE ∷ key_token e.scale) ++ LINE_FEED ∷ [] ≡ before ++ ended (entry_line e)
-spelled_entry before e = line_parts before (codes "shape") (address_token e.addr) (key_token e.key) (codes "end") (end_tokens e.stop) (codes "box") (box_tokens e.lit) (codes "depth") (decimal e.depth) (codes "words") (decimal e.words) (codes "scale") (key_token e.scale)
+spaced_box : (b : LitBox) → spaced (box_tokens b) ≡ SPACE ∷ box_text b
+spaced_box b = grind (arith, append-nil, append_assoc)
+
+regroup : (z a b c d e f g h i j k l m n : List ℕ) → (((((((((((((z ++ a) ++ b) ++ c) ++ d) ++ e) ++ f) ++ g) ++ h) ++ i) ++ j) ++ k) ++ l) ++ m) ++ n ≡ z ++ ((a ++ (b ++ (c ++ (d ++ (e ++ (f ++ (g ++ (h ++ (i ++ (j ++ (k ++ (l ++ (m ++ []))))))))))))) ++ n)
+regroup z a b c d e f g h i j k l m n = simp (append_assoc, append-nil)
+
+pub spelled_entry : (before : List ℕ) (e : Entry)
+    → (((((((((((((before ++ codes "shape") ++ SPACE ∷ address_token e.addr) ++ SPACE ∷ key_token e.key) ++ SPACE ∷ codes "end") ++ spaced (end_tokens e.stop)) ++ SPACE ∷ codes "box") ++ spaced (box_tokens e.lit)) ++ SPACE ∷ codes "depth") ++ SPACE ∷ decimal e.depth) ++ SPACE ∷ codes "words") ++ SPACE ∷ decimal e.words) ++ SPACE ∷ codes "scale") ++ SPACE ∷ key_token e.scale) ++ LINE_FEED ∷ []
+    ≡ before ++ ended (entry_line e)
+spelled_entry before e =
+    rw (spaced_end e.stop, spaced_box e.lit) (regroup before (codes "shape") (SPACE ∷ address_token e.addr) (SPACE ∷ key_token e.key) (SPACE ∷ codes "end") (SPACE ∷ end_text e.stop) (SPACE ∷ codes "box") (SPACE ∷ box_text e.lit)
+    (SPACE ∷ codes "depth") (SPACE ∷ decimal e.depth) (SPACE ∷ codes "words") (SPACE ∷ decimal e.words) (SPACE ∷ codes "scale") (SPACE ∷ key_token e.scale) (LINE_FEED ∷ [])
+    ∙ ap (λ (l : List ℕ). before ++ ended l) (sym (entry_joined e)))
 
 -- where an error is returned
 pub sent_err : {X E P : Type 0} (r : Result X E) → P → OnErr r P
@@ -91,8 +79,7 @@ elsewhere_held map held is h = grind (arith, ended, second_version_line, codes, 
 
 -- one more entry is held
 pub entry_held : (old mid new : Option (List ℕ)) (map : MemoryMap) (es : List Entry) (i : ℕ) (d : Entry) (held rest more : List ℕ) → i < length es → more ≡ rest ++ ended (entry_line (get_or es i d)) → Buffered old mid held (begun_with map (take i es)) → Buffered mid new rest held → Buffered old new more (begun_with map (take (i + 1) es))
-entry_held old mid new map es i d held rest more lt m h k =
-    rw (m, begun_next map es i d lt) (buffered_more old new rest (ended (entry_line (get_or es i d))) (begun_with map (take i es)) (buffered_on old mid new held rest (begun_with map (take i es)) h k))
+entry_held old mid new map es i d held rest more lt m h k = grind (arith, append_assoc, (begun_next map es i d lt), (buffered_on old mid new held rest (begun_with map (take i es)) h k))
 
 -- the last line is held
 pub done_held : (old mid new : Option (List ℕ)) (map : MemoryMap) (es cert : List Entry) (i n : ℕ) (held rest more : List ℕ) → es ≡ cert → i ≡ length es → n ≡ length es → more ≡ rest ++ ended (done_line n) → Buffered old mid held (begun_with map (take i es)) → Buffered mid new rest held → Buffered old new more (text_of map cert)
@@ -102,7 +89,4 @@ done_held old mid new map es cert i n held rest more same all m p h k =
 
 -- a write failed before the last line was held
 pub begun_in_part : (old mid new : Option (List ℕ)) (map : MemoryMap) (es cert : List Entry) (i : ℕ) (held : List ℕ) → es ≡ cert → Buffered old mid held (begun_with map (take i es)) → AppendsPrefix mid new held → AppendsPrefix old new (text_of map cert)
-begun_in_part old mid new map es cert i held same h s =
-    let tail : List ℕ = flat_map (λ e. ended (entry_line e)) (drop i es) ++ ended (done_line (length es)) in
-    let parts : text_of map cert ≡ h.0 ++ (held ++ tail) = ap (text_of map) (sym same) ∙ text_at map es i ∙ ap (λ (t : List ℕ). t ++ tail) h.2 ∙ append_assoc h.0 held tail in
-    sent_part old mid new (text_of map cert) h.0 held tail parts h.1 s
+begun_in_part old mid new map es cert i held same h s = grind (arith, (text_at map es i), append_assoc, (sent_part old mid new (text_of map cert) h.0 held (flat_map (λ e. ended (entry_line e)) (drop i es) ++ ended (done_line (length es)))))

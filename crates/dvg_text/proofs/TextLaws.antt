@@ -1,66 +1,53 @@
 -- The laws of texts.
-use Rattle.dvg_text.proofs.Common.{◌≡◌, ◌≢◌, ℕ, ◌+◌, ◌*◌, ◌≤◌, Bool, cond, List, [], ◌∷◌, ◌++◌, length, Result, Ok, Err, map, refl, ap, subst, ◌∙◌, append_assoc, arith, inl, inr, ◌==◌, count_by, AllByRecursion, length-map, append-nil, length-append, LONGEST_LINE, LINE_FEED, CertWhy, Unended, Memory, CertFault, Entry, entry_line, heading, begun_with, text_of, Certificate, Taken, Whole, text_taken, line_number, Without, Holds, MayStand, MemoryMap, IsRefusal, ReadAnswer, rules, common_steps}
-use Rattle.std.proofs.lemmas.List.Sums.{sum_by-append, sum_by-cons}
-use Rattle.dvg_text.specs.Laws.{NotMemory}
-use Rattle.dvg_text.proofs.Refusals.{rest_free}
-use Rattle.dvg_text.proofs.LinesOfTexts.{lines_text, Fits, behind, entry_lines, lines_of}
-use Rattle.dvg_text.proofs.OneAnswerLemmas.{taken_fits, taken_lines, spelled_once, spelled_fault, fault_once, standing_fault}
-use Rattle.dvg_text.proofs.AnyText.{Judged, stuck_refusal, stuck_stays}
+use Rattle.dvg_text.proofs.Common.{◌≡◌, ◌≢◌, ℕ, List, ◌++◌, ◌∷◌, [], Result, Ok, Err, refl, ap, sym, subst, ◌∙◌, append_assoc, arith, CertWhy, Unended, Memory, CertFault, begun_with, text_of, Certificate, Taken, Nothing, MayStand, IsRefusal, StopsAt, ReadAnswer}
+use Rattle.dvg_text.specs.Laws.{NotMemory, OneText, OneCertificate, OneAnswer, ReadBack, OpenAnswer, OpenPrefix, ShortText}
+use Rattle.dvg_text.proofs.FirstLines.{few_heads}
+use Rattle.dvg_text.proofs.EachByte.{read, read_held, ReadIs, whole_read, kept, stuck_read, answer, answer_is, one_answer}
 
 -- two answers that are not out of memory are one
 pub answers_once : (text : List ℕ) (a b : Result Certificate CertFault) → ReadAnswer text a → NotMemory a → ReadAnswer text b → NotMemory b → a ≡ b
-answers_once text a b h n k m = grind (arith, spelled_once, spelled_fault, fault_once)
+answers_once text a b h n k m = sym (one_answer text a h n) ∙ one_answer text b k m
 
--- the answer to a text that may stand
-standing_answer : (text : List ℕ) (taken : Taken) (rest : List ℕ) → Holds text taken rest → (answer : Result Certificate CertFault) × ReadAnswer text answer × NotMemory answer
-standing_answer text (Whole map es) rest h =
-    let none : rest ≡ [] = h.begun in
-    (Ok (record { map = map; entries = es }), (h.lines, h.parts ∙ ap (λ (x : List ℕ). text_of map es ++ x) none ∙ append-nil (text_of map es)), tt)
-standing_answer text taken rest h = (Err (record { line = line_number taken; why = Unended }), (taken, rest, h, tt, refl), λ e. absurd cc)
+pub one_text : OneText
+one_text c h = (text_of c.map c.entries, (h, refl), λ other k. k.1)
 
-pub some_answer : (text : List ℕ) → Judged text → (answer : Result Certificate CertFault) × ReadAnswer text answer × NotMemory answer
-some_answer text (inl s) = standing_answer text s.0 s.1 s.2
-some_answer text (inr s) = let r = stuck_refusal s.1 text s.0 s.2 in (Err (record { line = s.0; why = s.1 }), r.0, r.1)
+pub one_certificate : OneCertificate
+one_certificate c d text h k = let same = answers_once text (Ok c) (Ok d) h tt k tt in cc
+
+pub each_answer : OneAnswer
+each_answer text = let a = answer_is (read text Nothing []) text (whole_read text) in (answer (read text Nothing []), a.0, a.1, λ other h n. sym (one_answer text other h n))
+
+pub read_back : ReadBack
+read_back c text a spelled h n = answers_once text a (Ok c) h n spelled tt
+
+pub open_answer : OpenAnswer
+open_answer text f h k n = grind (arith, (read_held text h.0 h.1 h.2), (one_answer text (Err f) k n))
 
 -- the only refusal of a text that may stand, its end aside
 pub only_memory : (why : CertWhy) (text : List ℕ) (line : ℕ) → IsRefusal text line why → why ≢ Unended → MayStand text → why ≡ Memory
-only_memory why text line h n m = grind (arith, standing_fault)
+only_memory Memory text line h n m = refl
+only_memory why text line h n m = absurd (n (open_answer text (record { line = line; why = why }) m h (λ e. absurd cc)))
 
--- the line ends of a text
-abbrev pub ends_in : List ℕ → ℕ
-ends_in xs = count_by (λ b. b == LINE_FEED) xs
-
-ends-free : (xs : List ℕ) → Without LINE_FEED xs → ends_in xs ≡ 0
-ends-free [] h = refl
-ends-free (x ∷ xs) h = grind (arith, (ends-free xs h.1), cond)
-
-ends-lines : (ls : List (List ℕ)) → AllByRecursion Fits ls → ends_in (lines_text ls) ≡ length ls
-ends-lines [] h = refl
-ends-lines (l ∷ ls) h = omega (arith, sum_by-append, sum_by-cons, ends-free l h.0.0, ends-lines ls h.1)
-
-pub length-body : (done : Bool) (map : MemoryMap) (es : List Entry) → length (heading map ++ (entry_lines es ++ behind done es)) ≡ length (heading map) + (length es + length (behind done es))
-length-body done map es = omega (arith, length-append (heading map) (entry_lines es ++ behind done es), length-append (entry_lines es) (behind done es), length-map es entry_line)
-
-length-lines : (taken : Taken) → line_number taken ≡ length (lines_of taken) + 1
-length-lines taken = grind (arith, rules, common_steps, map, length-body)
-
-pub line_at : (text : List ℕ) (taken : Taken) (rest : List ℕ) → Holds text taken rest → line_number taken ≡ count_by (λ b. b == LINE_FEED) text + 1
-line_at text taken rest h =
-    let whole : ends_in text ≡ ends_in (text_taken taken) + ends_in rest = ap ends_in h.parts ∙ sum_by-append (λ b. cond (b == LINE_FEED) 1 0) (text_taken taken) rest in
-    let all : ends_in (text_taken taken) ≡ length (lines_of taken) = ap ends_in (taken_lines taken) ∙ ends-lines (lines_of taken) (taken_fits taken h.lines) in
-    omega (arith, whole, all, ends-free rest (rest_free taken rest h.begun).0, length-lines taken)
-
--- short lines with their ends
-pub short_lines : (ls : List (List ℕ)) → AllByRecursion Fits ls → length (lines_text ls) ≤ LONGEST_LINE * length ls
-short_lines [] h = omega arith
-short_lines (l ∷ ls) h = omega (arith, length-append l (LINE_FEED ∷ lines_text ls), h.0.1, short_lines ls h.1)
+-- a byte that cannot come stays where it is
+stuck_stays : (prefix after : List ℕ) (line : ℕ) (why : CertWhy) → StopsAt prefix line why → StopsAt (prefix ++ after) line why
+stuck_stays prefix after line why s = (s.0, s.1, s.2 ++ after, s.3, s.4, ap (λ (x : List ℕ). x ++ after) s.5 ∙ append_assoc s.0 (s.1 ∷ s.2) after, s.6, s.7, s.8)
 
 -- a refusal stays where it is, its end aside
 pub refusal_stays : (why : CertWhy) (prefix after : List ℕ) (line : ℕ) → IsRefusal prefix line why → why ≢ Unended → IsRefusal (prefix ++ after) line why
 refusal_stays Memory prefix after line h n = grind (arith, (append_assoc (begun_with h.0 h.1) h.2 after), (begun_with h.0 h.1))
 refusal_stays Unended prefix after line h n = absurd (n refl)
-refusal_stays why prefix after line h n = stuck_stays prefix after h
+refusal_stays why prefix after line h n = stuck_stays prefix after line why h
 
--- an open text may stand
-pub open_stands : (why : CertWhy) (text : List ℕ) (line : ℕ) → IsRefusal text line why → why ≡ Unended → MayStand text
-open_stands why text line h e = let o = subst (IsRefusal text line) e h in (o.0, o.1, o.2)
+pub open_prefix : OpenPrefix
+open_prefix prefix after h = by (read prefix Nothing []) (whole_read prefix)
+  where
+    by : (r : Result (Taken × List ℕ) CertFault) → ReadIs prefix r → MayStand prefix
+    by (Ok s) k = (s.0, s.1, k.holds)
+    by (Err f) s = let e = sym (stuck_read (prefix ++ after) f.line f.why (stuck_stays prefix after f.line f.why s)) ∙ read_held (prefix ++ after) h.0 h.1 h.2 in absurd cc
+
+pub short_text : ShortText
+short_text text h = grind (arith, (kept text h.0 h.1 h.2), few_heads)
+
+-- a text that is refused for its end may stand
+pub open_end : (text : List ℕ) (f : CertFault) → ReadAnswer text (Err f) → f.why ≡ Unended → MayStand text
+open_end text f h e = let o = subst (IsRefusal text f.line) e h in (o.0, o.1, o.2)

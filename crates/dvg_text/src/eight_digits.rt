@@ -31,6 +31,7 @@ pub fn leading_digits(bytes: &[u8; 16]) -> usize
 }
 
 /// The number that the first `count` of eight bytes spell, which are digits.
+#[tactic(auto, using(crate::proofs::DigitSums::value_of))]
 #[inline(always)]
 fn number_of_eight(bytes: &[u8; 8], count: usize) -> u64
     requires some { 1 ≤ count }
@@ -56,6 +57,7 @@ fn eight_at(bytes: &[u8; 16], from: usize) -> &[u8; 8]
 }
 
 /// The number that the first `count` of sixteen bytes spell, which are digits.
+#[tactic(auto, using(crate::proofs::DigitSums::first_digits))]
 #[inline(always)]
 pub fn number_of_digits(bytes: &[u8; 16], count: usize) -> u64
     requires some { 1 ≤ count }
@@ -70,6 +72,7 @@ pub fn number_of_digits(bytes: &[u8; 16], count: usize) -> u64
 }
 
 /// The same for more than eight digits.
+#[tactic(auto, using(crate::proofs::DigitSums::halves))]
 #[inline(always)]
 fn number_of_many(bytes: &[u8; 16], count: usize) -> u64
     requires many { 8 < count }

@@ -75,6 +75,7 @@ impl<'a> Fields<'a> {
     }
 
     /// Takes a number from `low` to `high` that was already read from the bytes left.
+    #[tactic(auto, using(crate::proofs::Steps::natural_none_at, crate::proofs::Steps::natural_outside, crate::proofs::Steps::natural_is))]
     #[inline(always)]
     fn natural_of(&mut self, read: Option<(u64, &'a [u8])>, low: u64, high: u64) -> Option<u64>
         requires read { LeadsWith (λ rest. rest.now) self.old read }
@@ -101,6 +102,7 @@ impl<'a> Fields<'a> {
     }
 
     /// Takes a digit from 0 to `most`. Else nothing is taken.
+    #[tactic(auto, unfolding(crate::specs::Private::Fields::digit_at))]
     #[inline(always)]
     fn digit(&mut self, most: u8) -> Option<u8>
         requires { most ≤ 9 }
@@ -136,6 +138,7 @@ impl<'a> Fields<'a> {
     }
 
     /// Takes a word address from `first` to `last`.
+    #[tactic(auto, unfolding(crate::specs::Private::Fields::address_at))]
     #[inline(always)]
     pub fn address(&mut self, first: u16, last: u16) -> Option<u16>
         ensures { Reads result self.new (address_at first last self.old) }
@@ -294,6 +297,7 @@ fn magnitude_and_rest(bytes: &[u8]) -> Option<(u64, &[u8])>
 }
 
 /// The bytes after this text, where they begin with it.
+#[tactic(auto, using(crate::proofs::Steps::past_short))]
 #[inline(always)]
 fn after_text<'a, const N: usize>(bytes: &'a [u8], text: &[u8; N]) -> Option<&'a [u8]>
     ensures { past text.now bytes.now ≡ option_map (λ rest. rest.now) result }
@@ -335,6 +339,7 @@ fn last_word<const N: usize>(text: &[u8; N]) -> u32
     word_of(text.last_chunk::<4>().unwrap())
 }
 
+#[tactic(auto, using(std::proofs::lemmas::Nat::le_bytes_4))]
 #[inline(always)]
 fn word_of(bytes: &[u8; 4]) -> u32
     ensures value { result ≡ from_le_bytes w32 bytes.now }

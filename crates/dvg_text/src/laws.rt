@@ -3,26 +3,31 @@
 ghost use Rattle.dvg_text.specs.Laws.{OneText, OneCertificate, OneAnswer, ReadBack, OpenAnswer, OpenPrefix, LineNumber, ShortText, PrefixRefusal, CutRefusal};
 
 /// Each certificate has exactly one text.
+#[tactic(auto, using(crate::proofs::TextLaws::one_text))]
 pub fn one_text()
     ensures { OneText }
 {}
 
 /// Each text spells at most one certificate.
+#[tactic(auto, using(crate::proofs::TextLaws::one_certificate))]
 pub fn one_certificate()
     ensures { OneCertificate }
 {}
 
 /// Each text has exactly one answer of the reader, running out of memory aside.
+#[tactic(auto, using(crate::proofs::TextLaws::each_answer))]
 pub fn one_answer()
     ensures { OneAnswer }
 {}
 
 /// The text of a certificate, as `write_cert` writes it, is read back as that certificate, running out of memory aside.
+#[tactic(auto, using(crate::proofs::TextLaws::read_back))]
 pub fn read_back()
     ensures { ReadBack }
 {}
 
 /// A text whose whole lines were all taken is refused for its end alone, running out of memory aside.
+#[tactic(auto, using(crate::proofs::TextLaws::open_answer))]
 pub fn open_answer()
     ensures { OpenAnswer }
 {}
@@ -38,11 +43,13 @@ pub fn line_number()
 {}
 
 /// A text whose whole lines were all taken has at most 819,800 bytes: 4099 lines of 200, one for each entry and three.
+#[tactic(auto, using(crate::proofs::TextLaws::short_text))]
 pub fn short_text()
     ensures { ShortText }
 {}
 
 /// A refusal of a prefix of a text, its end aside, is a refusal of the text.
+#[tactic(auto, using(crate::proofs::TextLaws::refusal_stays))]
 pub fn prefix_refusal()
     ensures { PrefixRefusal }
 {}

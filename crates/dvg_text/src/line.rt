@@ -15,6 +15,7 @@ use dvg_cert::{Entry, MOST_ENTRIES};
 use dvg_words::{ADDRESS_END, RomMap};
 
 /// The map that a line spells, which comes without its end. `None` if it spells no map, or the Asteroids map.
+#[tactic(auto, using(crate::proofs::FirstLines::nowhere_said))]
 pub fn elsewhere_of(line: &[u8]) -> Option<RomMap>
     ensures found { IfSome result (λ map. IsElsewhere map × (line.now ≡ rom_line map)) }
     ensures none { IfNone result ((map : MemoryMap) → IsElsewhere map → line.now ≢ rom_line map) }
@@ -25,6 +26,7 @@ pub fn elsewhere_of(line: &[u8]) -> Option<RomMap>
 }
 
 /// The entry that a line spells, for a ROM from word address `first` to `last`. The line comes without its end.
+#[tactic(auto, using(crate::proofs::WholeLines::entry_takes, crate::proofs::WholeLines::entry_again))]
 pub fn entry_of(line: &[u8], first: u16, last: u16) -> Option<Entry>
     requires { last < ADDRESS_END }
     ensures found { IfSome result (λ e. IsLine first last (EntryLine e) line.now) }
@@ -46,6 +48,7 @@ pub fn ended_entry(bytes: &[u8], first: u16, last: u16) -> Option<(Entry, &[u8])
 }
 
 /// The number of entries that the last line of a certificate spells. The line comes without its end.
+#[tactic(auto, using(crate::proofs::WholeLines::count_takes, crate::proofs::WholeLines::count_again))]
 pub fn count_of(line: &[u8]) -> Option<u16>
     ensures found { IfSome result (λ n. (n ≤ MOST_ENTRIES) × (line.now ≡ done_line n)) }
     ensures none { IfNone result ((n : ℕ) → n ≤ MOST_ENTRIES → line.now ≡ done_line n → ⊥) }

@@ -43,6 +43,7 @@ pub fn address_of(a: u8, b: u8, c: u8, first: u16, last: u16) -> Option<u16>
 }
 
 /// The word address that a token spells: three hexadecimal digits in capitals.
+#[tactic(auto, using(crate::proofs::FieldValues::address_takes, crate::proofs::FieldValues::address_again))]
 pub fn read_address(token: &[u8]) -> Option<u16>
     ensures some { IfSome result (λ addr. (addr < ADDRESS_END) × (token.now ≡ address_token addr)) }
     ensures none { IfNone result ((addr : ℕ) → addr < ADDRESS_END → token.now ≡ address_token addr → ⊥) }
@@ -74,6 +75,7 @@ fn hex_digit(value: u8) -> u8
 }
 
 /// The key that a token spells: the decimal of a scale of 0 to 15, or `any`.
+#[tactic(auto, using(crate::proofs::FieldValues::natural_takes))]
 pub fn read_key(token: &[u8]) -> Option<Key>
     ensures some { IfSome result (λ key. IsKey key × (token.now ≡ key_token key)) }
     ensures none { IfNone result ((key : KeyValue) → IsKey key → token.now ≡ key_token key → ⊥) }
@@ -86,6 +88,7 @@ pub fn read_key(token: &[u8]) -> Option<Key>
 }
 
 /// The number from 0 to `most` that a token spells: a decimal without a leading zero.
+#[tactic(auto, using(crate::proofs::FieldValues::natural_some, crate::proofs::FieldValues::natural_takes))]
 pub fn read_decimal(token: &[u8], most: u16) -> Option<u16>
     ensures some { IfSome result (λ n. (n ≤ most) × (token.now ≡ decimal n)) }
     ensures none { IfNone result ((n : ℕ) → n ≤ most → token.now ≡ decimal n → ⊥) }
@@ -108,6 +111,7 @@ fn hex_value(digit: u8) -> u8
 }
 
 /// The number from `low` to `high` that a token spells.
+#[tactic(auto, using(crate::proofs::Leading::value_taken, crate::proofs::Leading::value_outside, crate::proofs::Leading::no_value))]
 fn natural(token: &[u8], low: u64, high: u64) -> Option<u64>
     requires { high ≤ MOST_MAGNITUDE }
     ensures value { result ≡ natural_in low high token.now }
@@ -161,6 +165,7 @@ pub fn leading_number_by_digits(bytes: &[u8]) -> Option<(u64, &[u8])>
 
 /// The number that the first `count` bytes spell, which are digits, and the bytes after them. `None` if there is no digit, or a
 /// zero that should not lead.
+#[tactic(auto, using(crate::proofs::Leading::no_digits, crate::proofs::Leading::zero_led))]
 #[inline(always)]
 fn digits_taken(bytes: &[u8], count: usize, number: u64) -> Option<(u64, &[u8])>
     requires digits { AllDigits 10 (take count bytes.now) }

@@ -45,6 +45,7 @@ impl CertReader {
     }
 
     /// Reads the next piece. The text may be cut anywhere. After a refusal every call answers it again.
+    #[tactic(auto, using(crate::proofs::TextLaws::only_memory))]
     pub fn feed(&mut self, piece: &[u8]) -> Result<(), CertFault>
         ensures { FeedsTo self.old piece.now self.new result }
     {
@@ -181,6 +182,7 @@ fn take_begun(lines: &mut TakenLines, begun: &mut LineBuffer, prefix: &[u8]) -> 
 }
 
 /// The position of the LF that ends the next line, `None` if there is none yet. Refuses a line of `room` bytes or more.
+#[tactic(auto, using(crate::proofs::Cutting::found_at, crate::proofs::Cutting::free_none))]
 #[inline(always)]
 fn line_end(rest: &[u8], room: usize) -> Result<Option<usize>, CertWhy>
     ensures { EndsLine room rest.now result }
@@ -196,6 +198,7 @@ fn line_end(rest: &[u8], room: usize) -> Result<Option<usize>, CertWhy>
 }
 
 /// The position of the first LF.
+#[tactic(auto, using(crate::proofs::Cutting::first_byte))]
 #[inline(always)]
 fn line_feed_at(bytes: &[u8]) -> Option<usize>
     ensures { result ≡ position (λ b. b == LINE_FEED) bytes.now }

@@ -81,6 +81,7 @@ impl TakenLines {
     }
 
     /// Takes a line, which comes without its end.
+    #[tactic(auto, using(crate::proofs::Refusals::first_at))]
     #[inline(always)]
     pub fn take_line(&mut self, line: &[u8]) -> Result<(), CertWhy>
         requires { IsUnended self.old }
@@ -172,6 +173,7 @@ fn heading(map: RomMap) -> u32
 }
 
 /// Takes the line of an entry or the last line, and gives the stage after it.
+#[tactic(auto, using(crate::proofs::Refusals::entry_taken))]
 #[inline(always)]
 fn take_later(map: RomMap, entries: &mut Vec<Entry>, line: &[u8]) -> Result<Stage, CertWhy>
     requires { IsCertificate map entries.old.items }
@@ -191,6 +193,7 @@ fn take_later(map: RomMap, entries: &mut Vec<Entry>, line: &[u8]) -> Result<Stag
 }
 
 /// Adds an entry, which has to stand after the last one. An `Err` changes nothing.
+#[tactic(auto, using(dvg_cert::proofs::Rising::certificate_push))]
 #[inline(always)]
 fn take_entry(map: RomMap, entries: &mut Vec<Entry>, entry: Entry) -> Result<(), CertWhy>
     requires taken { IsCertificate map entries.old.items }

@@ -81,6 +81,7 @@ fn make_room<W: CountedWrite>(text: &mut WriteBuffer, out: &mut W) -> Result<(),
 }
 
 /// The lines before the entries.
+#[tactic(auto, using(crate::proofs::Spelled::here_held, crate::proofs::Spelled::elsewhere_held))]
 fn push_heading(text: &mut WriteBuffer, map: RomMap)
     requires { text.old.items ≡ [] }
     ensures { text.new.items ≡ begun_with map [] }
@@ -95,6 +96,7 @@ fn push_heading(text: &mut WriteBuffer, map: RomMap)
     }
 }
 
+#[tactic(auto, using(crate::proofs::Spelled::spelled_entry))]
 fn push_entry(text: &mut WriteBuffer, entry: &Entry)
     requires entry { IsEntry 0 (ADDRESS_END - 1) entry.now }
     requires room { array_vec_len text.old + LONGEST_LINE ≤ MOST_AT_ONCE }
@@ -126,6 +128,7 @@ fn push_done(text: &mut WriteBuffer, count: u32)
     push_bytes(text, &[LINE_FEED]);
 }
 
+#[tactic(auto, using(crate::proofs::Lengths::words_le))]
 fn push_natural(text: &mut WriteBuffer, number: u32)
     requires number { number ≤ MOST_WORDS }
     requires room { array_vec_len text.old + 8 ≤ MOST_AT_ONCE }
@@ -136,6 +139,7 @@ fn push_natural(text: &mut WriteBuffer, number: u32)
     push_token(text, buffer.format(number).as_bytes());
 }
 
+#[tactic(auto, using(crate::proofs::Lengths::number_texts))]
 fn push_number(text: &mut WriteBuffer, number: &i64)
     requires number { IsNumber number.now }
     requires room { array_vec_len text.old + 15 ≤ MOST_AT_ONCE }

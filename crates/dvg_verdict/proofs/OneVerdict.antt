@@ -1,13 +1,11 @@
 -- There is one verdict on bytes.
-use Rattle.dvg_verdict.proofs.Common.{List, length, sym, ap, refl, ◌≡◌, ◌∙◌, ℕ, arith, Rom, IsRomLength, rom_on, Window, GoodFrame, Err, Ok, Result, Certificate, Spells, ReadAnswer}
+use Rattle.dvg_verdict.proofs.Common.{List, length, sym, ap, ◌≡◌, ◌∙◌, ℕ, arith, Rom, rom_on, Window, GoodFrame, Err, Ok, Result, Certificate, Spells, ReadAnswer}
 use Rattle.dvg_words.specs.declared.machine.Machine.{Machine}
 use Rattle.dvg_cert.specs.declared.entry.Entry.{Entry}
 use Rattle.dvg_check.specs.declared.fault.Mode.{Mode}
-use Rattle.dvg_words.specs.declared.image.ImageFault.TheVariants.{RomLength, FrameLength}
 use Rattle.dvg_text.specs.Laws.{OneCertificate, OneAnswer, NotMemory as HasMemory}
 use Rattle.dvg_cert.specs.declared.fault.CertFault.{CertFault}
 use Rattle.dvg_cert.specs.declared.fault.CertWhy.TheVariants.{Memory}
-use Rattle.dvg_verdict.specs.Laws.{OneVerdict}
 use Rattle.dvg_check.specs.Verdict.{RangeRefusal, PartsVerdict, RomVerdict}
 use Rattle.dvg_verdict.specs.Verdict.{CertVerdict, VerdictOn, NotMemory}
 use Rattle.dvg_check.specs.declared.verdict.Refusal.{Refusal}
@@ -27,58 +25,17 @@ same_parts : (mode : Mode) (w : Window) (rom : Rom) (list : List Entry) (words :
 same_parts mode w rom list words budget (Ok y) (Ok z) h k m n = ap Ok (same_yes w rom.machine words list budget y z h.1 k.1 h.2 k.2)
 same_parts mode w rom list words budget (Ok y) (Err (refusal.Shape g)) h k m n = absurd (no_shape_fault mode w rom list g h.0 k)
 same_parts mode w rom list words budget (Ok y) (Err (refusal.Frame g)) h k m n = absurd (no_fault w rom.machine words list budget y.words y.depth g h.1 k.1)
-same_parts mode w rom list words budget (Ok y) (Err (refusal.Image g)) h k m n = absurd k
-same_parts mode w rom list words budget (Ok y) (Err refusal.BudgetRange) h k m n = absurd k
-same_parts mode w rom list words budget (Ok y) (Err (refusal.Cert g)) h k m n = absurd k
-same_parts mode w rom list words budget (Ok y) (Err refusal.IndexMemory) h k m n = absurd n
 same_parts mode w rom list words budget (Err (refusal.Shape f)) (Ok z) h k m n = absurd (no_shape_fault mode w rom list f k.0 h)
 same_parts mode w rom list words budget (Err (refusal.Shape f)) (Err (refusal.Shape g)) h k m n = ap (λ x. Err (refusal.Shape x)) (one_shape_fault mode w rom list f g h k)
 same_parts mode w rom list words budget (Err (refusal.Shape f)) (Err (refusal.Frame g)) h k m n = absurd (no_shape_fault mode w rom list f k.0 h)
-same_parts mode w rom list words budget (Err (refusal.Shape f)) (Err (refusal.Image g)) h k m n = absurd k
-same_parts mode w rom list words budget (Err (refusal.Shape f)) (Err refusal.BudgetRange) h k m n = absurd k
-same_parts mode w rom list words budget (Err (refusal.Shape f)) (Err (refusal.Cert g)) h k m n = absurd k
-same_parts mode w rom list words budget (Err (refusal.Shape f)) (Err refusal.IndexMemory) h k m n = absurd n
 same_parts mode w rom list words budget (Err (refusal.Frame f)) (Ok z) h k m n = absurd (no_fault w rom.machine words list budget z.words z.depth f k.1 h.1)
 same_parts mode w rom list words budget (Err (refusal.Frame f)) (Err (refusal.Shape g)) h k m n = absurd (no_shape_fault mode w rom list g h.0 k)
 same_parts mode w rom list words budget (Err (refusal.Frame f)) (Err (refusal.Frame g)) h k m n = ap (λ x. Err (refusal.Frame x)) (one_fault w rom.machine words list budget f g h.1 k.1)
-same_parts mode w rom list words budget (Err (refusal.Frame f)) (Err (refusal.Image g)) h k m n = absurd k
-same_parts mode w rom list words budget (Err (refusal.Frame f)) (Err refusal.BudgetRange) h k m n = absurd k
-same_parts mode w rom list words budget (Err (refusal.Frame f)) (Err (refusal.Cert g)) h k m n = absurd k
-same_parts mode w rom list words budget (Err (refusal.Frame f)) (Err refusal.IndexMemory) h k m n = absurd n
-same_parts mode w rom list words budget (Err (refusal.Image f)) b h k m n = absurd h
-same_parts mode w rom list words budget (Err refusal.BudgetRange) b h k m n = absurd h
-same_parts mode w rom list words budget (Err (refusal.Cert f)) b h k m n = absurd h
-same_parts mode w rom list words budget (Err refusal.IndexMemory) b h k m n = absurd m
-
--- an answer by the shapes and the frame is the one on a ROM's bytes
-by_parts : (machine : Machine) (mode : Mode) (w : Window) (rom : List ℕ) (c : Certificate) (words : List ℕ) (budget : ℕ) (a b : Result Yes Refusal) → IsRomLength c.map (length rom)
-    → PartsVerdict mode w (rom_on machine c.map rom) c.entries words budget a → RomVerdict machine mode w rom c words budget b → NotMemory a → NotMemory b → a ≡ b
-by_parts machine mode w rom c words budget a (Err (refusal.Image RomLength)) whole h k m n = absurd (k whole)
-by_parts machine mode w rom c words budget a (Err (refusal.Shape g)) whole h k m n = same_parts mode w (rom_on machine c.map rom) c.entries words budget a (Err (refusal.Shape g)) h k.1 m n
-by_parts machine mode w rom c words budget a (Err (refusal.Frame g)) whole h k m n = same_parts mode w (rom_on machine c.map rom) c.entries words budget a (Err (refusal.Frame g)) h k.1 m n
-by_parts machine mode w rom c words budget a (Ok z) whole h k m n = same_parts mode w (rom_on machine c.map rom) c.entries words budget a (Ok z) h k.1 m n
-by_parts machine mode w rom c words budget a (Err (refusal.Image FrameLength)) whole h k m n = absurd k.1
-by_parts machine mode w rom c words budget a (Err refusal.BudgetRange) whole h k m n = absurd k.1
-by_parts machine mode w rom c words budget a (Err (refusal.Cert g)) whole h k m n = absurd k.1
-by_parts machine mode w rom c words budget a (Err refusal.IndexMemory) whole h k m n = absurd n
+same_parts mode w rom list words budget a b h k m n = grind (arith)
 
 -- a ROM's bytes come to one answer by one certificate
 same_rom : (machine : Machine) (mode : Mode) (w : Window) (rom : List ℕ) (c : Certificate) (words : List ℕ) (budget : ℕ) (a b : Result Yes Refusal) → RomVerdict machine mode w rom c words budget a → RomVerdict machine mode w rom c words budget b → NotMemory a → NotMemory b → a ≡ b
-same_rom machine mode w rom c words budget (Err (refusal.Image RomLength)) (Err (refusal.Image RomLength)) h k m n = refl
-same_rom machine mode w rom c words budget (Err (refusal.Image RomLength)) (Err (refusal.Shape g)) h k m n = absurd (h k.0)
-same_rom machine mode w rom c words budget (Err (refusal.Image RomLength)) (Err (refusal.Frame g)) h k m n = absurd (h k.0)
-same_rom machine mode w rom c words budget (Err (refusal.Image RomLength)) (Ok z) h k m n = absurd (h k.0)
-same_rom machine mode w rom c words budget (Err (refusal.Image RomLength)) (Err (refusal.Image FrameLength)) h k m n = absurd k.1
-same_rom machine mode w rom c words budget (Err (refusal.Image RomLength)) (Err refusal.BudgetRange) h k m n = absurd k.1
-same_rom machine mode w rom c words budget (Err (refusal.Image RomLength)) (Err (refusal.Cert g)) h k m n = absurd k.1
-same_rom machine mode w rom c words budget (Err (refusal.Image RomLength)) (Err refusal.IndexMemory) h k m n = absurd n
-same_rom machine mode w rom c words budget (Err (refusal.Shape f)) b h k m n = by_parts machine mode w rom c words budget (Err (refusal.Shape f)) b h.0 h.1 k m n
-same_rom machine mode w rom c words budget (Err (refusal.Frame f)) b h k m n = by_parts machine mode w rom c words budget (Err (refusal.Frame f)) b h.0 h.1 k m n
-same_rom machine mode w rom c words budget (Ok y) b h k m n = by_parts machine mode w rom c words budget (Ok y) b h.0 h.1 k m n
-same_rom machine mode w rom c words budget (Err (refusal.Image FrameLength)) b h k m n = absurd h.1
-same_rom machine mode w rom c words budget (Err refusal.BudgetRange) b h k m n = absurd h.1
-same_rom machine mode w rom c words budget (Err (refusal.Cert f)) b h k m n = absurd h.1
-same_rom machine mode w rom c words budget (Err refusal.IndexMemory) b h k m n = absurd m
+same_rom machine mode w rom c words budget a b h k m n = grind (arith, (same_parts mode w (rom_on machine c.map rom) c.entries words budget a b))
 
 module _ (one_certificate : OneCertificate) (one_answer : OneAnswer) (machine : Machine) (mode : Mode) (w : Window) (rom cert words : List ℕ) (budget : ℕ) where
   same_lists : (a b : Result Yes Refusal) → CertVerdict machine mode w rom cert words budget a → CertVerdict machine mode w rom cert words budget b → NotMemory a → NotMemory b → a ≡ b
@@ -88,53 +45,11 @@ module _ (one_certificate : OneCertificate) (one_answer : OneAnswer) (machine : 
   same_read : (a b : Result Certificate CertFault) → ReadAnswer cert a → ReadAnswer cert b → HasMemory a → HasMemory b → a ≡ b
   same_read a b h k m n = let answer = one_answer cert in answer.3 a h m ∙ sym (answer.3 b k n)
 
-  same_refusal : (f g : CertFault) → ReadAnswer cert (Err f) → ReadAnswer cert (Err g) → (f.why ≡ Memory → ⊥) → (g.why ≡ Memory → ⊥) → f ≡ g
-  same_refusal f g h k m n = let e = same_read (Err f) (Err g) h k m n in cc
-
   no_refusal : (f : CertFault) (c : Certificate) → ReadAnswer cert (Err f) → Spells c cert → (f.why ≡ Memory → ⊥) → ⊥
   no_refusal f c h k m = let e = same_read (Ok c) (Err f) k h tt m in cc
 
-  -- an answer that comes after the certificate was read is the verdict
-  by_lists : (a b : Result Yes Refusal) → CertVerdict machine mode w rom cert words budget a → VerdictOn machine mode w rom cert words budget b → NotMemory a → NotMemory b → a ≡ b
-  by_lists a (Err (refusal.Image FrameLength)) h k m n = absurd (k h.in_range.frame_length)
-  by_lists a (Err refusal.BudgetRange) h k m n = absurd (k.1 h.in_range.budget_range)
-  by_lists a (Err (refusal.Cert g)) h k m n = absurd (no_refusal g h.certificate k.1 h.spells n)
-  by_lists a (Err (refusal.Image RomLength)) h k m n = same_lists a (Err (refusal.Image RomLength)) h k m n
-  by_lists a (Err (refusal.Shape g)) h k m n = same_lists a (Err (refusal.Shape g)) h k m n
-  by_lists a (Err (refusal.Frame g)) h k m n = same_lists a (Err (refusal.Frame g)) h k m n
-  by_lists a (Ok z) h k m n = same_lists a (Ok z) h k m n
-  by_lists a (Err refusal.IndexMemory) h k m n = absurd n
-
-  same_verdict : (a b : Result Yes Refusal) → VerdictOn machine mode w rom cert words budget a → VerdictOn machine mode w rom cert words budget b → NotMemory a → NotMemory b → a ≡ b
-  same_verdict (Err (refusal.Image FrameLength)) (Err (refusal.Image FrameLength)) h k m n = refl
-  same_verdict (Err (refusal.Image FrameLength)) (Err refusal.BudgetRange) h k m n = absurd (h k.0)
-  same_verdict (Err (refusal.Image FrameLength)) (Err (refusal.Cert g)) h k m n = absurd (h k.0.frame_length)
-  same_verdict (Err (refusal.Image FrameLength)) (Err (refusal.Image RomLength)) h k m n = absurd (h k.in_range.frame_length)
-  same_verdict (Err (refusal.Image FrameLength)) (Err (refusal.Shape g)) h k m n = absurd (h k.in_range.frame_length)
-  same_verdict (Err (refusal.Image FrameLength)) (Err (refusal.Frame g)) h k m n = absurd (h k.in_range.frame_length)
-  same_verdict (Err (refusal.Image FrameLength)) (Ok z) h k m n = absurd (h k.in_range.frame_length)
-  same_verdict (Err (refusal.Image FrameLength)) (Err refusal.IndexMemory) h k m n = absurd n
-  same_verdict (Err refusal.BudgetRange) (Err (refusal.Image FrameLength)) h k m n = absurd (k h.0)
-  same_verdict (Err refusal.BudgetRange) (Err refusal.BudgetRange) h k m n = refl
-  same_verdict (Err refusal.BudgetRange) (Err (refusal.Cert g)) h k m n = absurd (h.1 k.0.budget_range)
-  same_verdict (Err refusal.BudgetRange) (Err (refusal.Image RomLength)) h k m n = absurd (h.1 k.in_range.budget_range)
-  same_verdict (Err refusal.BudgetRange) (Err (refusal.Shape g)) h k m n = absurd (h.1 k.in_range.budget_range)
-  same_verdict (Err refusal.BudgetRange) (Err (refusal.Frame g)) h k m n = absurd (h.1 k.in_range.budget_range)
-  same_verdict (Err refusal.BudgetRange) (Ok z) h k m n = absurd (h.1 k.in_range.budget_range)
-  same_verdict (Err refusal.BudgetRange) (Err refusal.IndexMemory) h k m n = absurd n
-  same_verdict (Err (refusal.Cert f)) (Err (refusal.Image FrameLength)) h k m n = absurd (k h.0.frame_length)
-  same_verdict (Err (refusal.Cert f)) (Err refusal.BudgetRange) h k m n = absurd (k.1 h.0.budget_range)
-  same_verdict (Err (refusal.Cert f)) (Err (refusal.Cert g)) h k m n = ap (λ x. Err (refusal.Cert x)) (same_refusal f g h.1 k.1 m n)
-  same_verdict (Err (refusal.Cert f)) (Err (refusal.Image RomLength)) h k m n = absurd (no_refusal f k.certificate h.1 k.spells m)
-  same_verdict (Err (refusal.Cert f)) (Err (refusal.Shape g)) h k m n = absurd (no_refusal f k.certificate h.1 k.spells m)
-  same_verdict (Err (refusal.Cert f)) (Err (refusal.Frame g)) h k m n = absurd (no_refusal f k.certificate h.1 k.spells m)
-  same_verdict (Err (refusal.Cert f)) (Ok z) h k m n = absurd (no_refusal f k.certificate h.1 k.spells m)
-  same_verdict (Err (refusal.Cert f)) (Err refusal.IndexMemory) h k m n = absurd n
-  same_verdict (Err (refusal.Image RomLength)) b h k m n = by_lists (Err (refusal.Image RomLength)) b h k m n
-  same_verdict (Err (refusal.Shape f)) b h k m n = by_lists (Err (refusal.Shape f)) b h k m n
-  same_verdict (Err (refusal.Frame f)) b h k m n = by_lists (Err (refusal.Frame f)) b h k m n
-  same_verdict (Ok y) b h k m n = by_lists (Ok y) b h k m n
-  same_verdict (Err refusal.IndexMemory) b h k m n = absurd m
-
-pub one_verdict : OneCertificate → OneAnswer → OneVerdict
-one_verdict one_certificate one_answer machine mode w rom cert words budget a b h k m n = same_verdict one_certificate one_answer machine mode w rom cert words budget a b h k m n
+  pub same_verdict : (a b : Result Yes Refusal) → VerdictOn machine mode w rom cert words budget a → VerdictOn machine mode w rom cert words budget b → NotMemory a → NotMemory b → a ≡ b
+  same_verdict (Err (refusal.Cert f)) (Err (refusal.Cert g)) h k m n = let e = same_read (Err f) (Err g) h.1 k.1 m n in cc
+  same_verdict (Err (refusal.Cert f)) b h k m n = grind (arith, (no_refusal f))
+  same_verdict a (Err (refusal.Cert g)) h k m n = grind (arith, (no_refusal g))
+  same_verdict a b h k m n = grind (arith, (same_lists a b))

@@ -5,7 +5,7 @@ use Rattle.std.specs.Prelude.{◌≢◌, ℕ, List, Result, Err}
 use Rattle.dvg_words.specs.Values.{Window}
 use Rattle.dvg_words.specs.declared.machine.Machine.{Machine}
 use Rattle.dvg_words.specs.declared.machine.Machine.TheVariants.{Profile}
-use Rattle.dvg_words.specs.Memory.{Memory, words_of}
+use Rattle.dvg_words.specs.Memory.{words_of}
 use Rattle.dvg_words.specs.declared.image.ImageFault.TheVariants.{FrameLength}
 use Rattle.dvg_cert.specs.declared.fault.CertWhy.TheVariants as cert_why
 use Rattle.dvg_cert.specs.Order.{Certificate}

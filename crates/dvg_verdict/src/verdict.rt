@@ -15,6 +15,7 @@ use std::alloc::Global;
 ///
 /// On the board a yes is about every run of its circuit, too: whatever its registers hold at the start, and whatever is written to
 /// memory while it runs, so long as each word that it fetches reads, when it is fetched, as the frame and the ROM have it.
+#[tactic(auto, using(crate::proofs::OneVerdict::out_of_range))]
 pub fn check_on(
     machine: Machine,
     alloc: Global,

@@ -1,16 +1,13 @@
 -- The stored return places are at most `max_stack`, in each state of each run.
-use Rattle.dvg_words.proofs.Common.{arith, subst, zero, suc, ◌≤◌, ℕ, length, Machine, Cell, cell_at, State, Status, Reached, after_cell, after_fetch, next_status, Memory, word_at}
+use Rattle.dvg_words.proofs.Common.{arith, subst, zero, suc, ◌≤◌, ℕ, length, State, Status, Reached, next_status, Memory}
 use Rattle.dvg_words.specs.Laws.{state_of, StackWithinMax}
 
 abbrev StackWithin : State → Type 0
 StackWithin s = length s.return_stack ≤ s.max_stack
 
-within_cell : (machine : Machine) (cell : Cell) (s : State) → StackWithin s → StackWithin (state_of (after_cell machine cell s))
-within_cell machine cell s h = grind (arith)
-
 within_next : (m : Memory) (s : State) → StackWithin s → StackWithin (state_of (next_status m s))
 unfolding next_status
-within_next m s h = within_cell m.rom.machine (cell_at (word_at m) s.pc) (after_fetch m s) h
+within_next m s h = grind (arith)
 
 within_run : (m : Memory) (steps : ℕ) (a b : Status) → Reached m steps a b → StackWithin (state_of a) → StackWithin (state_of b)
 within_run m zero a b reached h = subst (λ status. StackWithin (state_of status)) reached h

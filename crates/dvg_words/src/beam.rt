@@ -72,6 +72,7 @@ fn effective_scale(local: u8, global: u8) -> u8
 
 /// The factor of a draw's sizes, 1 to 1024, at a local scale of 0 to 9 and a global scale of 0 to 15. Size times factor is in
 /// units of 1/1024 of a screen place (profile).
+#[tactic(auto, using(crate::proofs::Rounding::lossless, std::proofs::lemmas::Int::ints, std::proofs::lemmas::Bool::Decides::nat_tests))]
 pub fn factor(local: u8, global: u8) -> u16
     requires local { local ≤ 9 }
     requires global { global ≤ 15 }
@@ -97,6 +98,7 @@ fn scaled(size: i16, factor: u16) -> i64
 }
 
 /// 2048 times the factor at an effective scale of 0 to 9, and 1.
+#[tactic(auto, using(crate::proofs::Rounding::lossless))]
 fn finer_factor(scale: u8) -> u32
     requires { scale ≤ 9 }
     ensures value { result ≡ 2048 * 2 ^ (scale + 1) + 1 }
@@ -134,7 +136,7 @@ fn rounded_move(size: i16, scale: u8) -> i64
 }
 
 /// How far a draw moves the beam on a machine at a global scale of 0 to 15, in units of 1/1024 of a screen place.
-#[tactic(auto, unfolding(crate::specs::Beam::displacement))]
+#[tactic(auto, unfolding(crate::specs::Beam::displacement), using(std::proofs::lemmas::Bool::Decides::nat_tests))]
 pub fn draw_move(machine: Machine, draw: &Draw, gscale: u8) -> Point
     requires { gscale ≤ 15 }
     ensures value { result ≡ displacement machine draw.now gscale }

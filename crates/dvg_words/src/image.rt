@@ -39,6 +39,7 @@ impl ImageFault {
 const MOST_FRAME_BYTES: usize = 2 * RAM_WORDS as usize;
 
 /// The word at this index among the bytes, the low byte first (Asteroids schematics).
+#[tactic(auto, using(crate::proofs::WordLists::word_at_place, std::proofs::lemmas::Grind::common_steps))]
 fn word_at(bytes: &[u8], index: u16) -> u16
     requires { 2 * index + 2 ≤ length bytes.now }
     ensures { slice_get (words_of bytes.now) index ≡ Some result }
@@ -82,6 +83,7 @@ impl<'a> RomImage<'a> {
     /// The image of these bytes, which it borrows, for a ROM at this map on a machine. Refuses 1 unless there are exactly two bytes
     /// for each of its addresses.
     #[inline(never)]
+    #[tactic(auto, using(crate::proofs::WordLists::words_of_len))]
     pub fn from_bytes_on(
         machine: Machine,
         bytes: &'a [u8],
@@ -104,6 +106,7 @@ impl<'a> RomImage<'a> {
     }
 
     /// Where the ROM lies.
+    #[tactic(auto, using(crate::proofs::WordLists::words_of_len))]
     pub fn map(&self) -> RomMap
         ensures value { result ≡ self.now.map }
         ensures rom { IsRom self.now }
@@ -119,6 +122,7 @@ impl<'a> RomImage<'a> {
     }
 
     /// The word at a word address, `None` outside the ROM.
+    #[tactic(auto, using(crate::proofs::WordLists::words_of_len))]
     pub fn word(&self, addr: u16) -> Option<u16>
         ensures word { result ≡ word_of_rom self.now addr }
         ensures near { IfSome result (λ _. addr < ADDRESS_END) }
@@ -164,6 +168,7 @@ impl<'a> Model for FrameImage<'a> {
 impl<'a> FrameImage<'a> {
     /// The image of these bytes, which it borrows. Refuses 2 if they are fewer than 2, more than 2048, or an odd number.
     #[inline(never)]
+    #[tactic(auto, using(crate::proofs::WordLists::words_of_is_frame))]
     pub fn from_bytes(bytes: &'a [u8]) -> Result<FrameImage<'a>, ImageFault>
         ensures image { MatchResult result
             (λ frame. IsFrameLength (length bytes.now) × (frame ≡ words_of bytes.now))
@@ -177,6 +182,7 @@ impl<'a> FrameImage<'a> {
     }
 
     /// The number of words, 1 to 1024.
+    #[tactic(auto, using(crate::proofs::WordLists::words_of_is_frame, crate::proofs::WordLists::words_of_len))]
     pub fn words(&self) -> u16
         ensures count { result ≡ length self.now }
         ensures frame { IsFrame self.now }
@@ -185,6 +191,7 @@ impl<'a> FrameImage<'a> {
     }
 
     /// The word at a word address, `None` past the last word.
+    #[tactic(auto, using(crate::proofs::WordLists::words_of_len))]
     pub fn word(&self, addr: u16) -> Option<u16>
         ensures word { result ≡ slice_get self.now addr }
         ensures near { IfSome result (λ _. addr < ADDRESS_END) }

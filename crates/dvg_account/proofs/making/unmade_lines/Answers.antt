@@ -1,30 +1,24 @@
-use Rattle.dvg_account.proofs.Common.{ap, subst, ◌∙◌, [], ◌∷◌, option_to_list, machine_lines, Rule, Path, MakerCure}
+use Rattle.dvg_account.proofs.Common.{ap, ◌∙◌, [], ◌∷◌, option_to_list, machine_lines, Rule, Path, MakerCure}
 use Rattle.dvg_make.specs.Refusals.{fault_number}
 use Rattle.dvg_account.specs.Cures.{cure_of}
-use Rattle.dvg_account.specs.Making.{IsCallItem, IsMakerItem, frame_of_call, way_lines}
+use Rattle.dvg_account.specs.Making.{way_lines}
 use Rattle.dvg_account.specs.declared.line.PathLine.TheVariants.{MakerChain}
 use Rattle.dvg_account.proofs.Building.{then, told_as, whole, if_ok}
 use Rattle.dvg_account.proofs.making.unmade_lines.Goals as goal
 
 pub returns : goal.returns
-returns c =
-    let number_is = c.number-number.ensures ∙ ap fault_number c.from.ensures in
-    let asked = c.args.account.fault.call in
-    let call = c.call_item-call.result in
-    let item = c.item_of-item.result in
-    if_ok c.finish.result c.finish.ensures (λ lines all. record {
-      why = c.why_of-why.result;
-      tells = c.why_of-why.ensures;
-      call = call;
-      is_call = subst (λ m. IsCallItem m (frame_of_call c.args.frames.now asked) asked call) c.machine.ensures
-          (subst (λ f. IsCallItem c.machine.result f asked call) c.frame_of_call-frame.ensures c.call_item-call.ensures);
-      item = item;
-      is_item = subst (λ f. IsMakerItem c.args.rom.now f c.args.account item) c.frame_of_call-frame.ensures c.item_of-item.ensures;
-      below = c.in_ok-below.below;
-      deep = c.in_ok-below.ensures;
-      told = whole c.new-lines.ensures all
-          (then (then (then (then (told_as (ap machine_lines c.machine-2.ensures) c.push_machine.ensures)
-          (then (told_as (ap (λ n. Rule n ∷ []) number_is) c.push.ensures) (told_as (ap option_to_list c.why_line-told.ensures) c.push_some.ensures)))
-          (told_as (ap (λ chain. way_lines call item (Path (MakerChain chain))) c.chain_of.ensures) c.push_way.ensures)) c.push_some-2.ensures)
-          (told_as (ap (λ cure. MakerCure cure ∷ []) (c.of-cure.ensures ∙ ap (λ map. cure_of map c.args.account) c.map.ensures.value)) c.push-2.ensures));
-    })
+returns c = if_ok c.finish.result c.finish.ensures (λ lines all. record {
+  why = c.why_of-why.result;
+  tells = c.why_of-why.ensures;
+  call = c.call_item-call.result;
+  is_call = rw (← c.machine.ensures, ← c.frame_of_call-frame.ensures) c.call_item-call.ensures;
+  item = c.item_of-item.result;
+  is_item = rw (← c.frame_of_call-frame.ensures) c.item_of-item.ensures;
+  below = c.in_ok-below.below;
+  deep = c.in_ok-below.ensures;
+  told = whole c.new-lines.ensures all
+      (then (then (then (then (told_as (ap machine_lines c.machine-2.ensures) c.push_machine.ensures)
+      (then (told_as (ap (λ n. Rule n ∷ []) (c.number-number.ensures ∙ ap fault_number c.from.ensures)) c.push.ensures) (told_as (ap option_to_list c.why_line-told.ensures) c.push_some.ensures)))
+      (told_as (ap (λ chain. way_lines c.call_item-call.result c.item_of-item.result (Path (MakerChain chain))) c.chain_of.ensures) c.push_way.ensures)) c.push_some-2.ensures)
+      (told_as (ap (λ cure. MakerCure cure ∷ []) (c.of-cure.ensures ∙ ap (λ map. cure_of map c.args.account) c.map.ensures.value)) c.push-2.ensures));
+})

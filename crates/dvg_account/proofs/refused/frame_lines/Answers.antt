@@ -1,4 +1,4 @@
-use Rattle.dvg_account.proofs.Common.{ap, ◌∙◌, [], ◌∷◌, frame_word, Frame, IsItem, Rule, WhatToDo}
+use Rattle.dvg_account.proofs.Common.{ap, rules, ◌∙◌, [], ◌∷◌, frame_word, Frame, IsItem, Rule, WhatToDo}
 use Rattle.dvg_account.proofs.Building.{then, told_as, whole, if_ok}
 use Rattle.dvg_account.proofs.refused.frame_lines.Goals as goal
 
@@ -10,14 +10,7 @@ returns c =
       why = c.of_frame-why.result;
       tells = c.of_frame-why.ensures;
       item = record c.new-2.result { losses = c.frame_losses.result };
-      is_item = record {
-        of_kind = framed.of_kind;
-        stands = framed.stands;
-        holds = framed.holds;
-        decoded = framed.decoded;
-        named = framed.named ∙ c.callee_of-callee.ensures;
-        known = framed.known;
-      };
+      is_item = search (rules, framed, (framed.named ∙ c.callee_of-callee.ensures));
       lost = c.frame_losses.ensures.some;
       unled = c.frame_losses.ensures.none;
       zone = c.zone_line.result;

@@ -1,4 +1,4 @@
-use Rattle.dvg_account.proofs.Common.{ap, ◌∙◌, [], ◌∷◌, option_to_list, machine_lines, other_machine_line, Rule, WhatToDo}
+use Rattle.dvg_account.proofs.Common.{ap, rules, ◌∙◌, [], ◌∷◌, option_to_list, machine_lines, other_machine_line, Rule, WhatToDo}
 use Rattle.dvg_account.proofs.Building.{then, told_as, whole, if_ok}
 use Rattle.dvg_account.proofs.refused.shape_lines.Goals as goal
 
@@ -7,14 +7,7 @@ returns c = if_ok c.finish.result c.finish.ensures (λ lines all. record {
   why = c.of_shape-why.result;
   tells = c.of_shape-why.ensures;
   item = record c.new.result { losses = c.losses_in_shape.result };
-  is_item = record {
-    of_kind = c.new.ensures.of_kind;
-    stands = c.new.ensures.stands;
-    holds = c.new.ensures.holds;
-    decoded = c.new.ensures.decoded;
-    named = c.new.ensures.named ∙ c.callee_of-callee.ensures;
-    known = c.new.ensures.known;
-  };
+  is_item = search (rules, c.new.ensures, (c.new.ensures.named ∙ c.callee_of-callee.ensures));
   lost = c.losses_in_shape.ensures.some;
   unled = c.losses_in_shape.ensures.none;
   chain = c.in_ok-chain.chain;

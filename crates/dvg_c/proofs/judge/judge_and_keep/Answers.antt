@@ -1,6 +1,12 @@
-use Rattle.dvg_c.proofs.Common.{rules, ◌≡◌, ◌∙◌, List, length, sym, ap, subst, Window, Rom, IsRom, rom_on, IsRomLength, Entry, Good, window_of, IsKept, kept_list}
-use Rattle.dvg_c.proofs.Keeping.{same_shapes}
+use Rattle.dvg_c.proofs.Common.{rules, ◌≡◌, ◌∙◌, ℕ, List, length, take, sym, ap, subst, arith, Machine, MemoryMap, Mode, Window, Rom, IsRom, rom_on, IsRomLength, Entry, Good, window_of, mode_of, machine_of, IsKept, KeptEntry, kept_list, kept_shapes}
+use Rattle.dvg_c.specs.declared.window.WindowEnds.{WindowEnds}
 use Rattle.dvg_c.proofs.judge.judge_and_keep.Goals as goal
+
+-- the ROM, the entries and the mode that are kept are those that were judged
+same_shapes : (on : Machine) (machine : ℕ) (map : MemoryMap) (mode : Mode) (w : WindowEnds) (judged first last count : ℕ) (bytes rom : List ℕ) (kept : List KeptEntry) (list : List Entry)
+    → first ≡ map.rom_first → last ≡ map.rom_last → IsRomLength map (length rom) → take (length rom) bytes ≡ rom → kept_list count kept ≡ list → mode_of judged ≡ mode → machine_of machine ≡ on
+    → kept_shapes machine judged w first last bytes count kept ≡ record { rom = rom_on on map rom; list = list; window = window_of w; mode = mode }
+same_shapes on machine map mode w judged first last count bytes rom kept list first_is last_is rom_length bytes_are list_is mode_is machine_is = grind (arith)
 
 pub invariant_of-kept-clause-good : goal.invariant_of-kept-clause-good
 invariant_of-kept-clause-good c = λ _.

@@ -1,8 +1,13 @@
-use Rattle.dvg_check.proofs.Common.{arith, List, refl, sym, subst, get_or, take, ◌≡◌, ◌-◌, ◌≤◌, ◌<◌, ℕ, ⊎_elim, cases_lt, AllByRecursion, Entry, IsTail, GoodShape, get_or_default}
+use Rattle.dvg_check.proofs.Common.{length, arith, List, refl, subst, get_or, take, ◌-◌, ◌≤◌, ◌<◌, ℕ, cases_lt, AllByRecursion, Entry, IsTail, GoodShape, get_or_default}
 use Rattle.dvg_check.specs.declared.slots.TheConstants.{SLOTS}
 use Rattle.dvg_check.proofs.Listed.{no_entry}
 use Rattle.dvg_check.proofs.TailRows.{all_take, claim_at, none_kept}
 use Rattle.dvg_check.proofs.tails.first_doubtful.Goals as goal
+
+-- what holds from an entry on, and of the one before it, holds from that one on
+good_below : (P : Entry → Type 0) (list : List Entry) (left most : ℕ) → 0 < left → left ≤ length list → P (get_or list (left - 1) no_entry)
+    → ((k : ℕ) (past : Entry) → left ≤ k → k < most → P (get_or list k past)) → (k : ℕ) (past : Entry) → left - 1 ≤ k → k < most → P (get_or list k past)
+good_below P list left most some few here rest k past le lt = grind (arith, get_or_default, (cases_lt k left))
 
 pub entries-init : goal.entries-init
 entries-init g c = grind (arith, (none_kept (IsTail c.args.window.now c.args.rom.now (g.E.Entries.list c.args.entries.now)) SLOTS))
@@ -14,15 +19,8 @@ entries-preserved g c =
       before = omega (arith, c.entries.invariant.before);
       few = c.entries.invariant.few;
       tails = c.make_all.ensures;
-      good = λ k past le lt.
-          ⊎_elim
-          (λ (less : k < c.entries.left).
-          let same : k ≡ c.entries.left - 1 = omega (arith, le, less, c.entries-test.true) in
-          subst (λ (j : ℕ). GoodShape c.args.mode c.args.window.now c.args.rom.now (g.E.Entries.list c.args.entries.now) (get_or c.args.list.now j past)) (sym same)
-          (subst (GoodShape c.args.mode c.args.window.now c.args.rom.now (g.E.Entries.list c.args.entries.now)) (get_or_default c.args.list.now (c.entries.left - 1) no_entry past (omega (arith, c.entries.invariant.before, c.entries-test.true)))
-          (c.if-not-shows.ensures c.args.window.now c.args.rom.now (g.E.Entries.list c.args.entries.now) c.make_all.ensures refl)))
-          (λ (more : c.entries.left ≤ k). c.entries.invariant.good k past more lt)
-          (cases_lt k c.entries.left);
+      good = good_below (GoodShape c.args.mode c.args.window.now c.args.rom.now (g.E.Entries.list c.args.entries.now)) c.args.list.now c.entries.left c.entries.doubtful c.entries-test.true c.entries.invariant.before
+          (c.if-not-shows.ensures c.args.window.now c.args.rom.now (g.E.Entries.list c.args.entries.now) c.make_all.ensures refl) c.entries.invariant.good;
     }
 
 pub returns-clause-good : goal.returns-clause-good

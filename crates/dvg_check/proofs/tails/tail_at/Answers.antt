@@ -1,6 +1,6 @@
 use Rattle.dvg_check.proofs.Common.{arith, sym, ◌∙◌, ◌+◌, ◌-◌, ADDRESS_END, Shape, next_near}
 use Rattle.dvg_check.proofs.TailSizes.{IsSmall-more}
-use Rattle.dvg_check.proofs.TailSteps.{alone, before_some}
+use Rattle.dvg_check.proofs.TailLaws.{alone, before_some}
 use Rattle.dvg_check.proofs.tails.tail_at.Goals as goal
 
 pub after_item-requires-clause-tail : goal.after_item-requires-clause-tail

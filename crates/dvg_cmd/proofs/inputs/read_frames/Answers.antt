@@ -1,10 +1,7 @@
 use native.Mathlib.Numerals.{unary_clauses}
 use Rattle.dvg_cmd.proofs.Common.{sym, ap, ◌∙◌, suc, ◌++◌, ◌∷◌, [], set, subst, arith, of_each}
-use Rattle.dvg_cmd.proofs.SeveralFrames.{ReadSoFar, more_read, one_failed, none_failed, all_read, of_each_append}
+use Rattle.dvg_cmd.proofs.SeveralFrames.{ReadSoFar, more_read, one_failed, none_failed, of_each_append}
 use Rattle.dvg_cmd.proofs.inputs.read_frames.Goals as goal
-
-pub loop-frame-init : goal.loop-frame-init
-loop-frame-init g c = grind (arith)
 
 pub returns-in_default-clause-counts : goal.returns-in_default-clause-counts
 returns-in_default-clause-counts g c =
@@ -27,12 +24,3 @@ loop-frame-preserved g c =
     (sym (ap (λ l. of_each (λ bytes. bytes.items) l) c.in_ok-push.ensures.items ∙ of_each_append (λ bytes. bytes.items) c.loop-frame.read.items (c.in-Ok.bytes ∷ [])))
     (more_read (λ frame. g.R.Read.remaining frame) (λ frame. g.R.CountedRead.failures frame) c.loop-frame.frame-index c.args.frames.now c.loop-frame.frame-items (of_each (λ bytes. bytes.items) c.loop-frame.read.items) _ c.read_frame.new.reader
     c.in-Ok.bytes.items (omega (arith, c.loop-frame-test.true, c.loop-frame.auto.frame-items)) c.loop-frame.invariant c.in-Ok.ensures.read c.in-Ok.ensures.bytes c.in-Ok.ensures.count))
-
-pub returns-clause-bytes : goal.returns-clause-bytes
-returns-clause-bytes g c = grind (arith, all_read)
-
-pub returns-clause-read : goal.returns-clause-read
-returns-clause-read g c = grind (arith, all_read)
-
-pub returns-clause-counts : goal.returns-clause-counts
-returns-clause-counts g c = grind (arith, none_failed)

@@ -1,5 +1,5 @@
 use Rattle.dvg_cmd.proofs.Common.{frames_run_number, of_each, joined, arith}
-use Rattle.dvg_cmd.proofs.FramesRuns.{told_err, with_words, frames_refused, places_made}
+use Rattle.dvg_cmd.proofs.FramesRuns.{told_err, frames_refused, places_made}
 use Rattle.dvg_cmd.proofs.placing.run_places.Goals as goal
 
 pub returns-in_err-bytes-clause-refused : goal.returns-in_err-bytes-clause-refused
@@ -9,16 +9,10 @@ pub returns-in_err-images-clause-refused : goal.returns-in_err-images-clause-ref
 returns-in_err-images-clause-refused g c = grind (arith, told_err, frames_run_number, of_each, (c.in_err-images.ensures.refused _ _ c.in_ok-bytes.ensures.bytes c.args.roots.now))
 
 pub returns-in_err-cert-clause-refused : goal.returns-in_err-cert-clause-refused
-returns-in_err-cert-clause-refused g c =
-    let images = with_words (c.in_ok-images.ensures.images _ _ c.in_ok-bytes.ensures.bytes) c.deref.ensures.value in
-    grind (arith, (told_err c.from_residual-in_err-cert.result), frames_run_number, of_each, (frames_refused images c.args.roots.now c.in_err-cert.field-0.0 c.in_err-cert.ensures.err c.in_err-cert.ensures.told))
+returns-in_err-cert-clause-refused g c = grind (arith, (told_err c.from_residual-in_err-cert.result), frames_run_number, of_each, (frames_refused c.in_ok-images.ensures.images c.in_ok-bytes.ensures.bytes c.deref.ensures.value c.args.roots.now c.in_err-cert.field-0.0 c.in_err-cert.ensures.err c.in_err-cert.ensures.told))
 
 pub returns-in_err-write_each-clause-prefix : goal.returns-in_err-write_each-clause-prefix
-returns-in_err-write_each-clause-prefix g c =
-    let images = with_words (c.in_ok-images.ensures.images _ _ c.in_ok-bytes.ensures.bytes) c.deref.ensures.value in
-    grind (arith, (places_made images c.args.roots.now c.args.window c.in_ok-cert.cert.entries c.in_ok-places.places.items c.in_ok-cert.ensures.ok c.in_ok-places.ensures), joined, of_each)
+returns-in_err-write_each-clause-prefix g c = grind (arith, (places_made c.in_ok-images.ensures.images c.in_ok-bytes.ensures.bytes c.deref.ensures.value c.args.roots.now c.args.window c.in_ok-cert.cert.entries c.in_ok-places.places.items c.in_ok-cert.ensures.ok c.in_ok-places.ensures), joined, of_each)
 
 pub returns-clause-text : goal.returns-clause-text
-returns-clause-text g c =
-    let images = with_words (c.in_ok-images.ensures.images _ _ c.in_ok-bytes.ensures.bytes) c.deref.ensures.value in
-    grind (arith, (places_made images c.args.roots.now c.args.window c.in_ok-cert.cert.entries c.in_ok-places.places.items c.in_ok-cert.ensures.ok c.in_ok-places.ensures), joined, of_each)
+returns-clause-text g c = grind (arith, (places_made c.in_ok-images.ensures.images c.in_ok-bytes.ensures.bytes c.deref.ensures.value c.args.roots.now c.args.window c.in_ok-cert.cert.entries c.in_ok-places.places.items c.in_ok-cert.ensures.ok c.in_ok-places.ensures), joined, of_each)

@@ -1,5 +1,5 @@
 use Rattle.dvg_cmd.proofs.Common.{Judges, arith}
-use Rattle.dvg_cmd.proofs.Reported.{reports, reports_accepted}
+use Rattle.dvg_cmd.proofs.Reporting.{reports, reports_accepted}
 use Rattle.dvg_cmd.proofs.running.run_check_in.Given.{Over}
 use Rattle.dvg_cmd.proofs.running.run_check_in.Goals.{After-write_report}
 use Rattle.dvg_cmd.proofs.running.run_check_in.Goals as goal

@@ -1,5 +1,5 @@
-use Rattle.dvg_cmd.proofs.Common.{◌≡◌, ◌++◌, ◌∷◌, [], subst, opened, rules}
-use Rattle.std.specs.Iterator.{Drains, Yields}
+use Rattle.dvg_cmd.proofs.Common.{◌≡◌, opened, rules}
+use Rattle.std.specs.Iterator.{Drains}
 use Rattle.std.proofs.iter.Next.{Yields-more}
 use Rattle.dvg_cmd.proofs.LineByLine.{on_err}
 use Rattle.dvg_cmd.proofs.SeveralLines.{more_lines, cut_lines, with_summary, cut_summary}
@@ -9,10 +9,9 @@ pub returns-in_err-run_named-clause-prefix : goal.returns-in_err-run_named-claus
 returns-in_err-run_named-clause-prefix g c =
     let same : c.into_iter-frame-iterator.result ≡ c.args.frames = cc in
     on_err c.from_residual.result (
-      c.loop-frame.yielded ++ c.in-Some.frame ∷ [],
+      _,
       c.next.new.self,
-      subst (λ it. Yields g.I.Iterator.next_gives it (c.loop-frame.yielded ++ c.in-Some.frame ∷ []) c.next.new.self) same
-          (Yields-more g.I.Iterator.next_gives c.into_iter-frame-iterator.result c.loop-frame.yielded c.loop-frame.frame-iterator c.in-Some.frame c.next.new.self c.loop-frame.yielded_by c.in-Some.ensures.steps),
+      rw same at (Yields-more g.I.Iterator.next_gives c.into_iter-frame-iterator.result c.loop-frame.yielded c.loop-frame.frame-iterator c.in-Some.frame c.next.new.self c.loop-frame.yielded_by c.in-Some.ensures.steps),
       cut_lines _ c.args.listing c.args.start (opened (λ reader. g.R.Read.remaining reader)) c.loop-frame.yielded c.in-Some.frame _ _ _ _ _ _ _ _ c.loop-frame.invariant.reports c.in_err-run_named.ensures.prefix,
     )
 
@@ -22,12 +21,8 @@ loop-frame-preserved g c = search (rules, more_lines _ c.args.listing c.args.sta
 pub returns-in_err-write_summary-clause-prefix : goal.returns-in_err-write_summary-clause-prefix
 returns-in_err-write_summary-clause-prefix g c =
     let all : Drains g.I.Iterator.next_gives c.args.frames c.loop-frame.yielded = search rules in
-    on_err c.from_residual-in_err-write_summary.result (
-      c.loop-frame.yielded,
-      all.1.0,
-      all.1.1,
-      cut_summary _ c.args.listing c.args.start _ _ _ _ _ _ _ _ _ c.new-tally.ensures c.loop-frame.invariant.reports c.in_err-write_summary.ensures.prefix,
-    )
+    let cut = cut_summary _ c.args.listing c.args.start _ _ _ _ _ _ _ _ _ c.new-tally.ensures c.loop-frame.invariant.reports c.in_err-write_summary.ensures.prefix in
+    on_err c.from_residual-in_err-write_summary.result (c.loop-frame.yielded, all.1.0, all.1.1, cut)
 
 pub returns-clause-report : goal.returns-clause-report
 returns-clause-report g c =

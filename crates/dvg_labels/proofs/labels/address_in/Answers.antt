@@ -1,6 +1,6 @@
-use Rattle.dvg_labels.proofs.Common.{take_all, ◌+◌, arith}
+use Rattle.dvg_labels.proofs.Common.{◌+◌}
 use Rattle.std.proofs.lemmas.Result.{err_from_is_err_and}
-use Rattle.dvg_labels.proofs.Naming.{one_more, two_of_all, address_of_found}
+use Rattle.dvg_labels.proofs.Naming.{one_more, two_of_all}
 use Rattle.dvg_labels.proofs.labels.address_in.Goals as goal
 
 pub returns-in_err-found : goal.returns-in_err-found
@@ -12,6 +12,3 @@ returns-in_err-found c =
 pub loop-label-preserved : goal.loop-label-preserved
 loop-label-preserved c =
     rw (one_more c.args.labels.now c.loop-label.label-index c.label-item.result c.label-item.is c.loop-label-test.true) (c.in_ok-found.ensures.ok _ c.loop-label.invariant)
-
-pub returns : goal.returns
-returns c = grind (arith, take_all, address_of_found)

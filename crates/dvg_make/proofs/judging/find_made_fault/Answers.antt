@@ -1,4 +1,4 @@
-use Rattle.dvg_make.proofs.Common.{◌+◌, List, arith, subst, sym, Contains, MadeEntry, At, Rel, Empty, Entry, Exact, pos, slice_index_or, Contains-get_or}
+use Rattle.dvg_make.proofs.Common.{◌+◌, arith, At, Rel, Empty, Entry, Exact, pos, Contains-get_or, List, subst, Contains, slice_index_or}
 use Rattle.dvg_check.proofs.Listed.{faulty_found, good_more}
 use Rattle.dvg_make.proofs.judging.find_made_fault.Goals as goal
 
@@ -8,9 +8,8 @@ none = record { addr = 0; key = At 0; stop = Rel (pos 0) (pos 0); lit = Empty; d
 
 pub find_made_entry_fault-requires-clause-made : goal.find_made_entry_fault-requires-clause-made
 find_made_entry_fault-requires-clause-made c =
-    let entry = slice_index_or c.entries-list.result.now c.entries.index none in
-    let listed = subst (λ (l : List Entry). Contains l entry) c.entries-list.ensures.value (Contains-get_or c.entries-list.result.now c.entries.index none c.entries-test.true) in
-    subst (λ (l : List Entry). MadeEntry c.args.rom.now l entry) (sym c.requires.made.entries) (c.requires.made.list.each entry listed)
+    let listed = subst (λ (l : List Entry). Contains l (slice_index_or c.entries-list.result.now c.entries.index none)) c.entries-list.ensures.value (Contains-get_or c.entries-list.result.now c.entries.index none c.entries-test.true) in
+    rw c.requires.made.entries (c.requires.made.list.each _ listed)
 
 pub returns-in-Err-clause-err : goal.returns-in-Err-clause-err
 returns-in-Err-clause-err c =

@@ -1,5 +1,5 @@
 use Rattle.dvg_make.proofs.Common.{in_bound, Bound, Exact}
-use Rattle.dvg_make.proofs.Windows.{in_window, in_exact}
+use Rattle.dvg_make.proofs.Ends.{in_window, in_exact}
 use Rattle.dvg_make.proofs.laws.good_in_window.Goals as goal
 
 pub returns : goal.returns

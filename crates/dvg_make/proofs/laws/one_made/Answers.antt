@@ -1,5 +1,5 @@
 use Rattle.dvg_make.proofs.Common.{rules}
-use Rattle.dvg_make.proofs.OneList.{one_made_for}
+use Rattle.dvg_make.proofs.OneFrame.{one_made_for}
 use Rattle.dvg_make.proofs.laws.one_made.Goals as goal
 
 pub returns : goal.returns

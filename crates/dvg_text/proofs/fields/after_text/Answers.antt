@@ -1,9 +1,6 @@
 use Rattle.dvg_text.proofs.Common.{rules}
-use Rattle.dvg_text.proofs.Steps.{past_found, past_not_found, past_short}
+use Rattle.dvg_text.proofs.Steps.{past_found, past_not_found}
 use Rattle.dvg_text.proofs.fields.after_text.Goals as goal
-
-pub returns-in_err-prefix : goal.returns-in_err-prefix
-returns-in_err-prefix g c = rw c.from_residual.ensures (past_short c.args.text.now c.args.bytes.now (search rules))
 
 pub returns-then-is_same : goal.returns-then-is_same
 returns-then-is_same g c =

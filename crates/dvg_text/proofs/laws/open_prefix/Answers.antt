@@ -1,4 +1,4 @@
-use Rattle.dvg_text.proofs.AnyText as texts
+use Rattle.dvg_text.proofs.TextLaws as texts
 use Rattle.dvg_text.proofs.laws.open_prefix.Goals as goal
 
 pub returns : goal.returns

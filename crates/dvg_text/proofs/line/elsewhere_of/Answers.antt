@@ -1,10 +1,7 @@
-use Rattle.dvg_text.proofs.Common.{refl, ◌≡◌, sym, ap, subst, ◌∙◌, IsMap, is_asteroids, rom_line, arith}
+use Rattle.dvg_text.proofs.Common.{refl, ◌≡◌, sym, subst, ◌∙◌, IsMap, is_asteroids, arith}
 use Rattle.dvg_text.proofs.FieldValues.{none_as}
-use Rattle.dvg_text.proofs.FirstLines.{map_of, rom_found, nowhere_said, other_said}
+use Rattle.dvg_text.proofs.FirstLines.{map_of, rom_reads, other_said}
 use Rattle.dvg_text.proofs.line.elsewhere_of.Goals as goal
-
-pub returns-in_err-first-clause-none : goal.returns-in_err-first-clause-none
-returns-in_err-first-clause-none c = none_as c.from_residual.result refl (λ e. nowhere_said c.args.line.now (sym c.in_err-first.was ∙ c.whole_rom.ensures))
 
 pub returns-in_err-map-clause-none : goal.returns-in_err-map-clause-none
 returns-in_err-map-clause-none c = none_as c.from_residual-in_err-map.result refl (λ e map is same.
@@ -15,6 +12,4 @@ pub returns-then-is_asteroids-clause-none : goal.returns-then-is_asteroids-claus
 returns-then-is_asteroids-clause-none c = grind (arith, map_of, other_said, is_asteroids)
 
 pub returns-else-is_asteroids-clause-found : goal.returns-else-is_asteroids-clause-found
-returns-else-is_asteroids-clause-found c =
-    let line = rom_found c.args.line.now (c.in_ok-first.first, c.in_ok-first.last) (sym c.whole_rom.ensures ∙ c.in_ok-first.was) in
-    ((c.in_ok-map.ensures.some.1, sym c.if-is_asteroids.ensures), line ∙ ap rom_line (sym c.in_ok-map.ensures.some.0))
+returns-else-is_asteroids-clause-found c = grind (arith, (rom_reads c.args.line.now))

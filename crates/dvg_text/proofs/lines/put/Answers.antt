@@ -1,18 +1,13 @@
-use Rattle.dvg_text.proofs.Common.{◌≡◌, ◌+◌, ◌-◌, ◌++◌, ◌∙◌, ℕ, List, take, drop, ap, sym, arith, append_assoc, take-append-drop, take-add, common_steps}
+use Rattle.dvg_text.proofs.Common.{◌≡◌, ◌+◌, ◌-◌, ◌++◌, ℕ, List, take, drop, arith, append_assoc, take-add, common_steps}
 use Rattle.dvg_text.proofs.Spelled.{sent_err, put_in_part, put_on}
 use Rattle.dvg_text.proofs.lines.put.Goals as goal
-
--- the text from a place on, cut once more
-cut : (text : List ℕ) (a n : ℕ) → text ≡ take a text ++ (take n (drop a text) ++ drop n (drop a text))
-cut text a n = sym (take-append-drop a text) ∙ ap (λ (t : List ℕ). take a text ++ t) (sym (take-append-drop n (drop a text)))
 
 pub returns-in_err-send_lines-clause-prefix : goal.returns-in_err-send_lines-clause-prefix
 returns-in_err-send_lines-clause-prefix g c =
     let n : ℕ = 4096 - c.len-in-putting.result in
     let rest : List ℕ = drop c.putting.at c.args.text.now in
     let put : c.push_bytes.new.buffer.items ≡ c.putting.held.items ++ take n rest = grind (arith, common_steps) in
-    let whole : c.args.held.now.items ++ c.args.text.now ≡ (c.args.held.now.items ++ take c.putting.at c.args.text.now) ++ (take n rest ++ drop n rest) =
-    ap (λ (t : List ℕ). c.args.held.now.items ++ t) (cut c.args.text.now c.putting.at n) ∙ sym (append_assoc c.args.held.now.items (take c.putting.at c.args.text.now) _) in
+    let whole : c.args.held.now.items ++ c.args.text.now ≡ (c.args.held.now.items ++ take c.putting.at c.args.text.now) ++ (take n rest ++ drop n rest) = grind (arith, common_steps) in
     sent_err c.from_residual.result (put_in_part (g.W.Write.contents c.args.out.now) (g.W.Write.contents c.putting.out) (g.W.Write.contents c.send_lines.new.out) c.putting.held.items _ (take n rest) (drop n rest) _ c.putting.invariant.held whole (rw put at c.in_err-send_lines.ensures.prefix))
 
 pub putting-preserved : goal.putting-preserved
@@ -21,8 +16,7 @@ putting-preserved g c =
     let more : List ℕ = take n (drop c.putting.at c.args.text.now) in
     let put : c.push_bytes.new.buffer.items ≡ c.putting.held.items ++ more = grind (arith, common_steps) in
     let on = put_on (g.W.Write.contents c.args.out.now) (g.W.Write.contents c.putting.out) (g.W.Write.contents c.send_lines.new.out) c.putting.held.items _ more c.send_lines.new.held.items c.putting.invariant.held (rw put at c.in_ok-send_lines.ensures.ok) in
-    let text : (c.args.held.now.items ++ take c.putting.at c.args.text.now) ++ more ≡ c.args.held.now.items ++ take (c.putting.at + n) c.args.text.now =
-    append_assoc c.args.held.now.items (take c.putting.at c.args.text.now) more ∙ ap (λ (t : List ℕ). c.args.held.now.items ++ t) (sym (take-add c.putting.at n c.args.text.now)) in
+    let text : (c.args.held.now.items ++ take c.putting.at c.args.text.now) ++ more ≡ c.args.held.now.items ++ take (c.putting.at + n) c.args.text.now = grind (arith, append_assoc, take-add) in
     record {
       within = grind (arith, common_steps);
       held = rw text at on;

@@ -1,13 +1,7 @@
 use Rattle.dvg_text.proofs.Common.{arith, take_rest}
-use Rattle.dvg_text.proofs.Leading.{no_digits, zero_led, digits_lead}
+use Rattle.dvg_text.proofs.Leading.{digits_lead}
 use Rattle.dvg_text.proofs.numerals.digits_taken.Goals.{else-bytes-eq48-via-then-bytes-eq48+else-count-gt1, else-bytes-eq48-via-else-bytes-eq48}
 use Rattle.dvg_text.proofs.numerals.digits_taken.Goals as goal
-
-pub returns-then-count-eq0 : goal.returns-then-count-eq0
-returns-then-count-eq0 c = no_digits c.args.count c.args.bytes.now c.if-count-eq0.true c.requires.within c.requires.digits c.requires.all
-
-pub returns-then-count-gt1 : goal.returns-then-count-gt1
-returns-then-count-gt1 c = zero_led c.args.count c.args.bytes.now c.if-count-gt1.true c.requires.within c.if-bytes-eq48.true c.requires.digits c.requires.all
 
 pub returns : goal.returns
 returns c = rw take_rest (digits_lead c.args.count c.args.number c.args.bytes.now c.requires.digits c.requires.value c.requires.few c.requires.within c.requires.all (omega arith)

@@ -1,9 +1,6 @@
 use Rattle.dvg_text.proofs.Common.{◌∙◌, sym, rules, arith}
-use Rattle.dvg_text.proofs.FieldValues.{natural_takes, no_key}
+use Rattle.dvg_text.proofs.FieldValues.{no_key}
 use Rattle.dvg_text.proofs.numerals.read_key.Goals as goal
 
 pub returns-in_err-number-clause-none : goal.returns-in_err-number-clause-none
 returns-in_err-number-clause-none c = rw c.from_residual.ensures (no_key _ c.args.token.now (omega arith) (omega arith) (search rules) (sym c.natural.ensures.value ∙ c.in_err-number.was))
-
-pub returns-clause-some : goal.returns-clause-some
-returns-clause-some c = let t = natural_takes _ _ c.args.token.now c.in_ok-number.number (sym c.natural.ensures.value ∙ c.in_ok-number.was) in (t.2, t.0)

@@ -1,4 +1,4 @@
-use Rattle.dvg_verdict.proofs.OneVerdict.{one_verdict as law}
+use Rattle.dvg_verdict.proofs.OneVerdict.{same_verdict as law}
 use Rattle.dvg_verdict.proofs.laws.one_verdict.Goals as goal
 
 pub returns : goal.returns

@@ -2,8 +2,5 @@ use Rattle.dvg_words.proofs.Common.{rules}
 use Rattle.dvg_words.proofs.Rounding.{rounds_at}
 use Rattle.dvg_words.proofs.beam.rounded_move.Goals as goal
 
-pub returns-clause-low : goal.returns-clause-low
-returns-clause-low c = search (rules, rounds_at c.args.size c.args.scale c.requires.size_low c.requires.size_high c.requires.scale)
-
-pub returns-clause-high : goal.returns-clause-high
-returns-clause-high c = search (rules, rounds_at c.args.size c.args.scale c.requires.size_low c.requires.size_high c.requires.scale)
+pub returns : goal.returns
+returns c = search (rules, rounds_at c.args.size c.args.scale c.requires.size_low c.requires.size_high c.requires.scale)

@@ -5,7 +5,7 @@ use Rattle.dvg_cmd.proofs.inputs.InputBytes.images.Goals as goal
 
 pub returns-in_err-rom-clause-refused : goal.returns-in_err-rom-clause-refused
 returns-in_err-rom-clause-refused c =
-    λ held readers read roots. grind (arith, told_err, (wrong_length c.args.machine c.args.map c.in_err-rom.ensures.map held roots c.args.self.now.rom.items read.rom_prefix c.in_err-rom.ensures.image.0))
+    λ held readers read roots. grind (arith, told_err, (wrong_length c.args.map c.in_err-rom.ensures.map held c.args.self.now.rom.items read.rom_prefix c.args.machine roots c.in_err-rom.ensures.image.0))
 
 pub returns-in_err-frames-clause-refused : goal.returns-in_err-frames-clause-refused
 returns-in_err-frames-clause-refused c =

@@ -1,9 +1,5 @@
 use Rattle.dvg_survey.proofs.Common.{is_some, entry_at, entries_of, arith, name_of}
-use Rattle.dvg_survey.proofs.Linking.{names_push}
 use Rattle.dvg_survey.proofs.reached.Reached.add.Goals as goal
-
-pub invariant_of-self-then-not-has : goal.invariant_of-self-then-not-has
-invariant_of-self-then-not-has c = grind (arith, names_push)
 
 pub returns-in_ok-push : goal.returns-in_ok-push
 returns-in_ok-push c = grind (arith, (c.self.invariant (name_of c.args.link.call.entry) c.requires.key), entry_at, entries_of, is_some)

@@ -1,9 +1,8 @@
-use Rattle.dvg_survey.proofs.Common.{◌<◌, length, IfSome}
 use Rattle.dvg_survey.proofs.Tracing.{Traced, steps_left}
 use Rattle.dvg_survey.proofs.reached.Reached.chain.Given as goal
 
 abbrev pub invariant-loop-next : goal.invariant-loop-next
-invariant-loop-next l = IfSome l.next (λ at. at < length l.self) × Traced l.self l.last l.next l.chain.items
+invariant-loop-next l = Traced l.self l.last l.next l.chain.items
 
 abbrev pub decreases-loop-next : goal.decreases-loop-next
 decreases-loop-next l = steps_left l.next
