@@ -4,8 +4,11 @@
  * dvgcheck_frame_alone judges a frame from the ROM alone, and dvgcheck_explain tells why it is refused. For many frames, judge a
  * vector ROM and the certificate of its shapes once by dvgcheck_judge, and then each frame by dvgcheck_frame, which takes no
  * memory; dvgcheck_make makes such a certificate. dvgcheck_check judges all three at once. The calls whose name ends in _on, and
- * those from the ROM alone, take the machine first: users of a board pass DVGCHECK_BOARD. The others are about the fixed-point
- * profile (docs/MACHINE.md).
+ * dvgcheck_frame_alone, dvgcheck_explain and dvgcheck_make, take the machine first: users of a board pass DVGCHECK_BOARD. The others
+ * are about the fixed-point profile (docs/MACHINE.md), but dvgcheck_frame goes by the machine of its shapes.
+ *
+ * A ROM and a frame are bytes as the processor sees them, the low byte of each word first; a frame is vector RAM from 4000 on, 2 to
+ * 2048 bytes.
  *
  * What the functions answer and keep is proved. It rests on what nothing can test, so it is yours to see to:
  *
@@ -22,8 +25,8 @@
  *   handler, or in the child that a process with threads forked. 64 KiB of the stack are free, and 96 KiB for
  *   dvgcheck_explain.
  *
- * Any number of threads may call these functions at once, each with a struct and a buffer of its own. No function keeps a pointer
- * once it has returned.
+ * Any number of threads may call these functions at once, if no other call uses a buffer, or a struct that a call writes. No function
+ * keeps a pointer once it has returned.
  */
 #ifndef DVGCHECK_H
 #define DVGCHECK_H
@@ -80,7 +83,8 @@ struct dvgcheck_root {
 enum {
     DVGCHECK_ACCEPTED = 0,
     DVGCHECK_BAD_WINDOW = 80,   /* the ends are not in order or not on the screen, and not those of DVGCHECK_CLIPPED on the board */
-    DVGCHECK_NO_SHAPES = 81,    /* no shapes are judged: the struct is all zeros, or they were refused */
+    DVGCHECK_NO_SHAPES = 81,    /* no shapes are judged: the struct is all zeros, or they were refused; of dvgcheck_frame_on also
+                                   where they are those of the other machine */
     DVGCHECK_BAD_MACHINE = 82,  /* the number stands for no machine */
     DVGCHECK_BAD_MAP = 83,      /* no ROM can lie there */
     DVGCHECK_SHORT_BUFFER = 84, /* of a text: the buffer is too short for it */
@@ -98,8 +102,8 @@ enum {
 enum { DVGCHECK_ANY_SCALE = 16, DVGCHECK_NO_CALL = 0xFFFF };
 
 /*
- * An answer. A field that is not told with its number is 0: with 1, 2, 49, 50 and 80 to 86 only the number is told, and with 0 by
- * dvgcheck_make.
+ * An answer. A field that is not told with its number is 0: with 1, 2, 49, 50, 80 to 83 and 86, with 63 unless `call` is told, and
+ * with 0 by dvgcheck_make, only the number is told.
  */
 struct dvgcheck_answer {
     uint32_t shapes; /* with 0: how many shapes the certificate claims, given or made for the frame */
@@ -218,7 +222,8 @@ struct dvgcheck_text dvgcheck_explain(uint32_t machine, const uint8_t *rom, size
  * frames lie one behind the other in `frames`, and `lengths` has how many bytes each of them has. The number is 82, 83, 86, or the
  * first that applies of 1, 2 and 60 to 63, and `answer` has it, too, with its place; or 0, and the text is in the buffer, with no
  * null byte behind it; or 84, and `length` is what the text needs, and the buffer is as it was. Takes memory for the entries, the
- * frames and the text, and gives it back; where there is none, the number is 63. At most 64 KiB of the stack.
+ * frames and the text, and gives it back; where there is none, the number is 63, in place of 86 or of any after it. At most 64 KiB of
+ * the stack.
  */
 struct dvgcheck_text dvgcheck_make(uint32_t machine, const uint8_t *rom, size_t rom_length, struct dvgcheck_map map,
                                    const struct dvgcheck_root *roots, size_t root_count, const uint8_t *frames,
