@@ -14,7 +14,7 @@ use Rattle.dvg_make.specs.declared.account.ShapeAt.{ShapeAt}
 pub use Rattle.dvg_account.specs.declared.cure.MakerCure.{MakerCure}
 use Rattle.dvg_account.specs.declared.cure.MakerCure.TheVariants as cure
 
--- a call outside the ROM, by its address: the frame's own, or that of a shape on the way
+-- a frame's own call outside the ROM, by its address
 abbrev pub outside_cure : ℕ → MakerCure
 outside_cure at = if nat_lt at RAM_WORDS then cure.CallsRam else cure.CallsOutside
 

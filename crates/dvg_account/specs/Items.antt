@@ -84,7 +84,7 @@ comes_from Frame held way = unless_zeros way.zeros way.last
 comes_from Shape words.Nothing way = unless_zeros way.zeros way.last
 comes_from Shape held way = None
 
--- the items by which the place and the scale were lost
+-- the item by which the place was lost
 abbrev pub place_lost_by : Option Losses → Option ItemLine
 place_lost_by None = None
 place_lost_by (Some l) = option_map line.PlaceLostBy l.place

@@ -29,7 +29,7 @@ use Rattle.dvg_account.specs.declared.line.MadeLine.TheVariants as made
 use Rattle.dvg_account.specs.declared.line.PathLine.TheVariants as path
 use Rattle.dvg_account.specs.declared.line.MakerChain.{MakerChain}
 
--- the most words that an entry takes, and the most return places that one stores at once
+-- the most words that an entry takes
 abbrev pub most_words : List Entry → ℕ
 most_words list = fold (λ most e. max most e.words) 0 list
 
@@ -113,8 +113,8 @@ TellsBelow (cause.Deep to scale) told =
     (calls : Vec Call) × (told ≡ Some (Path (path.Below (record { addr = to; key = scale }) calls)))
 TellsBelow other told = told ≡ None
 
--- the lines of a refusal of the maker, which made entries for roots and frames: its rule, its cause, the item, the shapes on the way to
--- where the making stops, that place, the calls below, and what to do
+-- the lines of a refusal of the maker, which made entries for roots and frames: its rule, its cause, the item, the shapes on the
+-- way to where the making stops, that place, the calls below, and what to do
 pub record UnmadeLines (rom : Rom) (frames : List (List ℕ)) (a : MakeAccount) (lines : List Line) : Type 0 where
   pub why : Option Sentence
   pub tells : TellsMaker rom a.at a.chain.items a.cause why

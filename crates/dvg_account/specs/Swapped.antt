@@ -1,5 +1,5 @@
 -- Inputs that are accepted with the bytes of each word swapped. All of it is this project's own.
-use Rattle.std.specs.Prelude.{ℕ, List, [], ◌∷◌, length, Ok, Option, Some, None}
+use Rattle.std.specs.Prelude.{◌≢◌, ◌<◌, ℕ, List, [], ◌∷◌, length, Ok, Option, Some, None}
 use Rattle.std.specs.Borrow.{Bor}
 use Rattle.dvg_words.specs.Values.{MemoryMap}
 use Rattle.dvg_words.specs.Memory.{IsRomLength, rom_on, words_of}
@@ -17,12 +17,12 @@ swapped [] = []
 swapped (low ∷ []) = low ∷ []
 swapped (low ∷ high ∷ rest) = high ∷ low ∷ swapped rest
 
--- the bytes of the ROM and of the frame with those swapped that are told
+-- the bytes of the ROM, swapped if that is told
 abbrev pub rom_in : Swapped → List ℕ → List ℕ
 rom_in of.Frame rom = rom
 rom_in other rom = swapped rom
 
--- the bytes of the frame with those swapped that are told
+-- the bytes of the frame, swapped if that is told
 abbrev pub frame_in : Swapped → List ℕ → List ℕ
 frame_in of.Rom frame = frame
 frame_in other frame = swapped frame
@@ -40,6 +40,8 @@ pub record AreAccepted (inputs : Inputs) (rom frame : List ℕ) (yes : Yes) : Ty
   pub in_range : InRange frame inputs.budget
   pub is_yes : IsYes inputs inputs.cert inputs.map rom frame yes
 
--- inputs with these bytes swapped are accepted
+-- inputs with these bytes swapped are accepted; a frame whose bytes are swapped is more than a HALT
 abbrev pub IsAcceptedSwapped : Inputs → Swapped → Type 0
-IsAcceptedSwapped inputs told = (yes : Yes) × AreAccepted inputs (rom_in told inputs.rom.now) (frame_in told inputs.frame.now) yes
+IsAcceptedSwapped inputs told =
+    (yes : Yes) × AreAccepted inputs (rom_in told inputs.rom.now) (frame_in told inputs.frame.now) yes
+    × (told ≢ of.Rom → 1 < yes.words)

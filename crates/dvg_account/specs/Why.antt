@@ -31,7 +31,7 @@ abbrev pub words_with : Found → ℕ
 words_with (Seen v) = v.after.words
 words_with found = 0
 
--- the addresses of a frame's words, and of a ROM's
+-- the addresses of a frame's words
 abbrev pub addresses_of_frame : List ℕ → Addresses
 addresses_of_frame frame = record { owner = owner.Frame; first = 0; last = length frame - 1 }
 

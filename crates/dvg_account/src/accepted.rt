@@ -126,7 +126,7 @@ fn board_line(alloc: Global, inputs: &Inputs) -> Result<Option<Line>, AllocError
 }
 
 /// The lines of what is accepted of these inputs, of which these are the images, as far as their bytes are of the right length
-/// (profile).
+/// (this project's own).
 pub fn accepted_lines(
     alloc: Global,
     inputs: &Inputs,

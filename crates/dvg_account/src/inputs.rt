@@ -22,8 +22,11 @@ pub struct Inputs<'a> {
     pub map: Option<RomMap>,
     pub cert: Option<&'a Cert>,
     pub frame: &'a [u8],
+    /// How many words the frame may take at most; 49 unless 1 to 1,000,000.
     pub budget: u32,
+    /// Where strokes may be lit.
     pub window: Window,
+    /// Whether the certificate's counts are bounds or exact.
     pub mode: Mode,
 }
 
@@ -98,7 +101,7 @@ fn push_plain(lines: &mut Lines, why: PlainWhy)
     lines.push(Line::Why(Why::Input(why)));
 }
 
-/// The lines of a refusal with this number before any item was judged on a machine (profile).
+/// The lines of a refusal with this number before any item was judged on a machine (this project's own).
 pub fn plain_lines(
     machine: Machine,
     alloc: Global,

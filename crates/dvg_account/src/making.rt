@@ -31,7 +31,7 @@ fn most_depth(entries: &[Entry]) -> u8
     entries.iter().fold(0, |most, entry| most.max(entry.depth))
 }
 
-/// The lines of a certificate that is made for a machine (profile).
+/// The lines of a certificate that is made for a machine (this project's own).
 pub fn made_lines(machine: Machine, alloc: Global, cert: &Cert) -> Result<Vec<Line>, AllocError>
     ensures { IfOk result (λ lines. lines.items ≡ made_lines machine cert.now.entries) }
 {
@@ -44,7 +44,7 @@ pub fn made_lines(machine: Machine, alloc: Global, cert: &Cert) -> Result<Vec<Li
     lines.finish()
 }
 
-/// The lines of a refusal of the maker over a ROM, which was asked for the entries of these frames, too (profile).
+/// The lines of a refusal of the maker over a ROM, which was asked for the entries of these frames, too (this project's own).
 pub fn unmade_lines(
     alloc: Global,
     rom: &RomImage,

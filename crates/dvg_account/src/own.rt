@@ -10,16 +10,13 @@ use crate::line::Line;
 use crate::making::unmade_lines;
 use crate::refused::refused_lines;
 use dvg_check::{Mode, RomFinding, Yes};
-use dvg_make::{EntryCause, FrameRefusal, JudgedFrame, MakeAccount};
+use dvg_make::{EntryCause, FrameRefusal, JudgedFrame, MakeAccount, MakeFault};
 use dvg_words::{FrameImage, RomImage};
 use std::alloc::{AllocError, Global};
 use std::slice;
 
-/// The number of the refusal that the maker had no memory.
-const NO_MEMORY: u8 = 63;
-
-/// The lines of what the frame of these inputs comes to by its own certificate, which is in the place of theirs, and in the mode `Exact`
-/// (profile). The ROM and the frame are those of the inputs.
+/// The lines of what the frame of these inputs comes to by its own certificate, which is in the place of theirs, and in the mode
+/// `Exact` (this project's own). The ROM and the frame are those of the inputs.
 pub fn own_lines(
     alloc: Global,
     inputs: &Inputs,
@@ -32,7 +29,12 @@ pub fn own_lines(
     match judged {
         Ok(judged) => lines_by(alloc, inputs, rom, frame, &judged),
         Err(account) if account.cause == EntryCause::Memory => {
-            plain_lines(inputs.machine, alloc, NO_MEMORY, PlainWhy::Nothing)
+            plain_lines(
+                inputs.machine,
+                alloc,
+                MakeFault::Memory.number(),
+                PlainWhy::Nothing,
+            )
         }
         Err(account) => unmade_lines(alloc, rom, slice::from_ref(frame), account),
     }
@@ -83,8 +85,8 @@ fn judged_lines(
     }
 }
 
-/// The lines of a verdict on a frame, of which this is the cause, if it is a refusal because of an item (profile). A refusal of the
-/// maker is told as one for memory: `own_lines` tells it.
+/// The lines of a verdict on a frame, of which this is the cause, if it is a refusal because of an item (this project's own). A
+/// refusal of the maker is told as one for memory: `own_lines` tells it.
 pub fn frame_lines(
     alloc: Global,
     inputs: &Inputs,
@@ -96,6 +98,11 @@ pub fn frame_lines(
     match verdict {
         Ok(yes) => verdict_lines(alloc, inputs, &Ok(*yes), None),
         Err(FrameRefusal::Check(refusal)) => { verdict_lines(alloc, inputs, &Err(*refusal), cause) }
-        Err(_) => plain_lines(inputs.machine, alloc, NO_MEMORY, PlainWhy::Nothing),
+        Err(_) => plain_lines(
+            inputs.machine,
+            alloc,
+            MakeFault::Memory.number(),
+            PlainWhy::Nothing,
+        ),
     }
 }

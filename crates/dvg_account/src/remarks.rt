@@ -1,15 +1,12 @@
 //! What is worth a second look in what is accepted. It changes no answer.
 
 use crate::line::EntryName;
-use crate::zeros::item_below;
+use crate::zeros::{MOST_ITEMS, item_below};
 use dvg_cert::{Cert, Entries, Entry, Key};
 use dvg_items::{Item, Kind};
 use dvg_survey::is_faint;
 use dvg_words::{ADDRESS_END, Instr, RomImage};
 use std::alloc::{AllocError, Global};
-
-/// How many items a shape has at most.
-const MOST_ITEMS: u16 = 2048;
 
 /// Something that its author may not have meant.
 #[derive(Clone, Copy)]

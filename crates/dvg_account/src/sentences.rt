@@ -202,7 +202,7 @@ fn push_maker(text: &mut Text, why: &MakerWhy) {
             text.push("it calls ");
             text.push_entry_name(*addr, *key);
             text.push(
-                ", below which calls go three deep already: with the frame's own they would be five",
+                ", below which calls go three deep already: with this one and the frame's own they would be at least five",
             );
         }
         MakerWhy::TooManyWords(words) => {

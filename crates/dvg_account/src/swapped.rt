@@ -38,9 +38,10 @@ fn swap_words(alloc: Global, bytes: &[u8]) -> Result<Vec<u8>, AllocError>
     Ok(other)
 }
 
-/// Of which input the bytes have to be swapped for these inputs, which are refused, to be accepted: by their certificate, or without
-/// one by the frame's own; `None` if no swap gets them accepted (only tested). A swap that leaves a frame of HALT alone is not told: every
-/// word whose low byte begins with the digit B is a HALT once swapped. They are judged anew for each swap.
+/// Of which input the bytes have to be swapped for these inputs, which are refused, to be accepted: by their certificate, or
+/// without one by the frame's own; `None` if no swap gets them accepted (only tested). A frame that is HALT alone once its own
+/// bytes are swapped is not told: every word whose low byte begins with the digit B is a HALT once swapped. They are judged anew
+/// for each swap.
 pub fn find_swapped(alloc: Global, inputs: &Inputs) -> Result<Option<Swapped>, AllocError>
     ensures { IfOk result (λ found. IfSome found (IsAcceptedSwapped inputs.now)) }
 {
@@ -53,10 +54,10 @@ pub fn find_swapped(alloc: Global, inputs: &Inputs) -> Result<Option<Swapped>, A
     if accepted(alloc, inputs, &rom, inputs.frame)?.is_some() {
         return Ok(Some(Swapped::Rom));
     }
-    if accepted(alloc, inputs, &rom, &frame)?.is_some() {
-        return Ok(Some(Swapped::Both));
+    match accepted(alloc, inputs, &rom, &frame)? {
+        Some(counts) if counts.words > 1 => Ok(Some(Swapped::Both)),
+        _ => Ok(None),
     }
-    Ok(None)
 }
 
 /// The counts of these bytes of a ROM and of a frame, if they are accepted in the place of those of the inputs.

@@ -39,7 +39,7 @@ fn swapped_for_frame(
     }
 }
 
-/// The account of [`verdict_lines`] as a text. Of a refusal it tells first what [`find_swapped`] finds.
+/// The account of [`verdict_lines`] as a text. Of a refusal because of an item it tells first what [`find_swapped`] finds.
 pub fn verdict_text(
     alloc: Global,
     inputs: &Inputs,
@@ -55,7 +55,8 @@ pub fn verdict_text(
     text_of(alloc, Telling::of_given(swapped), &lines, labels)
 }
 
-/// The account of [`frame_lines`] as a text. Of a refusal it tells first what [`find_swapped`] finds.
+/// The account of [`frame_lines`] as a text. Of a refusal because of an item, or by the maker, it tells first what [`find_swapped`]
+/// finds.
 pub fn frame_text(
     alloc: Global,
     inputs: &Inputs,
@@ -72,7 +73,8 @@ pub fn frame_text(
     text_of(alloc, telling, &lines, labels)
 }
 
-/// The account of [`own_lines`] as a text. Of a refusal it tells first what [`find_swapped`] finds.
+/// The account of [`own_lines`] as a text. Of a refusal because of an item, or by the maker, it tells first what [`find_swapped`]
+/// finds.
 pub fn own_text(
     alloc: Global,
     inputs: &Inputs,

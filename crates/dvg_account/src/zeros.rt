@@ -9,7 +9,7 @@ use dvg_items::{Item, Kind};
 use dvg_words::{Cell, Fetch, read_cell};
 
 /// How many items a shape or a frame has at most.
-const MOST_ITEMS: u16 = 2048;
+pub const MOST_ITEMS: u16 = 2048;
 
 /// What leads to an item: the item right before it, and the zeros, if there are any.
 #[derive(Clone, Copy)]

@@ -85,11 +85,7 @@ fn block_word(addr: u16) -> u16 {
 }
 
 fn calls_word(addr: u16) -> u16 {
-    if addr % 16 == 15 {
-        RTSL
-    } else {
-        0xC000 + ROM_LAST
-    }
+    if addr % 16 == 15 { RTSL } else { CALL_LAST }
 }
 
 /// A word of calls of the LABS to 0, 0 at scale 0, which stands before the last word.

@@ -30,7 +30,7 @@ AloneVerdict machine rom map frame budget w (Ok v) =
     AreTaken machine map w × VerdictOnBytes (machine_of machine) rom map frame budget w v
 AloneVerdict machine rom map frame budget w (Err b) = IsBad machine map w b
 
--- what certificates of frames' own judge is what C passes
+-- each verdict of this judge is the verdict on what C passes
 abbrev pub JudgesAlone : ℕ → List ℕ → MemoryMap → ℕ → Window → OwnCertificates → Type 0
 JudgesAlone machine rom map budget w own =
     (frame : List ℕ) (v : Result Yes FrameRefusal) → VerdictOnBytes own.machine own.rom.now own.map frame own.budget own.window v

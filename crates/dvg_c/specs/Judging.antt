@@ -1,5 +1,5 @@
 -- What the bytes of a ROM and of a certificate come to, and what a frame comes to by the shapes that are kept of them. All of it
--- is profile.
+-- is this project's own.
 use Rattle.std.specs.Prelude.{◌≡◌, ◌≢◌, ◌≤◌, ℕ, List, length, Result, Ok, Err}
 use Rattle.dvg_words.specs.declared.machine.Machine.{Machine}
 use Rattle.dvg_words.specs.declared.machine.Machine.TheVariants.{Board}

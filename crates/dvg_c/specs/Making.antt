@@ -33,7 +33,7 @@ pub record AreCut (bytes lengths : List ℕ) (frames : List (List ℕ)) : Type 0
   pub joined : concat frames ≡ bytes
   pub lengths_are : of_each length frames ≡ lengths
 
--- it is said rightly why they are not
+-- why the bytes are not cut: the lengths don't add up to theirs, or there was no memory
 abbrev pub RefusesCut : List ℕ → List ℕ → Unmade → Type 0
 RefusesCut bytes lengths unmade.Lengths = sum lengths ≡ length bytes → ⊥
 RefusesCut bytes lengths unmade.Memory = Unit {0}
@@ -43,8 +43,8 @@ RefusesCut bytes lengths other = ⊥
 abbrev pub holding : List (List ℕ) → List (Option (List ℕ))
 holding frames = of_each Some frames
 
--- the text of the certificate on a machine, for a ROM's bytes at a map, roots and frames, or why there is none: lengths that don't add up
--- to those of the bytes, or what the maker's run tells; a want of memory says nothing
+-- the text of the certificate on a machine, for a ROM's bytes at a map, roots and frames, or why there is none: lengths that don't
+-- add up to those of the bytes, or what the maker's run tells; a want of memory says nothing
 abbrev pub RunVerdict : Machine → List ℕ → MemoryMap → List (ℕ × Key) → List ℕ → List ℕ → Result (List ℕ) Unmade → Type 0
 RunVerdict machine rom map roots bytes lengths (Ok text) =
     (frames : List (List ℕ)) × AreCut bytes lengths frames
@@ -60,8 +60,8 @@ MakeVerdict machine rom map roots bytes lengths (Err unmade.Map) = (machine ≤ 
 MakeVerdict machine rom map roots bytes lengths answer =
     (machine ≤ BOARD) × IsMap map × RunVerdict (machine_of machine) rom map roots bytes lengths answer
 
--- the number of the maker's run, with the place of its refusal: a frame's call, or none where it is a root's; all is read from memory and
--- written into it, so that no reader fails, and a failed write is a want of it
+-- the number of the maker's run, with the place of its refusal: a frame's call, or none where it is a root's; all is read from
+-- memory and written into it, so that no reader fails, and a failed write is a want of it
 abbrev pub told_run : FramesRunFault → Answer
 told_run (run.Call call why) = record (told_fault why) { call = call.at }
 told_run (run.Plain (maker.Make (make.Unstraight word))) = record (numbered 60) { word = word; call = NO_CALL }

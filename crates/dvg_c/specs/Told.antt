@@ -26,7 +26,7 @@ window_of w = record { x_min = w.x_min; x_max = w.x_max; y_min = w.y_min; y_max 
 abbrev pub map_of : MapEnds → MemoryMap
 map_of m = record { rom_first = m.first; rom_last = m.last }
 
--- what C passes was tested: what stands for it is taken, in range, or there is none, since it is not
+-- what C passes was tested: the result is what stands for it, if that is in range, and else there is none
 abbrev pub Tested : {A : Type 0} → (A → Type 0) → A → Option A → Type 0
 Tested InRange x (Some y) = (y ≡ x) × InRange x
 Tested InRange x None = InRange x → ⊥

@@ -31,7 +31,8 @@ pub struct Answer {
     /// 0 where it is accepted, else the number of the refusal, 80 for a bad window, 81 where no shapes are judged, 82 for a bad
     /// machine, 83 for a bad map, or 86 for lengths that don't add up.
     pub number: u8,
-    /// With 60 to 62: the word address of the frame's call whose entry can't be made, or `NO_CALL` where it is a root's.
+    /// With 60 to 62, and of a made text with 63 at a call: the word address of the frame's call whose entry can't be made, or
+    /// `NO_CALL` where it is a root's.
     pub call: u16,
 }
 

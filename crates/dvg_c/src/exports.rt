@@ -179,8 +179,8 @@ pub extern "C" fn dvgcheck_judge_exact(
     judge_numbered(alloc, PROFILE, rom, cert, window, Exact, kept)
 }
 
-/// Judges as [`dvgcheck_judge`] does, on a machine: 0 for the profile's, about which `dvgcheck_judge` is, and 1 for the board's. Frames
-/// over these shapes are judged on that machine, too.
+/// Judges as [`dvgcheck_judge`] does, on a machine: 0 for the profile's, about which `dvgcheck_judge` is, and 1 for the board's.
+/// Frames over these shapes are judged on that machine, too.
 ///
 /// The answer is 82 for another number of a machine, and `kept` then has no judged shapes; else it is what `dvgcheck_judge` says of
 /// 80 and of the numbers after it. On the board -1024 to 2047 on both axes is a window, too.
@@ -235,7 +235,8 @@ pub extern "C" fn dvgcheck_frame(kept: &KeptShapes, frame: &[u8], budget: u32) -
     answer_of(&check_kept(kept, frame, budget))
 }
 
-/// Judges a frame as [`dvgcheck_frame`] does, over shapes that were judged on this machine, 0 for the profile's and 1 for the board's.
+/// Judges a frame as [`dvgcheck_frame`] does, over shapes that were judged on this machine, 0 for the profile's and 1 for the
+/// board's.
 ///
 /// The answer is 82 for another number of a machine, and 81, too, where the shapes were judged on the other machine.
 #[unsafe(no_mangle)]
@@ -262,13 +263,14 @@ pub extern "C" fn dvgcheck_frame_on(
     dvgcheck_frame(kept, frame, budget)
 }
 
-/// Judges a frame from the ROM alone, by the certificate that is made for it: `judge` of `dvg_make`, for C. No certificate does better.
+/// Judges a frame from the ROM alone, by the certificate that is made for it: `judge` of `dvg_make`, for C. No certificate does
+/// better.
 ///
-/// `machine` is 0 for the profile's and 1 for the board's, `map` where the ROM lies, `budget` how many words the frame may take at most,
-/// 1 to 1,000,000, and `window` where strokes may be lit. The answer is 82 for another number of a machine, 83 for another map, 80 for
-/// another window, else the first that applies of 2, 49, 1, 60 to 63, 50, 25 and 40 to 48, or 0; 45 and 47 never come. With 0 every run
-/// is safe, and has just the answered counts; on the board so is every run of its circuit; and no certificate gets the frame accepted
-/// with fewer words or less depth. Takes memory for the certificate and its index, and gives it back.
+/// `machine` is 0 for the profile's and 1 for the board's, `map` where the ROM lies, `budget` how many words the frame may take at
+/// most, 1 to 1,000,000, and `window` where strokes may be lit. The answer is 82 for another number of a machine, 83 for another
+/// map, 80 for another window, else the first that applies of 2, 49, 1, 60 to 63, 25 and 40 to 48, or 0; 45 and 47 never come. With
+/// 0 every run is safe, and has just the answered counts; on the board so is every run of its circuit; and no certificate gets the
+/// frame accepted with fewer words or less depth. Takes memory for the certificate and its index, and gives it back.
 #[unsafe(no_mangle)]
 pub extern "C" fn dvgcheck_frame_alone(
     alloc: Global,
@@ -291,13 +293,13 @@ pub extern "C" fn dvgcheck_frame_alone(
     }
 }
 
-/// Judges a frame as [`dvgcheck_frame_alone`] does, and writes the account of its answer into a buffer: what `dvgcheck explain frames`
-/// prints for it behind its name, a colon and a space.
+/// Judges a frame as [`dvgcheck_frame_alone`] does, and writes the account of its answer into a buffer: what
+/// `dvgcheck explain frames` prints for it behind its name, a colon and a space.
 ///
-/// The answer is that of `dvgcheck_frame_alone`. The number is 0 where the whole text stands at the buffer's start, and then its length
-/// is that of the text. It is 84 where the buffer is too short: then the length is what is needed, and nothing is written. It is 85 where
-/// there was no memory for the account, and 80, 82 or 83 as the answer's; then nothing is written, and the length is 0. Takes memory for
-/// the certificate, its index and the account, and gives it back.
+/// The answer is that of `dvgcheck_frame_alone`. The number is 0 where the whole text stands at the buffer's start, and then its
+/// length is that of the text. It is 84 where the buffer is too short: then the length is what is needed, and nothing is written.
+/// It is 85 where there was no memory for the account, and 80, 82 or 83 as the answer's; then nothing is written, and the length is
+/// 0. Takes memory for the certificate, its index and the account, and gives it back.
 #[unsafe(no_mangle)]
 pub extern "C" fn dvgcheck_explain(
     alloc: Global,
@@ -326,12 +328,12 @@ pub extern "C" fn dvgcheck_explain(
 
 /// Makes a certificate for roots and frames, and writes its text into a buffer: what `dvgcheck make` writes, for C.
 ///
-/// `machine` is 0 for the profile's and 1 for the board's, and `map` where the ROM lies. The frames lie one behind the other in `frames`,
-/// and `lengths` says how many bytes each of them has. The answer's number is 82 for another machine, 83 for another map, 86 where the
-/// lengths don't add up to that of the bytes, else the first that applies of 1, 2 and 60 to 63, or 0; and `frame` is with 2 the frame, and
-/// with 60 to 63 that of the answer's call. The number is 0 where the whole text stands at the buffer's start, 84 where the buffer is too
-/// short, and then the length is what is needed, and nothing is written; else it is the answer's, and nothing is written. Takes memory
-/// for the entries, for the text and for what was read of the frames, and gives it back.
+/// `machine` is 0 for the profile's and 1 for the board's, and `map` where the ROM lies. The frames lie one behind the other in
+/// `frames`, and `lengths` says how many bytes each of them has. The answer's number is 82 for another machine, 83 for another map,
+/// 86 where the lengths don't add up to that of the bytes, else the first that applies of 1, 2 and 60 to 63, or 0; and `frame` is
+/// with 2 the frame, and with 60 to 63 that of the answer's call. The number is 0 where the whole text stands at the buffer's
+/// start, 84 where the buffer is too short, and then the length is what is needed, and nothing is written; else it is the answer's,
+/// and nothing is written. Takes memory for the entries, for the text and for what was read of the frames, and gives it back.
 #[unsafe(no_mangle)]
 pub extern "C" fn dvgcheck_make(
     alloc: Global,

@@ -12,9 +12,6 @@ use dvg_cmd::{Counted, FramesRunFault, Key, MakeFault, MakeRunFault, run_make_fr
 use dvg_words::{Machine, RomMap};
 use std::alloc::{AllocError, Global};
 
-/// The number of a want of memory, as of the maker's.
-const NO_MEMORY: u8 = 63;
-
 /// A shape for which there is to be an entry: its word address, and the global scale at its calls, 0 to 15, or 16 for any.
 #[repr(C)]
 #[derive(Clone, Copy)]
@@ -142,7 +139,7 @@ fn run_answer(fault: &FramesRunFault) -> Answer
             ..bare
         },
         FramesRunFault::Plain(MakeRunFault::ReadRom | MakeRunFault::Write)
-        | FramesRunFault::ReadFrame => numbered(NO_MEMORY),
+        | FramesRunFault::ReadFrame => numbered(MakeFault::Memory.number()),
         _ => bare,
     }
 }
@@ -155,7 +152,7 @@ fn unmade_answer(unmade: &Unmade) -> Answer
         Unmade::Machine => numbered(BAD_MACHINE),
         Unmade::Map => numbered(BAD_MAP),
         Unmade::Lengths => numbered(BAD_LENGTHS),
-        Unmade::Memory => numbered(NO_MEMORY),
+        Unmade::Memory => numbered(MakeFault::Memory.number()),
         Unmade::Run(fault) => run_answer(fault),
     }
 }

@@ -11,7 +11,7 @@ use crate::answer::{Answer, SHORT_BUFFER};
 pub struct TextAnswer {
     /// How many bytes the text has; 0 where there is none.
     pub length: usize,
-    /// Of a made text, with 2 and with 60 to 62 at a call: which frame, counted from 0.
+    /// Of a made text, with 2 and with 60 to 63 at a call: which frame, counted from 0.
     pub frame: usize,
     /// What the text is about.
     pub answer: Answer,

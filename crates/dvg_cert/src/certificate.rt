@@ -97,7 +97,7 @@ fn is_certificate(map: RomMap, entries: &[Entry]) -> bool
     true
 }
 
-/// Whether an entry stands after the last one of these.
+/// Whether an entry stands after the last one of these; it does where there are none.
 #[tactic(auto, using(crate::proofs::Rising::stands))]
 pub fn stands_after(entries: &[Entry], entry: &Entry) -> bool
     ensures { IsTrue result ↔ StandsAfter entries.now entry.now }

@@ -15,7 +15,7 @@ pub trait Entries {
     /// The entries of the certificate, in their order.
     ghost list: { Self → List Entry };
 
-    /// The entry at this word address with exactly this key.
+    /// The entry at this word address with exactly this key, `None` if there is none.
     fn find(&self, addr: u16, key: Key) -> Option<Entry>
         ensures { result ≡ entry_at (list self.now) addr key };
 

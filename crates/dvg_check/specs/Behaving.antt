@@ -23,7 +23,9 @@ Counts Bound n claimed = n ≤ claimed
 Counts Exact n claimed = n ≡ claimed
 
 -- A run leads from one running state to another. It takes at most `most` steps and fetches at most `most` words, in the mode Exact
--- exactly `most` words. A halt or a fault has no step, so there is none on the way.
+-- exactly `most` words. Each word fetched is `Fetched`, each stroke drawn is `Lit`, and the most return places stored at once are
+-- at most the greater of those before and `deep`, in the mode Exact just that. A halt or a fault has no step, so there is none on
+-- the way.
 pub record Stretch
     (mode : Mode) (m : Memory) (Fetched : ℕ → Type 0) (Lit : Stroke → Type 0) (most deep : ℕ) (from to : State) : Type 0 where
   pub steps : ℕ

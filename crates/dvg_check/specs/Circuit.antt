@@ -19,7 +19,7 @@ OfEachRun m P = (c : Circuit) (reads : ℕ → Reads) → IsStart c → ReadsAs 
 abbrev pub IsPast : ℕ → ℕ → ℕ → Type 0
 IsPast before most pointer = (calls : ℕ) × (calls ≤ most) × (pointer ≡ (before + calls) % 16)
 
--- a run is safe so far, if this was its stack pointer at the start and P is what lit draws have to keep
+-- a run is safe so far: `pointer` is its stack pointer at the start, and each lit draw keeps P
 pub record IsSafeRun (m : Memory) (P : LitDraw → Type 0) (words depth pointer : ℕ) (r : Run) : Type 0 where
   -- at most `words` words were fetched, all of them words of the frame or of the ROM
   pub few : length r.fetched ≤ words
@@ -39,7 +39,7 @@ abbrev pub SafeOnCircuit : Memory → Window → ℕ → ℕ → Type 0
 SafeOnCircuit m w words depth = SafeRuns m (IsDrawInWindow w) words depth
 
 -- a run that has halted after n instructions fetched exactly `words` words, and stored at most `depth` return places more than at
--- the start, and just so many after one of these instructions
+-- the start, and just so many at the start or after one of these instructions
 pub record CountsOfRun (words depth pointer : ℕ) (run : ℕ → Run) (n : ℕ) : Type 0 where
   pub exactly : length (run n).fetched ≡ words
   pub most : (k : ℕ) → IsPast pointer depth (run k).circuit.pointer

@@ -18,7 +18,7 @@ pub use Rattle.dvg_check.specs.declared.fault.Found.TheVariants.{Missing, Odd, S
 pub use Rattle.dvg_check.specs.declared.fault.FrameFinding.{FrameFinding}
 pub use Rattle.dvg_check.specs.declared.fault.ShapeFinding.{ShapeFinding}
 
--- what is found at a word address after these items: no word, an odd LABS, or an item as the rules see it
+-- what is found at a word address after these items: an instruction with a word missing, an odd LABS, or an item as the rules see it
 abbrev pub IsFound : Context → Source → List Item → ℕ → Found → Type 0
 IsFound c word items at Missing = cell_at word at ≡ cell.Missing
 IsFound c word items at Odd = cell_at word at ≡ cell.Odd

@@ -1,4 +1,5 @@
--- The laws, over the definitions alone. They are for every map, window and mode, but ExactIsExact is for the mode Exact.
+-- The laws, over the definitions alone. They are for every map, window and mode, but ExactIsExact is for the mode Exact, those of the
+-- circuit are for the board, and SafeIsSafeOnCircuit for windows as calls take them.
 use Rattle.dvg_words.specs.Values.{Source}
 use Rattle.dvg_words.specs.declared.machine.Machine.{Machine}
 use Rattle.std.specs.Prelude.{◌≡◌, ℕ, ℤ, ◌+◌, ◌<◌, ◌≤◌, ◌⊎◌, ◌+ℤ◌, ◌≤ℤ◌, length, List, [], ◌∷◌, ◌++◌, Contains}
@@ -206,7 +207,7 @@ SafeIsSafeOnCircuit =
     (m : Memory) (w : Window) (words depth : ℕ)
     → IsMemory m → m.rom.machine ≡ Board → IsWindowOrZone w → Safe m w words depth → SafeOnCircuit m w words depth
 
--- and has the same counts there, where they are exact
+-- what is safe on the board's generator with exact counts has the same counts on its circuit
 abbrev pub CountsAreOnCircuit : Type 0
 CountsAreOnCircuit =
     (m : Memory) (w : Window) (words depth : ℕ)

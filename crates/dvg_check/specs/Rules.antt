@@ -100,7 +100,7 @@ GoodShape mode w rom list e = AllKeep Shape (rom_word rom) e.addr (ShapePlaceKee
 abbrev pub Good : Mode → Window → Rom → List Entry → Type 0
 Good mode w rom list = (e : Entry) → Contains list e → GoodShape mode w rom list e
 
--- a frame keeps all rules, and `count` and `depth` are its words and its depth at its HALT
+-- a frame keeps all rules; `count` is its words, that of its HALT included, and `depth` its depth
 pub record GoodFrame (w : Window) (machine : Machine) (words : List ℕ) (list : List Entry) (budget count depth : ℕ) : Type 0 where
   pub keeps : AllKeep Frame (frame_word machine words) 0 (FramePlaceKeeps w machine words list budget)
   pub items : List Item

@@ -1,7 +1,7 @@
 -- The verdict on a ROM and a frame by a certificate that was read, under a budget of words, and before that what a frame and a
--- budget are refused for, 2 and 49. By a certificate it is the first that applies of: 1, the first fault of the shapes, the first fault
--- of the frame, accepted. In place of those after 1 it may be 50, that there was no memory for the index. All of it is this project's
--- own.
+-- budget are refused for, 2 and 49. By a certificate it is the first that applies of: 1, the first fault of the shapes, the first
+-- fault of the frame, accepted. In place of those after 1 it may be 50, that there was no memory for the index. All of it is this
+-- project's own.
 use Rattle.std.specs.Prelude.{◌≡◌, ℕ, ◌≤◌, List, length, Result, Ok, Err}
 use Rattle.dvg_words.specs.Values.{MemoryMap, Window}
 use Rattle.dvg_words.specs.declared.machine.Machine.{Machine}
@@ -21,7 +21,7 @@ pub record IsBudget (budget : ℕ) : Type 0 where
   pub some : 1 ≤ budget
   pub few : budget ≤ MOST_WORDS
 
--- the frame's length and the budget are in range
+-- the number of the frame's bytes and the budget are in range
 pub record InRange (frame : List ℕ) (budget : ℕ) : Type 0 where
   pub frame_length : IsFrameLength (length frame)
   pub budget_range : IsBudget budget
@@ -47,6 +47,6 @@ RomVerdict machine mode w rom c words budget (Err (refusal.Image RomLength)) = I
 RomVerdict machine mode w rom c words budget answer =
     IsRomLength c.map (length rom) × PartsVerdict mode w (rom_on machine c.map rom) c.entries words budget answer
 
--- a frame, and a ROM of these bytes at a map
+-- a frame of these words, and a ROM of these bytes at a map
 abbrev pub memory_on : Machine → MemoryMap → List ℕ → List ℕ → Memory
-memory_on machine map frame rom = record { frame = frame; rom = rom_on machine map rom }
+memory_on machine map words rom = record { frame = words; rom = rom_on machine map rom }

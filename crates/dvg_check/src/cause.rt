@@ -41,7 +41,7 @@ pub enum FrameCause {
     OffScreen(Leaving),
     /// 47: the item calls this word address at this scale (`Any` where it is unknown), and no entry is named by them.
     NoEntry { to: u16, scale: Key },
-    /// 48: the words so far are this many more than the budget.
+    /// 48: the words, with those of the item, are this many more than the budget.
     Budget(u32),
 }
 
@@ -65,7 +65,7 @@ pub enum ShapeCause {
     NoEntry { to: u16, scale: Key },
     /// 27: this many return places are stored at once under the item, more than claimed.
     TooDeep(u8),
-    /// 28: the words so far are this many more than claimed.
+    /// 28: the words, with those of the item, are this many more than claimed.
     TooManyWords(u32),
     /// 29: the place at the end is this one, and another is claimed.
     EndDiffers(End),

@@ -113,7 +113,7 @@ pub enum FrameWhy {
     /// 47: no entry is named by a call.
     #[error("it calls a shape that has no entry")]
     NoEntry,
-    /// 48: the words so far are over the budget.
+    /// 48: the words, with those of the item, are over the budget.
     #[error("the words so far are over the budget")]
     Budget,
 }
@@ -137,7 +137,7 @@ impl FrameWhy {
     }
 }
 
-/// What stands at a word address: nothing, an odd LABS, or an item, as the rules see it.
+/// What stands at a word address: an instruction with a word missing, an odd LABS, or an item, as the rules see it.
 #[derive(Clone, Copy)]
 pub enum Found {
     Missing,

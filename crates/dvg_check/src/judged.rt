@@ -46,8 +46,9 @@ impl<'a, E: Entries> JudgedShapes<'a, E> {
     /// Judges each entry's shape in a mode, as [`check_shapes`](crate::check_shapes) and
     /// [`check_shapes_exact`](crate::check_shapes_exact) do.
     ///
-    /// `entries` are those of the certificate, and the ROM lies where it says. `window` is the part of the screen that may be
-    /// lit, here and by the frames judged over these shapes. Takes no memory but the stack's.
+    /// `entries` are those of the certificate, and the ROM lies where it says. `window` is where strokes may be lit,
+    /// here and by the frames judged over these shapes: a part of the screen, or on the board also `CLIPPED` of `dvg_words`. Takes no
+    /// memory but the stack's.
     pub fn judge(
         rom: &'a RomImage<'a>,
         cert: &Cert,
@@ -96,7 +97,7 @@ impl<'a, E: Entries> JudgedShapes<'a, E> {
         })
     }
 
-    /// The part of the screen that shapes and frames may light.
+    /// Where shapes and frames may light: a part of the screen, or `CLIPPED`.
     pub fn window(&self) -> Window
         ensures { result ≡ self.now.window }
     {
@@ -157,7 +158,8 @@ impl<'a, E: Entries> JudgedShapes<'a, E> {
     /// words, stores at most so many return places at once, and four at most, fetches only words of the ROM and the
     /// frame, and draws no lit stroke that leaves the window on either axis. Over shapes that were judged in the mode
     /// [`Exact`](Mode::Exact) it fetches just so many words, and has stored just so many return places at once. If the ROM is on the
-    /// board, the same holds of its circuit, whatever its registers hold at the start. Takes no memory.
+    /// board, the same holds of its circuit, whatever its other registers hold at the start, so long as each word that it fetches
+    /// reads, when it is fetched, as the frame and the ROM have it. Takes no memory.
     pub fn check_frame(&self, frame: &FrameImage, budget: u32) -> Result<Accepted, FrameFault>
         requires { budget ≤ MOST_WORDS }
         ensures ok { IfOk result (λ yes. GoodFrame self.now.window self.now.rom.machine frame.now self.now.list budget yes.words yes.depth) }

@@ -60,7 +60,7 @@ impl Keys {
         self.bits == 0
     }
 
-    /// Takes the key with the lowest number out of the set.
+    /// Takes the key with the lowest number out of the set, `None` if it is empty.
     #[inline(always)]
     pub fn take_first(&mut self) -> Option<Key>
         ensures key { IfSome result IsKey }

@@ -1,5 +1,5 @@
-//! Laws over the definitions alone, for every map, window and mode, except `exact_is_exact`, which is for the mode `Exact`,
-//! and the worked examples. Each is the contract of a function that does nothing.
+//! Laws over the definitions alone, for every map, window and mode, except `exact_is_exact`, which is for the mode `Exact`, those of
+//! the circuit, which are for the board, and the worked examples. Each is the contract of a function that does nothing.
 
 ghost use Rattle.dvg_words.specs.declared.machine.Machine.{Machine};
 ghost use Rattle.dvg_check.specs.Rules.{Mode};
@@ -85,19 +85,19 @@ pub fn safe_stack()
     stack_within_max();
 }
 
-/// What is safe on the board's generator within any bounds is safe on its circuit: at each count of each lit draw the counters hold the
-/// twelve bits of a place within them.
+/// What is safe on the board's generator within any bounds is safe on its circuit: at each count of each lit draw the counters hold
+/// the twelve bits of a place within them.
 pub fn within_on_circuit()
     ensures { SafeIsWithinOnCircuit }
 {}
 
-/// What is safe on the board's generator, in a window as calls take them, is safe on its circuit, where the board shows of each lit draw
-/// just the part that lies on the screen.
+/// What is safe on the board's generator, in a window as calls take them, is safe on its circuit, where the board shows of each lit
+/// draw just the part that lies on the screen.
 pub fn safe_on_circuit()
     ensures { SafeIsSafeOnCircuit }
 {}
 
-/// And has the same counts there, where they are exact.
+/// What is safe on the board's generator with exact counts has the same counts on its circuit.
 pub fn counts_on_circuit()
     ensures { CountsAreOnCircuit }
 {}

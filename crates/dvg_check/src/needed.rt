@@ -121,7 +121,7 @@ impl Needed {
         }
     }
 
-    /// Adds keys at a word address; at an address outside the ROM it adds none.
+    /// Adds keys at a word address; before the ROM's first word, or 2,048 words or more past it, it adds none.
     fn add(&mut self, at: u16, more: Keys) {
         let index = at.wrapping_sub(self.first);
         if let Some(keys) = self.keys.get_mut(usize::from(index)) {

@@ -47,7 +47,7 @@ pub trait Rules {
         ensures value { result ≡ scale self.now }
         ensures key { IsKey result };
 
-    /// The first rule that an item breaks. Where it breaks none, the words so far are a million at most.
+    /// The first rule that an item breaks. Where it breaks none, the words past it are 1,000,000 at most.
     fn first_broken(&self, seen: &Seen) -> Option<Self::Why>
         requires valid { valid self.now }
         requires seen { IsSoundSeen seen.now }

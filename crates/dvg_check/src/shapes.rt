@@ -206,9 +206,10 @@ pub fn check_shapes_in<E: Entries>(
 /// Judges each entry's shape, in the order of the certificate, its counts as bounds: the first faulty entry is answered,
 /// with the first item of its shape that breaks a rule, and the lowest rule that this item breaks (20 to 31, profile).
 ///
-/// `entries` are those of the certificate, and the ROM lies where it says. `window` is the part of the screen that may be lit at
-/// places that the ROM sets. Nothing is run, and nothing is allocated. It takes the time of one tail for each word and key at most,
-/// of one comparison for each entry, and of a walk over the items of the shape that is answered.
+/// `entries` are those of the certificate, and the ROM lies where it says. `window` is where strokes may be lit at places that the
+/// ROM sets: a part of the screen, or on the board also `CLIPPED` of `dvg_words`. Nothing is run, and nothing is allocated. It
+/// takes the time of one tail for each word and key at most, of one comparison for each entry, and of a walk over the items of the
+/// shape that is answered.
 pub fn check_shapes<E: Entries>(
     rom: &RomImage,
     cert: &Cert,

@@ -50,6 +50,7 @@ pub fn kept_at<T: Copy>(slots: &[Option<Kept<T>>], addr: u16, key: Key) -> Optio
 pub fn keep<T: Copy>(slots: &mut [Option<Kept<T>>], addr: u16, key: Key, value: T)
     requires key { IsKey key }
     requires slots { length slots.old ≡ SLOTS }
+    ensures held { IsKept slots.new (record { value = value; addr = addr; key = key }) }
     ensures kept { (kept : Kept T) → IsKept slots.new kept → (kept ≡ record { value = value; addr = addr; key = key }) ⊎ IsKept slots.old kept }
     ensures slots { length slots.new ≡ SLOTS }
 {

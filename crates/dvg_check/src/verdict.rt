@@ -18,7 +18,7 @@ use dvg_words::{FrameImage, ImageFault, Machine, RomImage, Window};
 use std::alloc::Global;
 use thiserror::Error;
 
-/// What is accepted: how many shapes the certificate claims, how many words every run fetches at most, and how many
+/// What is accepted: how many entries the certificate has, how many words every run fetches at most, and how many
 /// return places it stores at once at most.
 #[derive(Clone, Copy, Debug, PartialEq, Eq)]
 pub struct Yes {
@@ -51,7 +51,7 @@ pub enum Refusal {
 }
 
 impl Refusal {
-    /// The number of the refusal, as a report has it.
+    /// The number of the refusal, as a report has it: 1, 2, 10 to 16, 20 to 33, 40 to 48, 49 or 50.
     pub fn number(self) -> u8
         ensures { result ≡ refusal_number self }
     {
@@ -117,9 +117,10 @@ pub fn frame_of(frame: &[u8], budget: u32) -> Result<FrameImage<'_>, Refusal>
 /// Judges a frame over the bytes of a vector ROM and the entries of its certificate in a mode, as `check` and `check_exact` of
 /// `dvg_verdict` do from the ROM's length on.
 ///
-/// `budget` is how many words the frame may take at most, up to 1,000,000. The answer is exact: 1 where the bytes are not exactly
-/// two for each address of the certificate's map, else that of [`check_parts`] or [`check_parts_exact`]. It takes the memory that
-/// these take, and carries the same theorem, on the board also about its circuit.
+/// `budget` is how many words the frame may take at most, up to 1,000,000, `window` where strokes may be lit, as for
+/// [`check_parts`]. The answer is exact: 1 where the bytes are not exactly two for each address of the certificate's map, else that
+/// of [`check_parts`] or [`check_parts_exact`]. It takes the memory that these take, and carries the same theorem, on the board
+/// also about its circuit.
 pub fn check_rom(
     machine: Machine,
     alloc: Global,
@@ -146,10 +147,11 @@ pub fn check_rom(
 
 /// Judges a frame over a vector ROM and the entries of its certificate, as `check` of `dvg_verdict` does from the shapes on.
 ///
-/// The ROM lies where the certificate says. `budget` is how many words the frame may take at most, up to 1,000,000, `window` the
-/// part of the screen that may be lit. The answer is exact: the first that applies of 50, the first fault of the shapes (20 to
-/// 31), the frame's first fault (40 to 48), and the yes, and what is accepted is safe in just the sense of `check`, for a ROM on the
-/// board also on its circuit. Takes memory for the index of the entries alone; 50 comes only where there was none.
+/// The ROM lies where the certificate says. `budget` is how many words the frame may take at most, up to 1,000,000, `window` where
+/// strokes may be lit: a part of the screen, or on the board also `CLIPPED` of `dvg_words`. The answer is exact: the first that
+/// applies of 50, the first fault of the shapes (20 to 31), the frame's first fault (40 to 48), and the yes, and what is accepted
+/// is safe in just the sense of `check`, for a ROM on the board also on its circuit. Takes memory for the index of the entries
+/// alone; 50 comes only where there was none.
 pub fn check_parts(
     alloc: Global,
     rom: &RomImage,

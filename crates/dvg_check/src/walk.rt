@@ -1,4 +1,5 @@
-//! The one loop over the items of a shape or of a frame.
+//! The loops over the items of a shape or of a frame: one that keeps nothing for what breaks a rule, and one that tells the first
+//! fault.
 
 ghost use Rattle.std.specs.Prelude.{◌≡◌, ◌<◌, IfSome, IfOk, IfErr};
 ghost use Rattle.dvg_words.specs.Decoding.{InstrFits};

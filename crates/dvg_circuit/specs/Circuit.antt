@@ -1,9 +1,10 @@
 -- The circuit as a machine of its own: what its registers hold, and what each instruction does to them. It is total and has no
 -- fault: whatever its memory answers, it goes on.
 --
--- What is initial: a start sets the program counter to 0; all other registers are as the run before, or power-up, left them.
--- What wraps: word addresses and both counters at twelve bits, the stack pointer at four, the sum of both scales at four; the pointer
--- has four places, so its two low bits tell which one is meant.
+-- What is initial: a start sets the program counter to 0 and ends the halt; all other registers are as the run before, or power-up,
+-- left them.
+-- What wraps: word addresses and both counters at twelve bits, the stack pointer at four, the sum of both scales at four. Calls store
+-- at one of four places, which the pointer's two low bits tell.
 -- What memory holds: whatever is read, which may change from one instruction to the next; where there is no chip, anything.
 -- What is not modelled: time, a second start before HALT, and all that is analog: the DAC, the monitor, dwell. Blanking is `IsShown`,
 -- apart from what is lit.
@@ -56,8 +57,8 @@ decoded first second = unwrap_or (instruction_of Board first second) Halt
 abbrev pub draw_counts : DrawFields → Circuit → ℕ
 draw_counts d c = counts (effective_scale d.lscale c.scale)
 
--- what an instruction does: a draw steps the counters, a LABS loads them and the scale, a call steps the pointer up and stores the next
--- address there, a return goes to the place there and steps it down, HALT stops (MAME's DVG)
+-- what an instruction does: a draw steps the counters, a LABS loads them and the scale, a call steps the pointer up and stores the
+-- next address there, a return goes to the place there and steps it down, HALT stops (MAME's DVG)
 abbrev pub after : Instr → Format → Circuit → Circuit
 after (Draws d) format c = record c { pc = past format c.pc; counters = counters_after d c.counters (draw_counts d c) }
 after (Labs x y gscale) format c = record c { pc = past format c.pc; counters = record { x = x; y = y }; scale = gscale }

@@ -15,7 +15,7 @@ ten_right = record { dx = pos 640; dy = pos 0; lscale = 3; bright = 7 }
 abbrev pub in_row : List ℕ → List Counters
 in_row = map (λ x. record { x = x; y = 100 })
 
--- all of these are shown, or none
+-- all of these are shown
 abbrev pub AreShown : List Counters → Type 0
 AreShown = AllByRecursion IsShown
 

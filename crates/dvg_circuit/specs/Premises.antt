@@ -5,7 +5,7 @@ use Rattle.dvg_words.specs.Decoding.{format_of}
 use Rattle.dvg_words.specs.Memory.{Memory, word_at}
 use Rattle.dvg_circuit.specs.Circuit.{Circuit, Reads, Run, places, run_after}
 
--- a display starts at word 000 (DVG documentation); each other register holds whatever its bits can
+-- a display starts at word 000 (DVG documentation), not halted; each other register holds whatever its bits can
 pub record IsStart (c : Circuit) : Type 0 where
   pub pc : c.pc ≡ 0
   pub x : c.counters.x < 4096

@@ -153,7 +153,7 @@ impl Run {
         Ok(())
     }
 
-    /// Fetches one instruction and performs it; nothing after a halt. `Err` if memory is out.
+    /// Fetches one instruction and performs it; nothing after a halt. `Err` if memory is out: then nothing is said of the run.
     pub fn step<B: Bus>(&mut self, bus: &B) -> Result<(), AllocError>
         ensures { IfOk result (λ _. self.new ≡ step (B.reads bus.now) self.old) }
     {

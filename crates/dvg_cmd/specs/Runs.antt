@@ -66,8 +66,8 @@ pub record IsReadTo (most : ℕ) (old new : Option (List ℕ)) : Type 0 where
   pub few : length bytes ≤ most
   pub end : length bytes < most → IsAtEnd new
 
--- with an outcome a ROM and a frame were read to their end or to one byte past their limit, and after a failed read no later device is
--- touched: the readers of the frame and of a certificate, in this order, and the writer
+-- with an outcome a ROM and a frame were read to their end or to one byte past their limit, and after a failed read no later device
+-- is touched: the readers of the frame and of a certificate, in this order, and the writer
 pub record ReadsInOrder
     {A F C W : Type 0} (answer : Result A RunFault) (rom rom_left held left : Option (List ℕ)) (frame frame_after : F)
     (cert cert_after : C) (out out_after : W) : Type 0 where
@@ -109,11 +109,11 @@ SafeRead machine w = HoldsOfRead (SafeOn machine w)
 abbrev pub CountsRead : Machine → Option (List ℕ) → Option (List ℕ) → Option (List ℕ) → Yes → Type 0
 CountsRead machine = HoldsOfRead (CountsOn machine)
 
--- every run of the board's circuit over them is safe
+-- every run of the board's circuit over them is safe with these counts
 abbrev pub SafeCircuitRead : Machine → Window → Option (List ℕ) → Option (List ℕ) → Option (List ℕ) → Yes → Type 0
 SafeCircuitRead machine w = HoldsOfRead (SafeCircuitOn machine w)
 
--- and has just these counts when it has halted
+-- every run of the board's circuit over them has just these counts when it has halted
 abbrev pub CountsCircuitRead : Machine → Option (List ℕ) → Option (List ℕ) → Option (List ℕ) → Yes → Type 0
 CountsCircuitRead machine = HoldsOfRead (CountsCircuitOn machine)
 

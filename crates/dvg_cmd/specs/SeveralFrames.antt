@@ -42,6 +42,7 @@ module _ {I R : Type 0} (next_gives : I → Option (NamedFrame R) → I → Type
   abbrev pub HoldsOfAll : Type 0
   HoldsOfAll = (taken : List (NamedFrame R)) × Drains next_gives frames taken × P (of_each (opened remaining) taken)
 
+  -- it gave some frames, and P holds of what they are
   abbrev pub HoldsOfTaken : Type 0
   HoldsOfTaken = (taken : List (NamedFrame R)) × (left : I) × Yields next_gives frames taken left × P (of_each (opened remaining) taken)
 
@@ -109,6 +110,7 @@ module _ (j : Judging) (listing : Listing) (start : Option ℕ) where
   AnswersOpened None answer = answer ≡ Unread
   AnswersOpened (Some reader) answer = (left : Option (List ℕ)) × AnswersFrame j start reader left answer
 
+  -- the line of a frame: its name, the answer to it, and behind the line what the detail asks for
   pub record IsLineOf (frame : OpenedFrame) (line : Line) : Type 0 where
     pub name_is : line.name ≡ frame.name
     pub answers : AnswersOpened frame.held line.answer

@@ -15,7 +15,7 @@ use crate::inputs::InputBytes;
 use dvg_account::{PlainWhy, made_text, plain_text, unmade_text};
 use dvg_cert::Key;
 use dvg_labels::Labels;
-use dvg_make::explain_making;
+use dvg_make::{MakeFault, explain_making};
 use dvg_spelling::{FramesRunFault, MakeRunFault, Outcome, RunFault, make_line_of};
 use dvg_text::{CountedRead, CountedWrite, write_lines};
 use dvg_words::{Machine, RomMap};
@@ -109,8 +109,8 @@ fn answer_on(
     }
 }
 
-/// Reads a ROM and frames, as [`run_make_frames`](crate::run_make_frames) does, and makes the certificate that it would write. Answers
-/// how many entries it has, or why none are made, with an account of the answer (docs/RULES.md), whose addresses labels
+/// Reads a ROM and frames, as [`run_make_frames`](crate::run_make_frames) does, and makes the certificate that it would write.
+/// Answers how many entries it has, or why none are made, with an account of the answer (docs/RULES.md), whose addresses labels
 /// name, if there are any. Nothing is written.
 ///
 /// The faults are those of `run_make_frames` that have no account: a failed read, and that there was no memory to make entries.
@@ -150,15 +150,12 @@ pub fn run_explain_make<R1: CountedRead, R2: CountedRead>(
     let bytes = InputBytes::read(alloc, rom, frames)?;
     let answer = answer_on(machine, alloc, &bytes, map, roots, labels);
     if let Err(fault) = answer.made {
-        if fault.number() == NO_MEMORY_NUMBER {
+        if fault.number() == MakeFault::Memory.number() {
             return Err(fault);
         }
     }
     Ok(answer)
 }
-
-/// The number of the maker's refusal if memory was out.
-const NO_MEMORY_NUMBER: u8 = 63;
 
 /// Writes a name, the line of the maker's answer, and a text behind it.
 fn write_make_line_and<W: CountedWrite>(
@@ -183,8 +180,8 @@ fn write_make_line_and<W: CountedWrite>(
     }
 }
 
-/// Writes the line of an answer of [`run_explain_make`], and behind it its account, or that there was no memory for one. The name before
-/// the line is that of the frame to blame, and has no control characters; it is empty if no frame is to blame.
+/// Writes the line of an answer of [`run_explain_make`], and behind it its account, or that there was no memory for one. The name
+/// before the line is that of the frame to blame, and has no control characters; it is empty if no frame is to blame.
 pub fn write_make_answer<W: CountedWrite>(
     name: &str,
     answer: &MakeAnswer,

@@ -1,7 +1,9 @@
 //! Runs of the checker over readers and writers, and the report that they write.
 //!
-//! [`run_check`] reads a ROM, a certificate and a frame, judges them as [`check`] does and writes one line, the report of
-//! the verdict. [`run_make`] reads a ROM and writes the certificate that [`make`](dvg_make::make) makes.
+//! [`run_check`] reads a ROM, a certificate and a frame, judges them as [`check`] does and writes one line, the report of the
+//! verdict. [`run_frames`] and [`run_frames_given`] judge frame after frame. [`run_make`] reads a ROM and writes the certificate
+//! that [`make`](dvg_make::make) makes, [`run_make_frames`] makes for frames, too, and [`run_explain_make`] tells of what is made.
+//! [`run_places`] tells where calls may stand, [`run_comparison`] what a change of a ROM touches, [`run_rules`] what numbers mean.
 #![tactic(auto)]
 
 mod comparing;

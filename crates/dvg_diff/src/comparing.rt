@@ -45,11 +45,12 @@ fn frame_reaches(
     Some(reaches_touched(rom, other, cert.entries()))
 }
 
-/// Compares two ROMs at the same addresses by what is made over the first one, for roots and for frames: tells which entries have shapes
-/// that read a word in which the ROMs differ, and which frames reach one.
+/// Compares two ROMs at the same addresses by what is made over the first one, for roots and for frames: tells which entries have
+/// shapes that read a word in which the ROMs differ, and which frames reach one.
 ///
 /// The refusals are those of [`make_for_frames`] over the first ROM. 63 comes also where there is no memory for the answer, or for
-/// the certificate of a frame alone. Takes memory for one certificate at a time, and for the answer.
+/// the certificate of a frame alone. Takes memory for the certificate of all roots and frames, beside it for that of one frame at a
+/// time, and for the answer.
 #[tactic(auto, using(crate::proofs::EachFrame::memory_told, crate::proofs::EachFrame::next_frame))]
 pub fn compare(
     alloc: Global,

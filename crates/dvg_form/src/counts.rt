@@ -14,9 +14,10 @@ pub struct EntryCounts {
     pub found: u32,
 }
 
-/// The counts of a last line with this number, before whose entries so many lines stand. `None` if it is no such line.
+/// The counts of a last line with this number, which comes without its end, and before whose entries so many lines stand. `None` if
+/// it is no such line: one that says at most 4,096 entries.
 pub fn counts_of(line: &[u8], number: u32, before: u32) -> Option<EntryCounts>
-    ensures claimed { IfSome result (λ counts. line.now ≡ done_line counts.claimed) }
+    ensures claimed { IfSome result (λ counts. (counts.claimed ≤ MOST_ENTRIES) × (line.now ≡ done_line counts.claimed)) }
     ensures none { IfNone result ((n : ℕ) → n ≤ MOST_ENTRIES → line.now ≡ done_line n → ⊥) }
     ensures found { IfSome result (λ counts. counts.found ≡ number - before - 1) }
 {

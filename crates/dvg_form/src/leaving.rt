@@ -54,7 +54,7 @@ pub fn first_leaving(line: &[u8]) -> FormLeaving
     }
 }
 
-/// Where a line that says where the ROM lies, and comes without its end, leaves the form.
+/// Where a line that says where the ROM lies, and comes without its end, leaves the form. `Err` if memory is out.
 pub fn rom_leaving(alloc: Global, line: &[u8]) -> Result<FormLeaving, AllocError>
     ensures { IfOk result (λ told. IsAllowedBefore IsRomLine line.now told.column) }
 {
@@ -67,7 +67,7 @@ pub fn rom_leaving(alloc: Global, line: &[u8]) -> Result<FormLeaving, AllocError
     })
 }
 
-/// Where a later line, over a ROM at this map, leaves the form. It comes without its end.
+/// Where a later line, over a ROM at this map, leaves the form. It comes without its end. `Err` if memory is out.
 pub fn later_leaving(alloc: Global, map: RomMap, line: &[u8]) -> Result<FormLeaving, AllocError>
     ensures { IfOk result (λ told. IsAllowedBefore (IsLaterLine map) line.now told.column) }
 {

@@ -88,7 +88,7 @@ impl TextWatch {
         rest
     }
 
-    /// What is told of the line that is refused; `None` if nothing is.
+    /// What is told of the line that is refused; `None` if nothing is. `Err` if memory is out.
     pub fn why(&self, alloc: Global, fault: CertFault) -> Result<Option<LineWhy>, AllocError> {
         if !self.is_on {
             return Ok(None);

@@ -13,7 +13,7 @@ use crate::item::{Item, Kind};
 use dvg_cert::{End, Entries, Entry, Key};
 use dvg_words::{Draw, Instr, Machine, Point, draw_move, shift};
 
-/// What an item does to the place.
+/// What an item does to the place, in units of 1/1024 of a screen place.
 #[derive(Clone, Copy)]
 pub enum Effect {
     Sets(Point),
@@ -21,8 +21,8 @@ pub enum Effect {
     Moves(Point),
 }
 
-/// What is known before an item: the place, the scale (`Any` if it is unknown), the words so far, and the most return places
-/// stored at once.
+/// What is known before an item: the place, in units of 1/1024 of a screen place, absolute, or from where the call was, or lost; the
+/// scale (`Any` if it is unknown); the words so far; and the most return places stored at once.
 #[derive(Clone, Copy, Debug, PartialEq, Eq)]
 pub struct Known {
     pub place: End,

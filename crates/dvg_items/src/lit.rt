@@ -15,7 +15,7 @@ use crate::known::Effect;
 use dvg_cert::{End, LitBox};
 use dvg_words::{Draw, Point, Window, in_window, shift};
 
-/// What an item lights, seen from the place before it.
+/// What an item lights, seen from the place before it, in units of 1/1024 of a screen place.
 #[derive(Clone, Copy)]
 pub enum LitExtent {
     Nothing,

@@ -21,7 +21,8 @@ pub record Labelling : Type 0 where
 abbrev pub named_of : Label → Named
 named_of label = record { name = label.name.items; addr = label.addr }
 
--- the word of a processor's byte address: two bytes a word, from 4000 on, to BFF; none at an odd address (Asteroids schematics)
+-- the word of a processor's byte address, two bytes a word from 4000 on: words 000 to BFF are bytes 4000 to 57FF; none outside of
+-- these or at an odd address (Asteroids schematics)
 abbrev pub word_of : Option ℕ → Option ℕ
 word_of None = None
 word_of (Some byte) =

@@ -1,7 +1,7 @@
 -- A frame judged by the certificate that is made for it.
-use Rattle.dvg_make.proofs.Common.{Machine, Board, ◌≡◌, ℕ, ◌≤◌, List, [], ◌∷◌, Option, None, Some, subst, arith, Result, Ok, Err, Rom, frame_word, Window, Entry, frame_context, seen_at, GoodFrame, Exact, EntryFault, Memory, FrameCall, FramesRefuse, FrameRefused, max, IfOk, Frame, AllKeep, FramePlaceKeeps, Safe, CountsAtHalt, SafeOnCircuit, CountsOnCircuit, no_fault, no_shape_fault, one_count, FrameMade, BarsFrame, CallBarredAt, VerdictByMade, AreLeast, CheckMeans, checked, refusal_at, IsJudged}
+use Rattle.dvg_make.proofs.Common.{Machine, Board, ◌≡◌, ℕ, ◌≤◌, List, [], ◌∷◌, Option, None, Some, subst, arith, Result, Ok, Err, Rom, frame_word, Window, Entry, frame_context, seen_at, GoodFrame, Exact, EntryFault, Memory, FrameCall, FramesRefuse, FrameRefused, max, IfOk, IfErr, Frame, AllKeep, FramePlaceKeeps, Safe, CountsAtHalt, SafeOnCircuit, CountsOnCircuit, no_fault, no_shape_fault, one_count, FrameMade, BarsFrame, CallBarredAt, VerdictByMade, AreLeast, CheckMeans, checked, refusal_at, IsJudged}
 use Rattle.dvg_check.specs.Verdict.{PartsVerdict}
-use Rattle.dvg_check.specs.Causes.{verdict_of}
+use Rattle.dvg_check.specs.Causes.{verdict_of, refusal_of}
 use Rattle.dvg_check.specs.declared.finding.RomFinding.{RomFinding}
 use Rattle.dvg_check.specs.declared.verdict.Yes.{Yes}
 use Rattle.dvg_check.specs.declared.verdict.Refusal.{Refusal}
@@ -19,6 +19,12 @@ module _ (machine : Machine) (w : Window) (words : List ℕ) (list : List Entry)
 
 -- ---- the verdict
 
+-- a refusal because of an item: no index is made, and lengths and budget are right
+abbrev IsOfItem : Refusal → Type 0
+IsOfItem (refusal.Shape f) = Unit {0}
+IsOfItem (refusal.Frame f) = Unit {0}
+IsOfItem r = ⊥
+
 module _ (rom : Rom) (words : List ℕ) (w : Window) (budget : ℕ) (made : List Entry) (m : FrameMade rom words made) where
   -- the counts by the made certificate are the least
   judged_least : (y : Yes) → PartsVerdict Exact w rom made words budget (Ok y) → AreLeast rom words w y.words y.depth
@@ -29,24 +35,24 @@ module _ (rom : Rom) (words : List ℕ) (w : Window) (budget : ℕ) (made : List
       let same = one_count w rom.machine words made (max budget b) y.words y.depth best.0 best.1 here there in
       (omega (arith, same.count_is, best.2), omega (arith, same.depth_is, best.3))
 
-  judged_refused : (r : Refusal) → PartsVerdict Exact w rom made words budget (Err r) → CheckMeans rom words w budget r
-  judged_refused refusal.IndexMemory v = tt
-  judged_refused (refusal.Shape f) v = λ mode list b n d le a. no_shape_fault Exact w rom made f (none_better rom words w mode list made b n d a m).4.good v
-  judged_refused (refusal.Frame f) v = λ mode list b n d le a.
+  judged_refused : (r : Refusal) → IsOfItem r → PartsVerdict Exact w rom made words budget (Err r) → CheckMeans rom words w budget r
+  judged_refused (refusal.Shape f) item v = λ mode list b n d le a. no_shape_fault Exact w rom made f (none_better rom words w mode list made b n d a m).4.good v
+  judged_refused (refusal.Frame f) item v = λ mode list b n d le a.
       let best = none_better rom words w mode list made b n d a m in
       no_fault w rom.machine words made budget best.0 best.1 f (raised rom.machine w words made b budget best.0 best.1 le best.4.frame) v.1
-  judged_refused r v = absurd v
+  judged_refused r item v = absurd item
 
   -- the checker's answer by the made certificate has each clause of `judge`
   pub judged_by : (answer : Result Yes RomFinding)
+      → IfErr answer (λ f. IsOfItem (refusal_of f))
       → PartsVerdict Exact w rom made words budget (verdict_of answer)
       → IfOk answer (λ yes. Safe (record { frame = words; rom = rom }) w yes.words yes.depth)
       → IfOk answer (λ yes. CountsAtHalt (record { frame = words; rom = rom }) yes.words yes.depth)
       → (rom.machine ≡ Board → IfOk answer (λ yes. SafeOnCircuit (record { frame = words; rom = rom }) w yes.words yes.depth))
       → (rom.machine ≡ Board → IfOk answer (λ yes. CountsOnCircuit (record { frame = words; rom = rom }) yes.words yes.depth))
       → IsJudged rom words w budget (checked answer)
-  judged_by (Ok y) v safe exact circuit circuit_exact = grind (arith, (judged_least y v))
-  judged_by (Err f) v safe exact circuit circuit_exact = grind (arith, judged_refused)
+  judged_by (Ok y) item v safe exact circuit circuit_exact = grind (arith, (judged_least y v))
+  judged_by (Err f) item v safe exact circuit circuit_exact = grind (arith, (judged_refused (refusal_of f) item v))
 
 -- what the fault of the maker means, of one frame
 module _ (rom : Rom) (words : List ℕ) where

@@ -29,11 +29,10 @@ abbrev pub NoneWithin : Rom → List ℕ → Window → ℕ → Type 0
 NoneWithin rom words w most =
     (mode : Mode) (list : List Entry) (budget n d : ℕ) → budget ≤ most → Accepts rom words w mode list budget n d → ⊥
 
--- what a refusal of the checker means, by the made certificate; the checker gives no other refusal here (profile)
+-- what a refusal of the checker means, by the made certificate: only these two come here, since no index is made (profile)
 abbrev pub CheckMeans : Rom → List ℕ → Window → ℕ → Refusal → Type 0
 CheckMeans rom words w budget (refusal.Shape f) = NoneWithin rom words w budget
 CheckMeans rom words w budget (refusal.Frame f) = NoneWithin rom words w budget
-CheckMeans rom words w budget refusal.IndexMemory = Unit {0}
 CheckMeans rom words w budget r = ⊥
 
 -- what a refusal means: no certificate gets the frame accepted. After 62 for too many entries, where each made list is too

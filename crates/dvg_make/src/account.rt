@@ -44,7 +44,7 @@ pub enum EntryCause {
     Deep { to: u16, scale: Key },
     /// 62: so many words are fetched up to and with the item.
     TooManyWords { words: u32 },
-    /// 62: the item calls what would be the 4,097th entry.
+    /// 62: what the item calls, or with an empty chain what is asked for, would be the 4,097th entry.
     TooManyEntries,
     /// 63: there was no memory.
     Memory,

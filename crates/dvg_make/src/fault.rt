@@ -83,18 +83,8 @@ pub struct FrameCall {
 /// Why no certificate is made for frames.
 #[derive(Clone, Copy, Debug, PartialEq, Eq)]
 pub struct FramesFault {
-    /// The call whose entry can't be made. `None` if it is a root's entry, or if memory was out after all calls.
+    /// The call whose entry can't be made. `None` if it is a root's entry, or if memory was out for something else: the certificate,
+    /// an account, or the answer of a comparison.
     pub call: Option<FrameCall>,
     pub why: EntryFault,
-}
-
-impl From<AllocError> for FramesFault {
-    ghost from_gives = { λ _ fault. fault ≡ record { call = None; why = Memory } };
-
-    fn from(_error: AllocError) -> FramesFault {
-        FramesFault {
-            call: None,
-            why: EntryFault::Memory,
-        }
-    }
 }

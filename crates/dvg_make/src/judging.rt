@@ -48,7 +48,7 @@ fn refusal_of(fault: &FramesFault) -> FrameRefusal
     }
 }
 
-/// How many made entries are judged item by item, at most, before all shapes are judged at once.
+/// How many made entries are judged item by item at most. If more would have to be, all shapes are judged at once instead.
 const MOST_WALKED: usize = 8;
 
 /// Whether a made entry ends at a place relative to its call. Then no item of its shape stands at an absolute place, so none lights
@@ -59,8 +59,8 @@ fn is_relative(entry: &Entry) -> bool
     matches!(entry.stop, End::Rel { .. })
 }
 
-/// Whether at most [`MOST_WALKED`] of these made entries do not end so.
-fn are_mostly_relative(entries: &[Entry]) -> bool {
+/// Whether at most [`MOST_WALKED`] of these made entries end at a place that is absolute or lost.
+fn has_few_to_walk(entries: &[Entry]) -> bool {
     entries
         .iter()
         .filter(|entry| !is_relative(entry))
@@ -130,7 +130,7 @@ fn judged_shapes<'a>(
     ensures err { IfErr result (FirstShapeFound Exact window rom.now made.now.cert.entries) }
     ensures cause { IfErr result (ShapeCauseOf window) }
 {
-    if !are_mostly_relative(made.cert.entries()) {
+    if !has_few_to_walk(made.cert.entries()) {
         return JudgedShapes::find_shape_fault(rom, &made.cert, &made.entries, window, Mode::Exact);
     }
     if let Err(finding) = find_made_fault(rom, frame, made, &window) {
@@ -179,13 +179,13 @@ fn checked(verdict: &Result<Yes, RomFinding>) -> Result<Yes, FrameRefusal>
 
 /// Judges a frame over a vector ROM by the certificate that is made for it: no certificate does better.
 ///
-/// `budget` is how many words the frame may take at most, up to 1,000,000, `window` the part of the screen that may be lit.
-/// What is accepted is safe, with exact counts, as [`check_parts_exact`] says, and no certificate gets the frame accepted
-/// with fewer words or less depth. The answer is the refusal of [`make_for_frames`] for the first call whose entry is not made,
-/// else that of the checker on the made certificate; it means that no certificate gets the frame accepted, but for 62 by the
-/// number of entries, where another one may, and for 63, where memory was out. 62 by the number of entries comes only
-/// where the calls up to this one really need too many. If the ROM is on the board, what is accepted is safe on its circuit, too,
-/// whatever its registers hold at the start. Takes memory for the certificate and its making.
+/// `budget` is how many words the frame may take at most, up to 1,000,000, `window` where strokes may be lit: a part of the screen,
+/// or on the board also `CLIPPED`. What is accepted is safe, with exact counts, as [`check_parts_exact`] says, and no certificate
+/// gets the frame accepted with fewer words or less depth. The answer is the refusal of [`make_for_frames`] for the first call
+/// whose entry is not made, else that of the checker on the made certificate; it means that no certificate gets the frame accepted,
+/// but for 62 by the number of entries, where another one may, and for 63, where memory was out. 62 by the number of entries comes
+/// only where the calls up to this one really need too many. If the ROM is on the board, what is accepted is safe on its circuit,
+/// too, whatever its registers hold at the start. Takes memory for the certificate and its making.
 pub fn judge(
     alloc: Global,
     rom: &RomImage,

@@ -146,7 +146,8 @@ pub fn make_indexed(
 /// are 4,096, and one more is called. For a frame's call, 60, 61 and 62 by a count come only where no certificate at all gets this
 /// frame accepted; 62 by the number of entries only where the certificate would be too long, and then another one may be accepted.
 /// A root outside the ROM or with a scale over 15 is 60. 63 comes where there was no memory. What is lit at an absolute place may
-/// lie anywhere: no window is asked. Takes memory for the entries and for the shapes in the making.
+/// lie anywhere: no window is asked. Takes memory for the entries, for the shapes in the making, and for what is kept of long shapes
+/// that others share.
 #[tactic(auto, using(crate::proofs::Causes::stuck_cause))]
 pub fn make_for_frames(
     alloc: Global,
@@ -172,8 +173,9 @@ pub fn make_for_frames(
 /// one entry, no roots give the empty certificate, and a root outside the ROM or with a scale over 15 is 60.
 ///
 /// Refuses 60 to 62 only where there is no such certificate, and 63 where there was no memory. The first fault met is answered,
-/// as [`make_for_frames`] does: roots and items in order, an entry that an item needs before the item. A shape is walked once for
-/// each scale at which it is needed, and a long one no further than to where it is known what comes.
+/// as [`make_for_frames`] does: roots and items in order, an entry that an item needs before the item. The items of a shape are
+/// passed once for each scale at which it is needed, those of a long one up to three times, but no further than to where it is known
+/// what comes.
 #[tactic(auto, using(crate::proofs::Collecting::as_make_fault, crate::proofs::Causes::root_cause))]
 pub fn make(alloc: Global, rom: &RomImage, roots: &[(u16, Key)]) -> Result<Cert, MakeFault>
     ensures ok { IfOk result (λ cert. Made rom.now roots.now cert.entries) }

@@ -24,7 +24,7 @@ pub fn root_of(text: &str) -> Option<(u16, Key)>
 }
 
 /// The map that a word of the command line spells: the word addresses of the ROM's first and last word, each of three hexadecimal
-/// digits in capitals, with a slash between.
+/// digits in capitals, with a slash between; `None` for any other word, and unless 400 <= first <= last <= BFF.
 pub fn map_of(text: &str) -> Option<RomMap>
     ensures some { IfSome result (λ map. IsMapText text.now map) }
     ensures none { IfNone result ((map : MemoryMap) → IsMapText text.now map → ⊥) }

@@ -27,8 +27,9 @@ fn place_before_comma(text: &str) -> Option<(u16, &str)>
     Some((place_of(place)?, rest))
 }
 
-/// The window that a word of the command line spells: its least and its greatest place across, and those up, as decimals
-/// without leading zeros, with commas between.
+/// The window that a word of the command line spells: its least and its greatest screen place across, and those up, each 0 to 1023
+/// as a decimal without leading zeros, with commas between; `None` for any other word, and where a least place is over its
+/// greatest.
 pub fn window_of(text: &str) -> Option<Window>
     ensures some { IfSome result (IsWindowText text.now) }
     ensures none { IfNone result ((w : Places) → IsWindowText text.now w → ⊥) }

@@ -1,4 +1,4 @@
--- Which items a board clips: those that light past the screen. All of it is this project's own.
+-- Which items light past the screen; within -1024 to 2047 a board clips them. All of it is this project's own.
 use Rattle.std.specs.Prelude.{◌≡◌, ℕ, List, [], ◌∷◌, ◌++◌, ◌⊎◌}
 use Rattle.dvg_words.specs.Beam.{screen}
 use Rattle.dvg_cert.specs.declared.entry.End.{End}

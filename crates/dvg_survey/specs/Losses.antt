@@ -11,8 +11,8 @@ use Rattle.dvg_items.specs.Items.{LeadsTo}
 use Rattle.dvg_items.specs.Known.{Context, place_before, scale_before}
 pub use Rattle.dvg_survey.specs.declared.losses.Losses.{Losses}
 
--- the item by which the place past an item was lost: this one, unless the place was lost before; none where it is not lost
--- (profile)
+-- the item by which the place past an item was lost: `by`, if it was lost before the item already, else this one; none where it is
+-- not lost (profile)
 abbrev pub place_loss : Item → End → End → Option Item → Option Item
 place_loss i Lost Lost by = by
 place_loss i before Lost by = Some i

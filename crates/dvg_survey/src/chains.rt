@@ -54,7 +54,8 @@ fn reach_from<E: Entries>(
 /// The calls by which a frame comes to an entry, by the claims of a certificate: the first is the frame's own, each later one
 /// stands in the shape of the entry that the one before it names, and the last names the goal (profile). `None` exactly where the
 /// frame does not come to it. `entries` are those of the certificate. Goes breadth first over the shapes that the frame comes to,
-/// and over each word of the ROM once at most for each known scale there, however many shapes come by.
+/// and over each word of the ROM once at most for each known scale there, however many shapes come by. Takes memory for what the
+/// frame comes to; an `Err` says that there was none.
 #[tactic(auto, using(crate::proofs::SameEntry::entry_decides, std::proofs::lemmas::Option::slice_get_within))]
 pub fn find_chain<E: Entries>(
     alloc: Global,

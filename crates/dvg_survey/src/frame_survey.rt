@@ -27,8 +27,8 @@ pub struct FrameSurvey {
     /// The least box, in 1/1024 of a screen place, of what is lit at absolute places: both ends of lit draws, and the corners of the
     /// boxes of called shapes.
     pub lit: LitBox,
-    /// The word addresses, in their order, of the items that light past the screen: lit draws with an end off the screen, and calls of
-    /// shapes whose box has a corner off it. A board clips them.
+    /// The word addresses, in their order, of the items that light past the screen: lit draws with an end off the screen, and calls
+    /// of shapes whose box has a corner off it. A board clips them as far as they lie within -1024 to 2047.
     pub clipped: Vec<u16>,
     /// The word addresses, in their order, of the lit draws at a known effective scale of 10 to 15.
     pub faint: Vec<u16>,
@@ -115,7 +115,8 @@ pub fn survey_items<E: Entries>(
 }
 
 /// What a frame's own items call and light on a machine, by the certificate's claims (profile). A call that names no entry is left
-/// out; an accepted frame has no such call. `entries` are those of the certificate.
+/// out; an accepted frame has no such call. `entries` are those of the certificate. Takes memory for the three lists; an `Err` says
+/// that there was none.
 pub fn survey_frame<E: Entries>(
     machine: Machine,
     alloc: Global,

@@ -176,7 +176,8 @@ fn sweep<E: Entries>(
 }
 
 /// The entries from which calls lead to a shape that lights outside the window, by address and key. In a made certificate an entry
-/// has more words than each that it calls, so that in the order of words one sweep marks all, and a second one sees that it did.
+/// has more words than each that it calls, so that in the order of words one sweep marks all; if it marked any, a second one sees
+/// that no more are left.
 fn broken_entries<E: Entries>(
     alloc: Global,
     window: &Window,
@@ -215,11 +216,12 @@ fn places_of(window: &Window, entry: &Entry, broken: &KeyedWords) -> CallPlaces
 }
 
 /// For each entry of a certificate, in its order, the absolute whole places at which a call of it breaks no rule on the window: its
-/// box has no corner outside the window there (46 in a frame, 25 in a shape), and its shape keeps rule 25, as does each shape to which
-/// calls and tail jumps lead from there (profile). `entries` are those of the certificate. It says nothing of what follows the call.
+/// box has no corner outside the window there (46 in a frame, 25 in a shape), and its shape keeps rule 25, as does each shape to
+/// which calls and tail jumps lead from there (profile). `entries` are those of the certificate. It says nothing of what follows
+/// the call.
 ///
-/// Goes over the items of each shape, in a made certificate twice, and again only where a shape breaks 25. Takes memory for marks and
-/// entries.
+/// Goes over the items of each shape once, and where one breaks 25 over those of the other shapes again, in a made certificate once
+/// more. Takes memory for marks and entries; an `Err` says that there was none.
 pub fn entry_places<E: Entries>(
     alloc: Global,
     rom: &RomImage,

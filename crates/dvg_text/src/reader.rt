@@ -44,7 +44,8 @@ impl CertReader {
         }
     }
 
-    /// Reads the next piece. The text may be cut anywhere. After a refusal every call answers it again.
+    /// Reads the next piece. The text may be cut anywhere. Refuses 10 to 12 and 14 to 16; 13 comes from `finish` alone. After a
+    /// refusal every call answers it again.
     #[tactic(auto, using(crate::proofs::TextLaws::only_memory))]
     pub fn feed(&mut self, piece: &[u8]) -> Result<(), CertFault>
         ensures { FeedsTo self.old piece.now self.new result }
@@ -61,7 +62,8 @@ impl CertReader {
         }
     }
 
-    /// The certificate that all pieces together spell, or why they are refused.
+    /// The certificate that all pieces together spell. Refuses 13 if there was no last line; after a refusal it answers that one
+    /// again.
     pub fn finish(self) -> Result<Cert, CertFault>
         ensures { FinishesTo self result }
     {
@@ -72,7 +74,7 @@ impl CertReader {
     }
 }
 
-/// The certificate that a text spells, or why the text is refused.
+/// The certificate that a text spells, or why the text is refused, 10 to 16.
 pub fn read_cert(alloc: Global, text: &[u8]) -> Result<Cert, CertFault>
     ensures { ReadAnswer text.now result }
 {

@@ -1,12 +1,13 @@
-//! Runs the circuit of `dvg_circuit` over one memory, and prints what each instruction did, so that it can be compared with a board or
-//! with an emulation of it. It is no simulator for users: it shows the definitions that the theorem about the board speaks of.
+//! Runs the circuit of `dvg_circuit` over one memory, and prints what each instruction did, so that it can be compared with a board
+//! or with an emulation of it. It is no simulator for users: it shows the definitions that the theorem about the board speaks of.
 //!
 //!     dvg_trace MEMORY MOST X Y SCALE POINTER PLACE PLACE PLACE PLACE
 //!
 //! MEMORY is a file with the bytes of the words 000 to FFF; past its end 0 is read. The other words are decimal numbers: how many
 //! instructions there are at most, and what the counters, the global scale, the stack pointer and the four stored places hold at the
-//! start. The program counter is at 0. For each instruction there is a line: the program counter past it, both counters, the scale,
-//! the pointer, the four places, and then the counters wherever it had the beam lit.
+//! start: counters and places 0 to 4095, scale and pointer 0 to 15, which is not checked. The program counter is at 0. For each
+//! instruction there is a line: the program counter after it, which HALT leaves at its own address, both counters, the scale, the
+//! pointer, the four places, and then the counters wherever it had the beam lit.
 #![tactic(auto)]
 
 mod memory;

@@ -10,6 +10,6 @@ use Rattle.dvg_verdict.specs.Verdict.{VerdictOn, NotMemory}
 -- there is at most one verdict, running out of memory aside
 abbrev pub OneVerdict : Type 0
 OneVerdict =
-    (machine : Machine) (mode : Mode) (w : Window) (rom cert words : List ℕ) (budget : ℕ) (a b : Result Yes Refusal)
-    → VerdictOn machine mode w rom cert words budget a → VerdictOn machine mode w rom cert words budget b → NotMemory a → NotMemory b
+    (machine : Machine) (mode : Mode) (w : Window) (rom cert frame : List ℕ) (budget : ℕ) (a b : Result Yes Refusal)
+    → VerdictOn machine mode w rom cert frame budget a → VerdictOn machine mode w rom cert frame budget b → NotMemory a → NotMemory b
     → a ≡ b

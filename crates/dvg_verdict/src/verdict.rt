@@ -41,12 +41,12 @@ pub fn check_on(
 /// Judges a frame over a vector ROM and its certificate: a yes means that every run of the generator from the frame's
 /// first word is safe.
 ///
-/// `budget` is how many words the frame may take at most, 1 to 1,000,000. The verdict is exact: the first that
-/// applies of 2, 49, the certificate's refusal (10 to 16), 1, 50, the first fault of its shapes (20 to 31), the frame's
-/// first fault (40 to 48), and the yes. The ROM lies where the certificate says. `window` is the part of the screen that may be
-/// lit, `SCREEN` of `dvg_words` for all of it. Where it accepts, every run from the frame's first word, at any beam place and
-/// any global scale, reaches HALT within the answered count of words, stores at most four return places at once, fetches only
-/// words of the ROM and the frame, and draws no lit stroke that leaves the window on either axis.
+/// `budget` is how many words the frame may take at most, 1 to 1,000,000. The verdict is exact: the first that applies of 2, 49,
+/// the certificate's refusal (10 to 16), 1, 50, the first fault of its shapes (20 to 31), the frame's first fault (40 to 48), and
+/// the yes. The ROM lies where the certificate says. `window` is the part of the screen that may be lit, `SCREEN` of `dvg_words`
+/// for all of it; with `CLIPPED` a yes says nothing of the screen here. Where it accepts, every run from the frame's first word, at
+/// any beam place and any global scale, reaches HALT within the answered count of words, stores at most four return places at once,
+/// fetches only words of the ROM and the frame, and draws no lit stroke that leaves the window on either axis.
 ///
 /// Nothing is run: what a shape does from a word on is worked out once for each scale at which it is needed. Takes memory
 /// for the certificate's entries and for their index alone, and none before 2 and 49 are ruled out; 16 comes only where there

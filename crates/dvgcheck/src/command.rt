@@ -234,7 +234,7 @@ pub struct CheckArgs<'a> {
     pub options: CheckOptions,
 }
 
-/// The arguments of `make`, and those that `places` has in common with it.
+/// The arguments of `make` and of `explain make`, and those that `places` and `diff` have in common with them.
 #[derive(Drop)]
 pub struct MakeArgs<'a> {
     pub machine: Machine,
@@ -256,7 +256,7 @@ pub fn arguments(rt: &HostRuntime) -> Result<Vec<String>, Usage<'static>> {
     }
 }
 
-/// The arguments of `make` that name files to read.
+/// The arguments of `make`, of `explain make` and of `places` that name files to read.
 const MAKER_FILES: [&str; 3] = ["ROM", "frame", "labels"];
 
 const INPUT_HELP: &str = "One of the files that are read may be -, which is standard input";

@@ -1,5 +1,5 @@
-//! `dvgcheck`: checks frames and vector ROMs of Atari's Digital Vector Generator, and prints the report, and makes
-//! certificates.
+//! `dvgcheck`: checks frames and vector ROMs of Atari's Digital Vector Generator, prints the report, explains it, makes certificates,
+//! and tells where calls may stand and what a change of a ROM touches.
 //!
 //! Thin over `dvg_cmd`: it reads the command line, opens the files and says how it went.
 #![tactic(auto)]

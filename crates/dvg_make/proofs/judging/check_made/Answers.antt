@@ -7,12 +7,12 @@ pub returns-in-Ok-find_fault-clause-judged : goal.returns-in-Ok-find_fault-claus
 returns-in-Ok-find_fault-clause-judged c =
     let f = rw c.in-Ok.ensures.ok at c.in-Ok-find_fault.ensures in
     judged_by c.args.rom.now c.args.frame.now c.args.window c.args.budget c.args.made.now.cert.entries c.requires.made.list
-    (Ok (record { shapes = length c.entries.result.now; words = c.in-Ok-find_fault.accepted.words; depth = c.in-Ok-find_fault.accepted.depth }))
+    (Ok (record { shapes = length c.entries.result.now; words = c.in-Ok-find_fault.accepted.words; depth = c.in-Ok-find_fault.accepted.depth })) tt
     (c.in-Ok.ensures.good, f.ok, ap (λ (list : List Entry). length list) c.entries.ensures.value) f.safe (f.exact refl) f.circuit (λ board. f.circuit_exact board refl)
 
 pub returns-in-Err-clause-judged : goal.returns-in-Err-clause-judged
 returns-in-Err-clause-judged c =
-    judged_by c.args.rom.now c.args.frame.now c.args.window c.args.budget c.args.made.now.cert.entries c.requires.made.list (Err (finding.Shape c.in-Err.finding)) c.in-Err.ensures.err.first
+    judged_by c.args.rom.now c.args.frame.now c.args.window c.args.budget c.args.made.now.cert.entries c.requires.made.list (Err (finding.Shape c.in-Err.finding)) tt c.in-Err.ensures.err.first
     tt tt (λ board. tt) (λ board. tt)
 
 pub returns-in-Err-find_fault-clause-found : goal.returns-in-Err-find_fault-clause-found
@@ -21,5 +21,5 @@ returns-in-Err-find_fault-clause-found c = grind (arith)
 pub returns-in-Err-find_fault-clause-judged : goal.returns-in-Err-find_fault-clause-judged
 returns-in-Err-find_fault-clause-judged c =
     let f = rw c.in-Ok.ensures.ok at c.in-Err-find_fault.ensures in
-    judged_by c.args.rom.now c.args.frame.now c.args.window c.args.budget c.args.made.now.cert.entries c.requires.made.list (Err (finding.Frame c.in-Err-find_fault.finding)) (c.in-Ok.ensures.good, f.err.fault)
+    judged_by c.args.rom.now c.args.frame.now c.args.window c.args.budget c.args.made.now.cert.entries c.requires.made.list (Err (finding.Frame c.in-Err-find_fault.finding)) tt (c.in-Ok.ensures.good, f.err.fault)
     tt tt (λ board. tt) (λ board. tt)
