@@ -11,3 +11,6 @@ returns-in-Rel-default-clause-near c =
     let is : c.moved.result ≡ moved c.args.lit.now by = simp to_z-of_z at c.moved.ensures in
     let d : IsNear 1 by = rw c.in-Rel-default.is-0 at c.requires.place in
     subst (IsNearBox (n + 1)) (sym is) (IsNearBox-moved n c.args.lit.now by near d)
+
+pub returns-in-Lost-default-clause-part : goal.returns-in-Lost-default-clause-part
+returns-in-Lost-default-clause-part c = search rules

@@ -3,6 +3,7 @@ use Rattle.dvg_check.specs.declared.slots.TheConstants.{SLOTS}
 use Rattle.dvg_check.proofs.Listed.{no_entry}
 use Rattle.dvg_check.proofs.TailRows.{all_take, claim_at, none_kept}
 use Rattle.dvg_check.proofs.tails.first_doubtful.Goals as goal
+use Rattle.dvg_check.proofs.Common.{common_steps}
 
 -- what holds from an entry on, and of the one before it, holds from that one on
 good_below : (P : Entry → Type 0) (list : List Entry) (left most : ℕ) → 0 < left → left ≤ length list → P (get_or list (left - 1) no_entry)
@@ -28,3 +29,6 @@ returns-clause-good g c =
     subst (λ (l : List Entry). AllByRecursion (GoodShape c.args.mode c.args.window.now c.args.rom.now l) (take c.entries.doubtful c.args.list.now)) c.requires.list
     (all_take (GoodShape c.args.mode c.args.window.now c.args.rom.now (g.E.Entries.list c.args.entries.now)) c.args.list.now c.entries.doubtful c.entries.invariant.few
     (λ k past lt. c.entries.invariant.good k past (omega (arith, c.entries-test.false)) lt))
+
+pub entries-preserved-then-not-shows : goal.entries-preserved-then-not-shows
+entries-preserved-then-not-shows g c = grind (arith, common_steps)

@@ -18,3 +18,6 @@ feeding-preserved g c =
       text = (before.0 ++ piece, fed.0, Consumes-trans _ _ _ before.0 piece before.2 c.in_ok-len.ensures.bytes, fed.1, λ lt. grind (arith, common_steps));
       counts = grind (arith, common_steps);
     }
+
+pub returns-clause-answer : goal.returns-clause-answer
+returns-clause-answer g c = search rules

@@ -1,20 +1,24 @@
-use Rattle.dvg_items.proofs.Common.{arith, rules, ints, clamps, Span}
-use Rattle.dvg_cert.specs.declared.entry.LitBox.TheVariants.{Empty}
+use Rattle.std.proofs.Common.{rules, w64}
+use Rattle.std.proofs.lemmas.Int.{to_z-of_z}
+use mir.Val.{SFits}
+use Rattle.dvg_items.proofs.LeastBoxes.{joined_is}
 use Rattle.dvg_items.proofs.boxes.joined.Goals as goal
 
-pub returns-in-Span-Span-clause-first : goal.returns-in-Span-Span-clause-first
-returns-in-Span-Span-clause-first c = rw c.in-Span-Span.is-0 (search rules)
-
-pub returns-in-Span-Span-clause-second : goal.returns-in-Span-Span-clause-second
-returns-in-Span-Span-clause-second c = rw c.in-Span-Span.is-1 (search rules)
-
-pub returns-in-Span-Span-clause-least : goal.returns-in-Span-Span-clause-least
-returns-in-Span-Span-clause-least c Empty h k = rw c.in-Span-Span.is-0 at h
-returns-in-Span-Span-clause-least c (Span left right bottom top) h k =
-    let first = rw c.in-Span-Span.is-0 at h in
-    let second = rw c.in-Span-Span.is-1 at k in (
-      omega (arith, ints, clamps, c.min.ensures.value, first.0, second.0),
-      omega (arith, ints, clamps, c.max.ensures.value, first.1, second.1),
-      omega (arith, ints, clamps, c.min-in-Span-Span.ensures.value, first.2, second.2),
-      omega (arith, ints, clamps, c.max-in-Span-Span.ensures.value, first.3, second.3),
-    )
+pub returns-in-Span-Span : goal.returns-in-Span-Span
+returns-in-Span-Span c =
+    let a0 : SFits w64 c.in-Span-Span.x_min = search rules in
+    let a1 : SFits w64 c.in-Span-Span.x_max = search rules in
+    let b0 : SFits w64 c.in-Span-Span.y_min = search rules in
+    let b1 : SFits w64 c.in-Span-Span.y_max = search rules in
+    let c0 : SFits w64 c.in-Span-Span.left = search rules in
+    let c1 : SFits w64 c.in-Span-Span.right = search rules in
+    let d0 : SFits w64 c.in-Span-Span.bottom = search rules in
+    let d1 : SFits w64 c.in-Span-Span.top = search rules in
+    let x0 : SFits w64 c.min.result = search rules in
+    let x1 : SFits w64 c.max.result = search rules in
+    let y0 : SFits w64 c.min-in-Span-Span.result = search rules in
+    let y1 : SFits w64 c.max-in-Span-Span.result = search rules in
+    let h = joined_is c.args.first.now c.args.second.now _ c.in-Span-Span.x_min c.in-Span-Span.x_max c.in-Span-Span.y_min c.in-Span-Span.y_max c.in-Span-Span.left c.in-Span-Span.right c.in-Span-Span.bottom c.in-Span-Span.top c.min.result c.max.result c.min-in-Span-Span.result c.max-in-Span-Span.result c.in-Span-Span.is-0 c.in-Span-Span.is-1 (simp to_z-of_z)
+    (record { lower = simp to_z-of_z at c.min.ensures.value; upper = simp to_z-of_z at c.max.ensures.value })
+    (record { lower = simp to_z-of_z at c.min-in-Span-Span.ensures.value; upper = simp to_z-of_z at c.max-in-Span-Span.ensures.value }) in
+    record { first = h.first; second = h.second; least = h.least }

@@ -3,6 +3,7 @@ use Rattle.dvg_survey.proofs.Common.{arith, length, ◌≡◌, ap, sym, ◌∙�
 use Rattle.dvg_survey.proofs.SameEntry.{entry_decides}
 use Rattle.dvg_survey.proofs.Complete.{begun, gone_on, no_chain, reached_claim}
 use Rattle.dvg_survey.proofs.chains.find_chain.Goals as goal
+use Rattle.dvg_survey.proofs.Common.{slice_get_within}
 
 pub loop-next-init : goal.loop-next-init
 loop-next-init g c = begun c.args.rom.now c.args.frame.now c.args.cert.now.entries c.args.goal.now c.in_ok-reached.reached c.in_ok-visited.visited (rw (c.machine.ensures, c.requires) at c.in_ok-reached.ensures) c.in_ok-visited.ensures
@@ -20,3 +21,9 @@ returns-in_default-clause-none g c = no_chain c.args.rom.now c.args.frame.now c.
 
 pub returns-clause-none : goal.returns-clause-none
 returns-clause-none g c = no_chain c.args.rom.now c.args.frame.now c.args.cert.now.entries c.args.goal.now _ _ _ c.loop-next.invariant (omega (arith, c.loop-next-test.false, ap length c.entries-listed.ensures.value, c.loop-next.invariant.sound.counted))
+
+pub chain-requires-clause-last : goal.chain-requires-clause-last
+chain-requires-clause-last g c = grind (arith, entry_decides, slice_get_within)
+
+pub returns-then-eq-clause-some : goal.returns-then-eq-clause-some
+returns-then-eq-clause-some g c = grind (arith, entry_decides, slice_get_within)

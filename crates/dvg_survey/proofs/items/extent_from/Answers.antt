@@ -1,6 +1,8 @@
 use Rattle.dvg_survey.proofs.Common.{context_of}
 use Rattle.dvg_survey.proofs.Walking.{at_nothing, where_none, lit_past}
 use Rattle.dvg_survey.proofs.items.extent_from.Goals as goal
+use Rattle.dvg_survey.proofs.Common.{arith, common_steps}
+use Rattle.dvg_survey.proofs.Walking.{begins, least_none}
 
 pub loop-seen-preserved : goal.loop-seen-preserved
 loop-seen-preserved g c =
@@ -14,3 +16,9 @@ returns-in-Last g c =
 
 pub returns : goal.returns
 returns g c = at_nothing _ _ _ _ _ c.loop-seen.invariant (where_none c.see.result c.in_default.not-Some c.see.ensures.none)
+
+pub loop-seen-init : goal.loop-seen-init
+loop-seen-init g c = grind (arith, begins, least_none)
+
+pub loop-seen-smaller : goal.loop-seen-smaller
+loop-seen-smaller g c = grind (arith, common_steps)

@@ -1,6 +1,7 @@
 use Rattle.dvg_survey.proofs.Common.{Option, ℕ, sym, ap, ◌∙◌, callee_at, arith}
 use Rattle.dvg_survey.proofs.Visiting.{stops, finds_none, ends_here}
 use Rattle.dvg_survey.proofs.items.new_calls.Goals as goal
+use Rattle.dvg_survey.proofs.Visiting.{starts, walks_on}
 
 pub returns-then-has : goal.returns-then-has
 returns-then-has g c = grind (arith, (stops c.args.rom.now (g.E.Entries.list c.args.entries.now) c.args.entry.now c.args.visited.now _ _ _ _ c.loop-format.invariant (sym c.has.ensures.value ∙ c.if-has.true)))
@@ -14,3 +15,9 @@ returns-in-None g c =
 pub returns : goal.returns
 returns g c =
     finds_none c.args.rom.now (g.E.Entries.list c.args.entries.now) c.args.entry.now c.args.visited.now _ _ _ _ c.loop-format.invariant (λ format instr is. c.in_default.not-Holds _ _ (c.read_cell.ensures.value ∙ is))
+
+pub loop-format-init : goal.loop-format-init
+loop-format-init g c = grind (arith, starts, walks_on)
+
+pub loop-format-preserved : goal.loop-format-preserved
+loop-format-preserved g c = grind (arith, starts, walks_on)

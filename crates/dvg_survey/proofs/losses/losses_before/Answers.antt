@@ -1,6 +1,8 @@
 use Rattle.dvg_survey.proofs.Common.{arith, context_of}
 use Rattle.dvg_survey.proofs.Walking.{losses_past, none_last}
 use Rattle.dvg_survey.proofs.losses.losses_before.Goals as goal
+use Rattle.dvg_survey.proofs.Common.{common_steps}
+use Rattle.dvg_survey.proofs.Walking.{begins, all_here, none_past}
 
 pub items-preserved : goal.items-preserved
 items-preserved g c =
@@ -12,3 +14,9 @@ pub returns-in-Last-clause-none : goal.returns-in-Last-clause-none
 returns-in-Last-clause-none g c =
     let word = g.F.Fetch.words c.args.memory.now in
     none_last (context_of word.machine (g.E.Entries.list c.args.entries.now) c.args.walk.now) word c.args.walk.now.first _ _ c.in-Some.ensures.some _ c.step.ensures.value c.step.ensures.sound c.args.at c.items.losses c.items.invariant (λ here. omega (arith, here, c.items-test.true)) _ c.in-Last.is
+
+pub returns-in_default-clause-none : goal.returns-in_default-clause-none
+returns-in_default-clause-none g c = grind (arith, begins, all_here, none_past)
+
+pub items-smaller : goal.items-smaller
+items-smaller g c = grind (arith, common_steps)

@@ -2,6 +2,7 @@ use Rattle.dvg_text.proofs.Common.{refl, ◌≡◌, sym, subst, ◌∙◌, IsMap
 use Rattle.dvg_text.proofs.FieldValues.{none_as}
 use Rattle.dvg_text.proofs.FirstLines.{map_of, rom_reads, other_said}
 use Rattle.dvg_text.proofs.line.elsewhere_of.Goals as goal
+use Rattle.dvg_text.proofs.Common.{rules}
 
 pub returns-in_err-map-clause-none : goal.returns-in_err-map-clause-none
 returns-in_err-map-clause-none c = none_as c.from_residual-in_err-map.result refl (λ e map is same.
@@ -13,3 +14,6 @@ returns-then-is_asteroids-clause-none c = grind (arith, map_of, other_said, is_a
 
 pub returns-else-is_asteroids-clause-found : goal.returns-else-is_asteroids-clause-found
 returns-else-is_asteroids-clause-found c = grind (arith, (rom_reads c.args.line.now))
+
+pub returns-then-is_asteroids-clause-found : goal.returns-then-is_asteroids-clause-found
+returns-then-is_asteroids-clause-found c = search rules

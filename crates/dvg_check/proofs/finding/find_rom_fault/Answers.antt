@@ -1,0 +1,27 @@
+use Rattle.dvg_check.proofs.Common.{arith, rules}
+use Rattle.dvg_check.proofs.Accepting.{over_rom}
+use Rattle.dvg_check.proofs.finding.find_rom_fault.Goals as goal
+
+pub returns-in_default-clause-verdict : goal.returns-in_default-clause-verdict
+returns-in_default-clause-verdict c = search rules
+
+pub find_parts_fault-requires-clause-map : goal.find_parts_fault-requires-clause-map
+find_parts_fault-requires-clause-map c = search rules
+
+pub returns-clause-verdict : goal.returns-clause-verdict
+returns-clause-verdict c = grind (arith, over_rom)
+
+pub returns-clause-found : goal.returns-clause-found
+returns-clause-found c = search rules
+
+pub returns-clause-safe : goal.returns-clause-safe
+returns-clause-safe c = search rules
+
+pub returns-clause-exact : goal.returns-clause-exact
+returns-clause-exact c = search rules
+
+pub returns-clause-circuit : goal.returns-clause-circuit
+returns-clause-circuit c = search rules
+
+pub returns-clause-circuit_exact : goal.returns-clause-circuit_exact
+returns-clause-circuit_exact c = search rules

@@ -1,0 +1,5 @@
+use Rattle.dvg_circuit.proofs.Common.{rules}
+use Rattle.dvg_circuit.proofs.circuit.Circuit.call.Goals as goal
+
+pub returns : goal.returns
+returns c = search rules
