@@ -1,0 +1,8 @@
+use Rattle.std.proofs.Common.{rules}
+use Rattle.dvg_verdict.proofs.verdict.check_exact.Goals as goal
+
+pub returns-clause-verdict : goal.returns-clause-verdict
+returns-clause-verdict c = search rules
+
+pub returns-clause-exact : goal.returns-clause-exact
+returns-clause-exact c = search rules
