@@ -55,7 +55,7 @@ impl From<ShapeFinding> for RomFinding {
 
 /// Judges a frame over a vector ROM and the entries of its certificate in a mode, as [`check_parts`](crate::check_parts) and
 /// [`check_parts_exact`](crate::check_parts_exact) do. With a refusal because of an item it answers what is known there, and the
-/// rule's own numbers (profile).
+/// rule's own numbers (profile). On the profile a yes for `CLIPPED` says nothing of the screen.
 pub fn find_parts_fault(
     alloc: Global,
     rom: &RomImage,
@@ -94,9 +94,9 @@ pub fn find_parts_fault(
 /// [`check_rom`](crate::check_rom) does. With a refusal because of an item it answers what is known there, and the rule's own
 /// numbers (profile).
 ///
-/// `budget` is how many words the frame may take at most, up to 1,000,000, `window` where strokes may be lit: a part of the screen,
-/// or on the board also `CLIPPED` of `dvg_words`. What is accepted is safe, on the board also on its circuit, and in the mode
-/// `Exact` the counts are those of each run. Takes memory for the index of the entries alone.
+/// `budget` is how many words the frame may take at most, up to 1,000,000, `window` where strokes may be lit. On the profile a yes
+/// for `CLIPPED` says nothing of the screen. What is accepted is safe, on the board also on its circuit, and in the mode `Exact` the
+/// counts are those of each run. Takes memory for the index of the entries alone.
 #[tactic(auto, using(crate::proofs::Accepting::over_rom))]
 pub fn find_rom_fault(
     machine: Machine,

@@ -138,8 +138,8 @@ pub fn find_frame_fault<E: Entries>(
 /// Judges a frame by the entries of a certificate: its words and its depth where it keeps all rules, else its first fault.
 ///
 /// `entries` are those of the certificate. `budget` is how many words the frame may take at most, up to 1,000,000, `window` where
-/// strokes may be lit: a part of the screen, or on the board also `CLIPPED` of `dvg_words`. The ROM is the one over which the
-/// shapes were accepted; no rule of a frame looks into it. The rules are 40 to 48 (profile). Takes no memory.
+/// strokes may be lit. On the profile a yes for `CLIPPED` says nothing of the screen. The ROM is the one over which the shapes were
+/// accepted; no rule of a frame looks into it. The rules are 40 to 48 (profile). Takes no memory.
 pub fn check_frame<E: Entries>(
     rom: &RomImage,
     frame: &FrameImage,

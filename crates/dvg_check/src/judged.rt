@@ -46,9 +46,9 @@ impl<'a, E: Entries> JudgedShapes<'a, E> {
     /// Judges each entry's shape in a mode, as [`check_shapes`](crate::check_shapes) and
     /// [`check_shapes_exact`](crate::check_shapes_exact) do.
     ///
-    /// `entries` are those of the certificate, and the ROM lies where it says. `window` is where strokes may be lit,
-    /// here and by the frames judged over these shapes: a part of the screen, or on the board also `CLIPPED` of `dvg_words`. Takes no
-    /// memory but the stack's.
+    /// `entries` are those of the certificate, and the ROM lies where it says. `window` is where strokes may be lit, here and by the
+    /// frames judged over these shapes. On the profile a yes for `CLIPPED` says nothing of the screen. Takes no memory but the
+    /// stack's.
     pub fn judge(
         rom: &'a RomImage<'a>,
         cert: &Cert,
@@ -69,7 +69,7 @@ impl<'a, E: Entries> JudgedShapes<'a, E> {
     }
 
     /// Judges each entry's shape, as [`judge`](JudgedShapes::judge) does; with the first fault it answers what the function
-    /// [`find_shape_fault`] does.
+    /// [`find_shape_fault`] does. On the profile a yes for `CLIPPED` says nothing of the screen.
     pub fn find_shape_fault(
         rom: &'a RomImage<'a>,
         cert: &Cert,
@@ -97,7 +97,7 @@ impl<'a, E: Entries> JudgedShapes<'a, E> {
         })
     }
 
-    /// Where shapes and frames may light: a part of the screen, or `CLIPPED`.
+    /// Where shapes and frames may light: a part of the screen, or `CLIPPED`, on the profile, too.
     pub fn window(&self) -> Window
         ensures { result ≡ self.now.window }
     {
@@ -106,7 +106,7 @@ impl<'a, E: Entries> JudgedShapes<'a, E> {
 
     /// Judges a frame over these shapes, as [`check_frame`](JudgedShapes::check_frame) does; with its first fault it answers what
     /// is known there: place, scale, words and depth before the item that breaks a rule, what stands there, and the rule's own
-    /// numbers (profile).
+    /// numbers (profile). On the profile a yes for `CLIPPED` says nothing of the screen.
     #[inline(never)]
     pub fn find_fault(&self, frame: &FrameImage, budget: u32) -> Result<Accepted, FrameFinding>
         requires { budget ≤ MOST_WORDS }
@@ -129,7 +129,7 @@ impl<'a, E: Entries> JudgedShapes<'a, E> {
     }
 
     /// Shapes that are known to be good in this mode, such as those that [`judge`](JudgedShapes::judge) took before, kept with
-    /// their ROM, their entries and their window. Takes no memory.
+    /// their ROM, their entries and their window. On the profile a yes for `CLIPPED` says nothing of the screen. Takes no memory.
     pub fn unchecked(
         rom: &'a RomImage<'a>,
         entries: &'a E,
@@ -156,10 +156,10 @@ impl<'a, E: Entries> JudgedShapes<'a, E> {
     /// `budget` is how many words the frame may take at most, up to 1,000,000. Where it answers words and depth, every
     /// run of the generator from the frame's first word, at any beam place and any global scale, reaches HALT within so many
     /// words, stores at most so many return places at once, and four at most, fetches only words of the ROM and the
-    /// frame, and draws no lit stroke that leaves the window on either axis. Over shapes that were judged in the mode
-    /// [`Exact`](Mode::Exact) it fetches just so many words, and has stored just so many return places at once. If the ROM is on the
-    /// board, the same holds of its circuit, whatever its other registers hold at the start, so long as each word that it fetches
-    /// reads, when it is fetched, as the frame and the ROM have it. Takes no memory.
+    /// frame, and draws no lit stroke that leaves the window on either axis. On the profile a yes for `CLIPPED` says nothing of the
+    /// screen. Over shapes that were judged in the mode [`Exact`](Mode::Exact) it fetches just so many words, and has stored just so
+    /// many return places at once. If the ROM is on the board, the same holds of its circuit, whatever its other registers hold at the
+    /// start, so long as each word that it fetches reads, when it is fetched, as the frame and the ROM have it. Takes no memory.
     pub fn check_frame(&self, frame: &FrameImage, budget: u32) -> Result<Accepted, FrameFault>
         requires { budget ≤ MOST_WORDS }
         ensures ok { IfOk result (λ yes. GoodFrame self.now.window self.now.rom.machine frame.now self.now.list budget yes.words yes.depth) }

@@ -117,7 +117,8 @@ impl Rules for ShapeRules {
     }
 }
 
-/// Judges the shape of one entry item by item; with its first fault it answers what [`find_shape_fault`] does (profile).
+/// Judges the shape of one entry item by item; with its first fault it answers what [`find_shape_fault`] does (profile). On the
+/// profile a yes for `CLIPPED` says nothing of the screen.
 pub fn find_entry_fault<E: Entries>(
     mode: Mode,
     window: &Window,
@@ -160,7 +161,8 @@ pub fn find_entry_fault<E: Entries>(
 /// the first fault it answers what is known there: the entry, place, scale, words and depth before the item that breaks a rule, what
 /// stands there, and the rule's own numbers (profile).
 ///
-/// It goes by tails as far as these show the shapes to be good, and from there on item by item.
+/// It goes by tails as far as these show the shapes to be good, and from there on item by item. On the profile a yes for `CLIPPED`
+/// says nothing of the screen.
 pub fn find_shape_fault<E: Entries>(
     rom: &RomImage,
     cert: &Cert,
@@ -207,9 +209,9 @@ pub fn check_shapes_in<E: Entries>(
 /// with the first item of its shape that breaks a rule, and the lowest rule that this item breaks (20 to 31, profile).
 ///
 /// `entries` are those of the certificate, and the ROM lies where it says. `window` is where strokes may be lit at places that the
-/// ROM sets: a part of the screen, or on the board also `CLIPPED` of `dvg_words`. Nothing is run, and nothing is allocated. It
-/// takes the time of one tail for each word and key at most, of one comparison for each entry, and of a walk over the items of the
-/// shape that is answered.
+/// ROM sets. On the profile a yes for `CLIPPED` says nothing of the screen. Nothing is run, and nothing is allocated. It takes the
+/// time of one tail for each word and key at most, of one comparison for each entry, and of a walk over the items of the shape that
+/// is answered.
 pub fn check_shapes<E: Entries>(
     rom: &RomImage,
     cert: &Cert,
@@ -225,7 +227,8 @@ pub fn check_shapes<E: Entries>(
 }
 
 /// Judges each entry's shape, in the order of the certificate, its counts as exact: as [`check_shapes`] does, and by two rules
-/// more, that at a shape's last item its words and its depth are just as claimed (32 and 33, profile).
+/// more, that at a shape's last item its words and its depth are just as claimed (32 and 33, profile). On the profile a yes for
+/// `CLIPPED` says nothing of the screen.
 pub fn check_shapes_exact<E: Entries>(
     rom: &RomImage,
     cert: &Cert,

@@ -117,10 +117,10 @@ pub fn frame_of(frame: &[u8], budget: u32) -> Result<FrameImage<'_>, Refusal>
 /// Judges a frame over the bytes of a vector ROM and the entries of its certificate in a mode, as `check` and `check_exact` of
 /// `dvg_verdict` do from the ROM's length on.
 ///
-/// `budget` is how many words the frame may take at most, up to 1,000,000, `window` where strokes may be lit, as for
-/// [`check_parts`]. The answer is exact: 1 where the bytes are not exactly two for each address of the certificate's map, else that
-/// of [`check_parts`] or [`check_parts_exact`]. It takes the memory that these take, and carries the same theorem, on the board
-/// also about its circuit.
+/// `budget` is how many words the frame may take at most, up to 1,000,000, `window` where strokes may be lit. On the profile a yes
+/// for `CLIPPED` says nothing of the screen. The answer is exact: 1 where the bytes are not exactly two for each address of the
+/// certificate's map, else that of [`check_parts`] or [`check_parts_exact`]. It takes the memory that these take, and carries the
+/// same theorem, on the board also about its circuit.
 pub fn check_rom(
     machine: Machine,
     alloc: Global,
@@ -148,10 +148,10 @@ pub fn check_rom(
 /// Judges a frame over a vector ROM and the entries of its certificate, as `check` of `dvg_verdict` does from the shapes on.
 ///
 /// The ROM lies where the certificate says. `budget` is how many words the frame may take at most, up to 1,000,000, `window` where
-/// strokes may be lit: a part of the screen, or on the board also `CLIPPED` of `dvg_words`. The answer is exact: the first that
-/// applies of 50, the first fault of the shapes (20 to 31), the frame's first fault (40 to 48), and the yes, and what is accepted
-/// is safe in just the sense of `check`, for a ROM on the board also on its circuit. Takes memory for the index of the entries
-/// alone; 50 comes only where there was none.
+/// strokes may be lit. On the profile a yes for `CLIPPED` says nothing of the screen. The answer is exact: the first that applies of
+/// 50, the first fault of the shapes (20 to 31), the frame's first fault (40 to 48), and the yes, and what is accepted is safe in
+/// just the sense of `check`, for a ROM on the board also on its circuit. Takes memory for the index of the entries alone; 50 comes
+/// only where there was none.
 pub fn check_parts(
     alloc: Global,
     rom: &RomImage,
@@ -173,7 +173,7 @@ pub fn check_parts(
 }
 
 /// Judges a frame over a vector ROM and the entries of its certificate, as `check_exact` of `dvg_verdict` does from the shapes on,
-/// for a ROM on the board also about its circuit.
+/// for a ROM on the board also about its circuit. On the profile a yes for `CLIPPED` says nothing of the screen.
 pub fn check_parts_exact(
     alloc: Global,
     rom: &RomImage,

@@ -67,7 +67,7 @@ pub struct OwnCertificates<'a> {
     pub map: RomMap,
     /// How many words a frame may take at most.
     pub budget: u32,
-    /// The part of the screen that may be lit.
+    /// Where strokes may be lit. On the profile a yes for `CLIPPED` says nothing of the screen.
     pub window: Window,
 }
 

@@ -21,7 +21,7 @@ use std::alloc::{AllocError, Global};
 
 /// Reads a ROM and frames as [`run_make_frames`](crate::run_make_frames) does, and writes a line for each entry of the certificate
 /// that it would write: at which absolute whole places a call of the entry breaks no rule on this window. It says nothing of what
-/// follows the call.
+/// follows the call, and on the profile the places for `CLIPPED` say nothing of the screen.
 ///
 /// The faults are those of `run_make_frames`, and 63 too where there is no memory for the places. On all but 73 nothing was written, on
 /// 73 a prefix of the lines. Takes memory for the frames, the certificate and the places.

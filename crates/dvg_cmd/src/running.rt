@@ -36,7 +36,7 @@ pub struct CheckOptions {
     pub machine: Machine,
     /// How many words the frame may take at most.
     pub budget: u32,
-    /// The part of the screen that may be lit.
+    /// Where strokes may be lit. On the profile a yes for `CLIPPED` says nothing of the screen.
     pub window: Window,
     /// Whether the certificate's counts are bounds or exact.
     pub mode: Mode,
@@ -300,12 +300,12 @@ pub fn run_check_in<R1: CountedRead, R2: CountedRead, R3: CountedRead, W: Counte
 
 /// Reads a ROM, a frame and a certificate, in this order, and writes the report of the verdict on them on the profile's machine.
 ///
-/// The ROM lies where the certificate says; `window` is the part of the screen that may be lit, and `mode` says whether the
-/// claimed counts are bounds or exact. Each input is read to its end, or to one byte past its limit: 4096 bytes for a ROM, 2048
-/// for a frame, 1,048,576 for a certificate; a certificate that is refused, no further than the piece of 4096 bytes in which
-/// that is known. No more is kept of a certificate than that piece, the line begun and the entries. The first failed read or
-/// write ends the run, and nothing is tried again. On 70, 71 and 72 nothing was written, on 73 a prefix of the report. 74 never
-/// comes.
+/// The ROM lies where the certificate says; `window` is where strokes may be lit, and `mode` says whether the claimed counts are
+/// bounds or exact. A yes for `CLIPPED` says nothing of the screen. Each input is read to its end, or to one byte past its limit:
+/// 4096 bytes for a ROM, 2048 for a frame, 1,048,576 for a certificate; a certificate that is refused, no further than the piece of
+/// 4096 bytes in which that is known. No more is kept of a certificate than that piece, the line begun and the entries. The first
+/// failed read or write ends the run, and nothing is tried again. On 70, 71 and 72 nothing was written, on 73 a prefix of the report.
+/// 74 never comes.
 pub fn run_check<R1: CountedRead, R2: CountedRead, R3: CountedRead, W: CountedWrite>(
     alloc: Global,
     rom: &mut R1,

@@ -46,7 +46,7 @@ pub struct FrameOptions {
     pub start: Option<u16>,
     /// How many words a frame may take at most.
     pub budget: u32,
-    /// The part of the screen that may be lit.
+    /// Where strokes may be lit. On the profile a yes for `CLIPPED` says nothing of the screen.
     pub window: Window,
 }
 

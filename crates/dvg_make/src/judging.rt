@@ -179,13 +179,13 @@ fn checked(verdict: &Result<Yes, RomFinding>) -> Result<Yes, FrameRefusal>
 
 /// Judges a frame over a vector ROM by the certificate that is made for it: no certificate does better.
 ///
-/// `budget` is how many words the frame may take at most, up to 1,000,000, `window` where strokes may be lit: a part of the screen,
-/// or on the board also `CLIPPED`. What is accepted is safe, with exact counts, as [`check_parts_exact`] says, and no certificate
-/// gets the frame accepted with fewer words or less depth. The answer is the refusal of [`make_for_frames`] for the first call
-/// whose entry is not made, else that of the checker on the made certificate; it means that no certificate gets the frame accepted,
-/// but for 62 by the number of entries, where another one may, and for 63, where memory was out. 62 by the number of entries comes
-/// only where the calls up to this one really need too many. If the ROM is on the board, what is accepted is safe on its circuit,
-/// too, whatever its registers hold at the start. Takes memory for the certificate and its making.
+/// `budget` is how many words the frame may take at most, up to 1,000,000, `window` where strokes may be lit. On the profile a yes
+/// for `CLIPPED` says nothing of the screen. What is accepted is safe, with exact counts, as [`check_parts_exact`] says, and no
+/// certificate gets the frame accepted with fewer words or less depth. The answer is the refusal of [`make_for_frames`] for the
+/// first call whose entry is not made, else that of the checker on the made certificate; it means that no certificate gets the frame
+/// accepted, but for 62 by the number of entries, where another one may, and for 63, where memory was out. 62 by the number of
+/// entries comes only where the calls up to this one really need too many. If the ROM is on the board, what is accepted is safe on
+/// its circuit, too, whatever its registers hold at the start. Takes memory for the certificate and its making.
 pub fn judge(
     alloc: Global,
     rom: &RomImage,
@@ -219,7 +219,8 @@ pub struct JudgedFrame {
 /// Judges a frame as [`judge`] does, and answers the certificate, too, and the cause of a refusal by it; or the account of
 /// [`explain_making`], if none is made.
 ///
-/// If there is no memory for that account, it is 63. Takes memory as `judge` and `explain_making` do.
+/// If there is no memory for that account, it is 63. On the profile a yes for `CLIPPED` says nothing of the screen. Takes memory as
+/// `judge` and `explain_making` do.
 pub fn explain_judging(
     alloc: Global,
     rom: &RomImage,

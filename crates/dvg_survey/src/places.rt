@@ -86,7 +86,8 @@ impl CallPlaces {
     }
 
     /// The absolute whole places, in screen places, at which a call of an entry with this box keeps the rule on the window: 46 in a
-    /// frame, 25 in a shape (profile). Any whole numbers are places, also those that no LABS sets.
+    /// frame, 25 in a shape (profile). Any whole numbers are places, also those that no LABS sets. On the profile the places for
+    /// `CLIPPED` say nothing of the screen.
     pub fn of_box(window: &Window, lit: &LitBox) -> CallPlaces
         requires { IsBox lit.now }
         ensures places { (x y : ℤ) → HasPlace result x y ↔ LitInWindow window.now (box_extent lit.now) (whole_place x y) }
@@ -218,7 +219,7 @@ fn places_of(window: &Window, entry: &Entry, broken: &KeyedWords) -> CallPlaces
 /// For each entry of a certificate, in its order, the absolute whole places at which a call of it breaks no rule on the window: its
 /// box has no corner outside the window there (46 in a frame, 25 in a shape), and its shape keeps rule 25, as does each shape to
 /// which calls and tail jumps lead from there (profile). `entries` are those of the certificate. It says nothing of what follows
-/// the call.
+/// the call, and on the profile the places for `CLIPPED` say nothing of the screen.
 ///
 /// Goes over the items of each shape once, and where one breaks 25 over those of the other shapes again, in a made certificate once
 /// more. Takes memory for marks and entries; an `Err` says that there was none.

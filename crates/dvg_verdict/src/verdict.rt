@@ -11,7 +11,7 @@ use dvg_words::{Machine, Window};
 use std::alloc::Global;
 
 /// Judges a frame over the bytes of a vector ROM and of its certificate on a machine in a mode, as [`check`] and [`check_exact`] do
-/// on the profile's machine.
+/// on the profile's machine. There a yes for `CLIPPED` says nothing of the screen.
 ///
 /// On the board a yes is about every run of its circuit, too: whatever its registers hold at the start, and whatever is written to
 /// memory while it runs, so long as each word that it fetches reads, when it is fetched, as the frame and the ROM have it.
@@ -43,10 +43,10 @@ pub fn check_on(
 ///
 /// `budget` is how many words the frame may take at most, 1 to 1,000,000. The verdict is exact: the first that applies of 2, 49,
 /// the certificate's refusal (10 to 16), 1, 50, the first fault of its shapes (20 to 31), the frame's first fault (40 to 48), and
-/// the yes. The ROM lies where the certificate says. `window` is the part of the screen that may be lit, `SCREEN` of `dvg_words`
-/// for all of it; with `CLIPPED` a yes says nothing of the screen here. Where it accepts, every run from the frame's first word, at
-/// any beam place and any global scale, reaches HALT within the answered count of words, stores at most four return places at once,
-/// fetches only words of the ROM and the frame, and draws no lit stroke that leaves the window on either axis.
+/// the yes. The ROM lies where the certificate says. `window` is where strokes may be lit, `SCREEN` of `dvg_words` for the whole
+/// screen; a yes for `CLIPPED` says nothing of the screen. Where it accepts, every run from the frame's first word, at any beam
+/// place and any global scale, reaches HALT within the answered count of words, stores at most four return places at once, fetches
+/// only words of the ROM and the frame, and draws no lit stroke that leaves the window on either axis.
 ///
 /// Nothing is run: what a shape does from a word on is worked out once for each scale at which it is needed. Takes memory
 /// for the certificate's entries and for their index alone, and none before 2 and 49 are ruled out; 16 comes only where there
@@ -80,7 +80,7 @@ pub fn check(
 ///
 /// What it accepts is safe, and every run of the generator from the frame's first word has fetched just the answered count of
 /// words at its HALT, and has stored just the answered number of return places at once. The budget stays a bound, and so do
-/// boxes.
+/// boxes. A yes for `CLIPPED` says nothing of the screen.
 pub fn check_exact(
     alloc: Global,
     rom: &[u8],
