@@ -172,8 +172,9 @@ struct dvgcheck_answer dvgcheck_check_exact(const uint8_t *rom, size_t rom_lengt
 
 /*
  * The same on a machine, DVGCHECK_PROFILE or DVGCHECK_BOARD. For any other number the answer is 82, before all that the call without
- * a machine answers. Shapes that dvgcheck_judge_on or dvgcheck_judge_exact_on judged are those of their machine, and dvgcheck_frame
- * judges frames over them on it. dvgcheck_frame_on does the same, but answers 81 where the shapes were judged on the other machine.
+ * a machine answers, and with 82, too, no shapes are judged. Shapes that dvgcheck_judge_on or dvgcheck_judge_exact_on judged are those
+ * of their machine, and dvgcheck_frame judges frames over them on it. dvgcheck_frame_on does the same, but answers 81 where the shapes
+ * were judged on the other machine.
  */
 struct dvgcheck_answer dvgcheck_judge_on(uint32_t machine, const uint8_t *rom, size_t rom_length, const uint8_t *cert,
                                          size_t cert_length, struct dvgcheck_window window, struct dvgcheck_shapes *shapes);
