@@ -1,8 +1,8 @@
 //! A run of the circuit, instruction by instruction.
 
-ghost use Rattle.std.specs.Prelude.{◌≡◌, ℕ, ◌++◌, [], ◌∷◌, IfOk};
+ghost use Rattle.std.specs.Prelude.{◌≡◌, ℕ, ◌++◌, [], ◌∷◌, IfOk, OnErr, length, take};
 ghost use Rattle.dvg_circuit.specs.Counters.{counters_after};
-ghost use Rattle.dvg_circuit.specs.Circuit.{begin, decoded, draw_counts, lit_if, performed, step};
+ghost use Rattle.dvg_circuit.specs.Circuit.{act, begin, decoded, draw_counts, lit_if, performed, step};
 
 use crate::circuit::{Circuit, past};
 use crate::counters::{Counters, counts};
@@ -80,12 +80,12 @@ impl Run {
         &self.fetched
     }
 
-    /// Notes a draw that begins here, if its intensity is not 0.
+    /// Notes a draw that begins here, if its intensity is not 0. `Err` if memory is out: then the run is as it was.
     fn light(&mut self, draw: &Draw, counts: u16) -> Result<(), AllocError>
-        ensures circuit { self.new.circuit ≡ self.old.circuit }
-        ensures lit { IfOk result (λ _. self.new.lit
-            ≡ self.old.lit ++ lit_if draw.now.bright (record { draw = draw.now; from = self.old.circuit.counters; counts = counts })) }
-        ensures fetched { self.new.fetched ≡ self.old.fetched }
+        ensures ok { IfOk result (λ _. self.new ≡ record self.old {
+          lit = self.old.lit ++ lit_if draw.now.bright (record { draw = draw.now; from = self.old.circuit.counters; counts = counts });
+        }) }
+        ensures err { OnErr result (self.new ≡ self.old) }
     {
         let lit = LitDraw {
             draw: *draw,
@@ -98,9 +98,10 @@ impl Run {
         Ok(())
     }
 
-    /// A draw: the timer's counts step the counters, and the beam is lit at each of them.
+    /// A draw: the timer's counts step the counters, and the beam is lit at each of them. `Err` if memory is out: then the run is as
+    /// it was.
     fn draw(&mut self, draw: &Draw) -> Result<(), AllocError>
-        ensures { IfOk result (λ _. self.new ≡ record self.old {
+        ensures ok { IfOk result (λ _. self.new ≡ record self.old {
           circuit = record self.old.circuit {
             counters = counters_after draw.now self.old.circuit.counters (draw_counts draw.now self.old.circuit);
           };
@@ -110,6 +111,7 @@ impl Run {
             counts = draw_counts draw.now self.old.circuit;
           });
         }) }
+        ensures err { OnErr result (self.new ≡ self.old) }
     {
         let scale = draw.lscale.wrapping_add(self.circuit.scale) % 16;
         let counts = counts(scale);
@@ -118,9 +120,10 @@ impl Run {
         Ok(())
     }
 
-    /// What an instruction that was fetched here does.
+    /// What an instruction that was fetched here does. `Err` if memory is out: then the run is as it was.
     fn perform(&mut self, instr: Instr, format: Format) -> Result<(), AllocError>
-        ensures { IfOk result (λ _. self.new ≡ record (performed instr format self.old) { fetched = self.old.fetched }) }
+        ensures ok { IfOk result (λ _. self.new ≡ record (performed instr format self.old) { fetched = self.old.fetched }) }
+        ensures err { OnErr result (self.new ≡ self.old) }
     {
         let next = past(format, self.circuit.pc);
         match instr {
@@ -141,11 +144,10 @@ impl Run {
         Ok(())
     }
 
-    /// Notes that a word address was fetched.
+    /// Notes that a word address was fetched. `Err` if memory is out: then the run is as it was.
     fn note(&mut self, address: u16) -> Result<(), AllocError>
-        ensures circuit { self.new.circuit ≡ self.old.circuit }
-        ensures lit { self.new.lit ≡ self.old.lit }
-        ensures fetched { IfOk result (λ _. self.new.fetched ≡ self.old.fetched ++ (address ∷ [])) }
+        ensures ok { IfOk result (λ _. self.new ≡ record self.old { fetched = self.old.fetched ++ address ∷ [] }) }
+        ensures err { OnErr result (self.new ≡ self.old) }
     {
         if self.fetched.push(address).is_err() {
             return Err(AllocError);
@@ -153,13 +155,13 @@ impl Run {
         Ok(())
     }
 
-    /// Fetches one instruction and performs it; nothing after a halt. `Err` if memory is out: then nothing is said of the run.
-    pub fn step<B: Bus>(&mut self, bus: &B) -> Result<(), AllocError>
-        ensures { IfOk result (λ _. self.new ≡ step (B.reads bus.now) self.old) }
+    /// Fetches one instruction and performs it. `Err` if memory is out: then the run is as it was, but for addresses noted at its end.
+    fn act<B: Bus>(&mut self, bus: &B) -> Result<(), AllocError>
+        ensures ok { IfOk result (λ _. self.new ≡ act (B.reads bus.now) (B.reads bus.now self.old.circuit.pc) self.old) }
+        ensures circuit { OnErr result (self.new.circuit ≡ self.old.circuit) }
+        ensures lit { OnErr result (self.new.lit ≡ self.old.lit) }
+        ensures noted { OnErr result (take (length self.old.fetched) self.new.fetched ≡ self.old.fetched) }
     {
-        if self.circuit.halted {
-            return Ok(());
-        }
         let pc = self.circuit.pc;
         let first = bus.read(pc);
         self.note(pc)?;
@@ -170,5 +172,21 @@ impl Run {
         let second = bus.read(behind);
         self.note(behind)?;
         self.perform(decoded(first, second), Format::Long)
+    }
+
+    /// Fetches one instruction and performs it; nothing after a halt. `Err` if memory is out: then the run is as it was.
+    pub fn step<B: Bus>(&mut self, bus: &B) -> Result<(), AllocError>
+        ensures ok { IfOk result (λ _. self.new ≡ step (B.reads bus.now) self.old) }
+        ensures err { OnErr result (self.new ≡ self.old) }
+    {
+        if self.circuit.halted {
+            return Ok(());
+        }
+        let noted = self.fetched.len();
+        let done = self.act(bus);
+        if done.is_err() {
+            self.fetched.truncate(noted);
+        }
+        done
     }
 }

@@ -1,5 +1,5 @@
 use Rattle.dvg_circuit.proofs.Common.{rules}
 use Rattle.dvg_circuit.proofs.run.Run.light.Goals as goal
 
-pub returns-clause-lit : goal.returns-clause-lit
-returns-clause-lit c = search rules
+pub returns-clause-ok : goal.returns-clause-ok
+returns-clause-ok c = search rules
