@@ -2,6 +2,7 @@ pub mod Common
 pub mod Ones
 pub mod Rounding
 pub mod Places
+pub mod AnyStart
 pub mod Moves
 pub mod Reading
 pub mod Following

@@ -1,13 +1,13 @@
 -- The counters hold the twelve bits of the places that they pass.
 use Rattle.dvg_circuit.proofs.Common.{pulse, ◌≡◌, ℕ, zero, suc, ◌+◌, ◌≤◌, ap, arith, ℤ, ◌+ℤ◌, ints, stepped, signed, twelve_bits, CounterIsPlace}
 
-at_most_one : (size count : ℕ) → pulse size count ≤ 1
+pub at_most_one : (size count : ℕ) → pulse size count ≤ 1
 at_most_one size count = grind (arith)
 
-step_of : (size at : ℤ) (p : ℕ) → p ≤ 1 → stepped size p (twelve_bits at) ≡ twelve_bits (at +ℤ signed size p)
+pub step_of : (size at : ℤ) (p : ℕ) → p ≤ 1 → stepped size p (twelve_bits at) ≡ twelve_bits (at +ℤ signed size p)
 step_of size at p le = grind (arith, ints)
 
-signed_more : (from size : ℤ) (a b : ℕ) → (from +ℤ signed size a) +ℤ signed size b ≡ from +ℤ signed size (a + b)
+pub signed_more : (from size : ℤ) (a b : ℕ) → (from +ℤ signed size a) +ℤ signed size b ≡ from +ℤ signed size (a + b)
 signed_more from size a b = grind (arith, ints)
 
 pub counter_is_place : CounterIsPlace

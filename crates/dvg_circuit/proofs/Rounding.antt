@@ -7,7 +7,7 @@ use Rattle.std.proofs.lemmas.Nat.{mod-pow-add, pow_pos}
 -- ---- a multiplier by recursion on the bits of a size
 
 -- at an even count the top bit, and at an odd count the multiplier of the bits below it, at half the count
-abbrev multiplier : ℕ → ℕ → ℕ → ℕ
+abbrev pub multiplier : ℕ → ℕ → ℕ → ℕ
 multiplier zero size count = 0
 multiplier (suc bits) size count = if count % 2 == 0 then bit bits size else multiplier bits size (count / 2)
 
@@ -16,7 +16,7 @@ pulses_of bits size zero = 0
 pulses_of bits size (suc n) = pulses_of bits size n + multiplier bits size n
 
 -- a pulse goes by how many ones the count ends in
-gated : (bits size count : ℕ) → multiplier bits size count ≡ (if nat_lt (ending_ones bits count) bits then bit (bits - suc (ending_ones bits count)) size else 0)
+pub gated : (bits size count : ℕ) → multiplier bits size count ≡ (if nat_lt (ending_ones bits count) bits then bit (bits - suc (ending_ones bits count)) size else 0)
 gated zero size count = refl
 gated (suc bits) size count = grind (arith, nat_tests, (gated bits size (count / 2)))
 

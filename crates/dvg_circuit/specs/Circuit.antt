@@ -2,7 +2,7 @@
 -- fault: whatever its memory answers, it goes on.
 --
 -- What is initial: a start sets the program counter to 0 and ends the halt; all other registers are as the run before, or power-up,
--- left them.
+-- left them. Each draw begins with the rate multipliers at count 0 (MAME's DVG); `AnyStart` says what other counts would change.
 -- What wraps: word addresses and both counters at twelve bits, the stack pointer at four, the sum of both scales at four. Calls store
 -- at one of four places, which the pointer's two low bits tell.
 -- What memory holds: whatever is read, which may change from one instruction to the next; where there is no chip, anything.

@@ -23,7 +23,7 @@ let_through size b = if nat_le b 9 then bit (9 - b) size else 0
 abbrev pub pulse : ℕ → ℕ → ℕ
 pulse size count = let_through size (ending_ones 10 count)
 
--- the pulses of a size at counts 0 to n - 1
+-- the pulses of a size at counts 0 to n - 1: each draw begins at 0 (MAME's DVG)
 abbrev pub pulses : ℕ → ℕ → ℕ
 pulses size zero = 0
 pulses size (suc n) = pulses size n + pulse size n

@@ -1,6 +1,7 @@
 pub mod Counters
 pub mod Circuit
 pub mod Laws
+pub mod AnyStart
 pub mod Example
 pub mod Premises
 pub mod Following

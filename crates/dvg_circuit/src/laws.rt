@@ -5,6 +5,7 @@ ghost use Rattle.dvg_circuit.specs.Following.{DrawnOnStroke, CircuitFollows};
 ghost use Rattle.dvg_circuit.specs.Showing.{LitInWindow, ShownInWindow, LitOnScreen, ScreenIsShown, ClippedOnCircuit};
 ghost use Rattle.dvg_circuit.specs.ClippedExample.{WorkedClips};
 ghost use Rattle.dvg_circuit.specs.Writing.{WritesElsewhere};
+ghost use Rattle.dvg_circuit.specs.AnyStart.{OnePlaceEach, OnePlaceADraw, WorkedStarts};
 ghost use Rattle.dvg_circuit.specs.Laws.{RoundedHalfUp, NoneBeyondEnds, CounterIsPlace, Blanking, NoSharedBits, AllDecoded};
 
 /// The draw of the worked run, pulse by pulse: which of its four counts step which counter, and the places that they pass.
@@ -109,4 +110,24 @@ pub fn worked_clips()
 /// game may build its other list meanwhile.
 pub fn writes_elsewhere()
     ensures { WritesElsewhere }
+{}
+
+/// From whatever count the rate multipliers begin a draw, it ends on each axis at most one place from where it ends from count 0, where
+/// the circuit has them begin; at an effective scale of 9 and above just there. It passes only places between its ends.
+#[tactic(auto, using(crate::proofs::AnyStart::one_place_each))]
+pub fn one_place_each()
+    ensures { OnePlaceEach }
+{}
+
+/// Several draws, each from a count of its own, end on each axis at most as many places from where they end from count 0 as there are
+/// among them at an effective scale below 9.
+pub fn one_place_a_draw()
+    ensures { OnePlaceADraw }
+{}
+
+/// At scale 0 size 256 has a pulse from count 0 and none from 2, and size 128 the other way round; at scale 9 size 1023 has 1,023 from
+/// any count.
+#[tactic(auto, using(crate::proofs::AnyStart::worked_starts))]
+pub fn worked_starts()
+    ensures { WorkedStarts }
 {}
