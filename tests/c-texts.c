@@ -5,6 +5,8 @@
  *     texts account MACHINE WINDOW ROM FIRST LAST BUDGET FRAME
  *     texts make MACHINE ROM FIRST LAST [ROOT SCALE].. -- FRAME..
  *     texts version
+ *
+ * WINDOW is screen, clip or part, which is {10, 20, 30, 40}.
  */
 #include <pthread.h>
 #include <stdio.h>
@@ -12,6 +14,37 @@
 #include <string.h>
 
 #include "dvgcheck.h"
+
+/* Each field stands where the library has it: users name fields, or give them by their order. */
+#define STANDS(name, field, place) _Static_assert(offsetof(struct dvgcheck_##name, field) == (place), "as the library has it")
+#define TAKES(name, size) _Static_assert(sizeof(struct dvgcheck_##name) == (size), "as the library has it")
+
+STANDS(window, x_min, 0);
+STANDS(window, x_max, 2);
+STANDS(window, y_min, 4);
+STANDS(window, y_max, 6);
+TAKES(window, 8);
+STANDS(map, first, 0);
+STANDS(map, last, 2);
+TAKES(map, 4);
+STANDS(root, address, 0);
+STANDS(root, scale, 2);
+TAKES(root, 4);
+STANDS(answer, shapes, 0);
+STANDS(answer, words, 4);
+STANDS(answer, line, 8);
+STANDS(answer, word, 12);
+STANDS(answer, shape, 14);
+STANDS(answer, scale, 16);
+STANDS(answer, depth, 17);
+STANDS(answer, number, 18);
+STANDS(answer, call, 20);
+TAKES(answer, 24);
+STANDS(text, length, 0);
+STANDS(text, frame, sizeof(size_t));
+STANDS(text, answer, 2 * sizeof(size_t));
+STANDS(text, number, 2 * sizeof(size_t) + 24);
+STANDS(shapes, bytes, 0);
 
 enum { MOST = 4097, MOST_TEXT = 1 << 20, MOST_FRAMES = 16, UNTOUCHED = 0xA5, TURNS = 50 };
 
@@ -204,7 +237,23 @@ static void read_whole(const char *name, struct bytes *into) {
 
 static uint16_t address(const char *word) { return (uint16_t)strtoul(word, NULL, 16); }
 
-static const struct dvgcheck_window screen = DVGCHECK_SCREEN, zone = DVGCHECK_CLIPPED;
+static const struct dvgcheck_window screen = DVGCHECK_SCREEN, zone = DVGCHECK_CLIPPED, part = {10, 20, 30, 40};
+
+static const struct dvgcheck_map asteroids = DVGCHECK_ASTEROIDS;
+
+static void initializers(void) {
+    const struct dvgcheck_window whole = {.x_min = 0, .x_max = 1023, .y_min = 0, .y_max = 1023};
+    const struct dvgcheck_window clipped = {.x_min = -1024, .x_max = 2047, .y_min = -1024, .y_max = 2047};
+    EXPECT(memcmp(&screen, &whole, sizeof whole), 0);
+    EXPECT(memcmp(&zone, &clipped, sizeof clipped), 0);
+    EXPECT(asteroids.first, 0x800);
+    EXPECT(asteroids.last, 0xBFF);
+}
+
+static struct dvgcheck_window window_of(const char *word) {
+    if (strcmp(word, "clip") == 0) return zone;
+    return strcmp(word, "part") == 0 ? part : screen;
+}
 
 static void out_of_range(struct judged j) {
     struct judged other = j;
@@ -233,7 +282,7 @@ static void tell(struct dvgcheck_answer a) {
 static int account(char **words) {
     static struct judged j;
     j.machine = (uint32_t)atoi(words[0]);
-    j.window = strcmp(words[1], "clip") == 0 ? zone : screen;
+    j.window = window_of(words[1]);
     read_whole(words[2], &j.rom);
     j.map.first = address(words[3]);
     j.map.last = address(words[4]);
@@ -292,6 +341,7 @@ int main(int count, char **words) {
     if (count == 9 && strcmp(words[1], "account") == 0) return account(words + 2);
     if (count > 6 && strcmp(words[1], "make") == 0) return make_of(count - 2, words + 2);
     if (count != 2 || strcmp(words[1], "version") != 0) return 2;
+    initializers();
     unsigned version = dvgcheck_version();
     EXPECT(version, DVGCHECK_VERSION);
     printf("%u.%u.%u\n", version / 10000, version / 100 % 100, version % 100);
