@@ -12,5 +12,6 @@ pub mod SameEntry
 pub mod TailPoints
 pub mod TailLaws
 pub mod Bearing
+pub mod Reaching
 pub mod Quotients
 pub mod Sweeping

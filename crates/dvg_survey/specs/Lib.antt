@@ -6,5 +6,6 @@ pub mod Survey
 pub mod Chains
 pub mod Losses
 pub mod Deepest
+pub mod Furthest
 pub mod Places
 pub mod Private
