@@ -3,9 +3,12 @@ pub mod Machines
 pub mod Items
 pub mod Why
 pub mod Plain
+pub mod Furthest
 pub mod Refused
 pub mod Accepted
 pub mod Cures
+pub mod Meant
+pub mod Middle
 pub mod Making
 pub mod Verdicts
 pub mod Swapped

@@ -1,5 +1,5 @@
 -- The lines of an answer of the maker. All of it is this project's own.
-use Rattle.std.specs.Prelude.{◌≡◌, ℕ, max, List, [], ◌∷◌, ◌++◌, length, fold, Option, Some, None, slice_get, option_to_list, option_map, nat_lt, if◌then◌else◌}
+use Rattle.std.specs.Prelude.{◌≡◌, ℕ, ◌-◌, max, List, [], ◌∷◌, ◌++◌, length, fold, Option, Some, None, slice_get, option_to_list, option_map, nat_lt, if◌then◌else◌}
 use Rattle.std.specs.Global.{Vec}
 use Rattle.dvg_words.specs.declared.machine.Machine.{Machine}
 use Rattle.dvg_words.specs.Values.{Source}
@@ -19,6 +19,8 @@ use Rattle.dvg_account.specs.declared.line.Role.TheVariants as role
 use Rattle.dvg_account.specs.declared.line.Line.{Line}
 use Rattle.dvg_account.specs.Machines.{machine_lines}
 use Rattle.dvg_account.specs.Cures.{cure_of}
+use Rattle.dvg_account.specs.Meant.{TellsMeant}
+use Rattle.dvg_account.specs.Middle.{TellsMiddle}
 use Rattle.dvg_account.specs.Why.{addresses_of_map, missing_word, odd_labs}
 use Rattle.dvg_account.specs.declared.why.Why.{Why as Sentence}
 use Rattle.dvg_account.specs.declared.why.Why.TheVariants as why
@@ -113,8 +115,9 @@ TellsBelow (cause.Deep to scale) told =
     (calls : Vec Call) × (told ≡ Some (Path (path.Below (record { addr = to; key = scale }) calls)))
 TellsBelow other told = told ≡ None
 
--- the lines of a refusal of the maker, which made entries for roots and frames: its rule, its cause, the item, the shapes on the
--- way to where the making stops, that place, the calls below, and what to do
+-- the lines of a refusal of the maker, which made entries for roots and frames: its rule, its cause, the word that a
+-- call may mean, a jump that may lead into an instruction, the item, the shapes on the way to where the making stops, that place, the
+-- calls below, and what to do
 pub record UnmadeLines (rom : Rom) (frames : List (List ℕ)) (a : MakeAccount) (lines : List Line) : Type 0 where
   pub why : Option Sentence
   pub tells : TellsMaker rom a.at a.chain.items a.cause why
@@ -122,8 +125,13 @@ pub record UnmadeLines (rom : Rom) (frames : List (List ℕ)) (a : MakeAccount) 
   pub is_call : IsCallItem rom.machine (frame_of_call frames a.fault.call) a.fault.call call
   pub item : Option RefusedItem
   pub is_item : IsMakerItem rom (frame_of_call frames a.fault.call) a item
+  pub meant : Option Line
+  pub means : TellsMeant rom (cure_of rom.map a) a.at (slice_get a.chain.items (length a.chain.items - 1)) meant
+  pub middle : Option Line
+  pub jumps : TellsMiddle rom.machine (frame_of_call frames a.fault.call) middle
   pub below : Option Line
   pub deep : TellsBelow a.cause below
   pub told : lines ≡ machine_lines rom.machine
       ++ Rule (fault_number (make_fault_of a.fault.why)) ∷ option_to_list (why_line a.fault.call a.at why)
+      ++ option_to_list meant ++ option_to_list middle
       ++ way_lines call item (Path (path.MakerChain (chain_of a))) ++ option_to_list below ++ MakerCure (cure_of rom.map a) ∷ []

@@ -14,6 +14,7 @@ use Rattle.dvg_check.specs.declared.fault.FrameFinding.{FrameFinding}
 use Rattle.dvg_check.specs.declared.fault.ShapeFinding.{ShapeFinding}
 use Rattle.dvg_make.specs.Made.{HasEntry}
 use Rattle.dvg_account.specs.Items.{RefusedItem, IsItem, callee_of, item_lines}
+use Rattle.dvg_account.specs.Furthest.{TellsFurthest}
 use Rattle.dvg_account.specs.Machines.{machine_lines, other_machine_line, TellsZone}
 use Rattle.dvg_account.specs.Why.{TellsFrame, TellsShape}
 use Rattle.dvg_account.specs.declared.why.Why.{Why as Sentence}
@@ -21,8 +22,9 @@ use Rattle.dvg_account.specs.declared.line.Line.{Line}
 use Rattle.dvg_account.specs.declared.line.Line.TheVariants.{Rule, Why, Path, WhatToDo}
 use Rattle.dvg_account.specs.declared.line.PathLine.TheVariants as path
 
--- the lines of the first fault of a frame: its rule, its cause, its item, and what to do. No losses are told where no items lead there
-pub record FrameLines (machine : Machine) (window : Window) (frame : List ℕ) (list : List Entry) (f : FrameFinding)
+-- the lines of the first fault of a frame: its rule, its cause, the stroke of what it calls, its item, and what to do. No losses are
+-- told where no items lead there
+pub record FrameLines (machine : Machine) (window : Window) (rom : Option Rom) (frame : List ℕ) (list : List Entry) (f : FrameFinding)
     (lines : List Line) : Type 0 where
   pub why : Sentence
   pub tells : TellsFrame machine frame f f.cause why
@@ -30,10 +32,12 @@ pub record FrameLines (machine : Machine) (window : Window) (frame : List ℕ) (
   pub is_item : IsItem Frame (frame_word machine frame) f.fault.word f.before (callee_of f.found) item
   pub lost : IfSome item.losses (AreLosses (frame_context machine list) (frame_word machine frame) 0 f.fault.word)
   pub unled : IfNone item.losses (NoneLead Frame (frame_word machine frame) 0 f.fault.word)
+  pub furthest : Option Line
+  pub reaches : TellsFurthest rom list f.cause (callee_of f.found) furthest
   pub zone : Option Line
   pub in_zone : TellsZone window zone
-  pub told : lines ≡ machine_lines machine ++ option_to_list zone ++ Rule (frame_number f.fault.why) ∷ Why why ∷ item_lines item
-      ++ WhatToDo (frame_number f.fault.why) ∷ []
+  pub told : lines ≡ machine_lines machine ++ option_to_list zone ++ Rule (frame_number f.fault.why) ∷ Why why
+      ∷ option_to_list furthest ++ item_lines item ++ WhatToDo (frame_number f.fault.why) ∷ []
 
 -- how a frame reaches an entry: by these calls, or by none; without a frame there is no line
 abbrev pub TellsChain : Rom → Option (List ℕ) → List Entry → Entry → Option Line → Type 0

@@ -31,7 +31,7 @@ abbrev pub RefusedLines : Inputs → Option Rom → Option (List ℕ) → Refusa
 RefusedLines inputs rom frame refusal (Some (finding.Shape f)) lines =
     IfSome inputs.cert (λ cert. IfSome rom (λ r. ShapeLines inputs.window r frame cert.now.entries f lines))
 RefusedLines inputs rom frame refusal (Some (finding.Frame f)) lines =
-    IfSome inputs.cert (λ cert. IfSome frame (λ words. FrameLines inputs.machine inputs.window words cert.now.entries f lines))
+    IfSome inputs.cert (λ cert. IfSome frame (λ words. FrameLines inputs.machine inputs.window rom words cert.now.entries f lines))
 RefusedLines inputs rom frame refusal cause lines = (why : PlainWhy) × (lines ≡ plain_lines inputs.machine (refusal_number refusal) why)
 
 -- the lines of a verdict on inputs with these images

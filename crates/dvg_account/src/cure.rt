@@ -39,7 +39,7 @@ pub enum MakerCure {
 }
 
 /// Whether a word address is outside the ROM.
-fn is_outside(map: RomMap, at: u16) -> bool
+pub fn is_outside(map: RomMap, at: u16) -> bool
     ensures { result ≡ is_outside map at }
 {
     at < map.first() || map.last() < at

@@ -10,11 +10,14 @@ mod accepted;
 mod answers;
 mod cure;
 mod expecting;
+mod furthest;
 mod inputs;
 mod item;
 mod line;
 mod lines;
 mod making;
+mod meant;
+mod middle;
 mod own;
 mod refused;
 mod remarks;
@@ -34,6 +37,7 @@ pub use line::{
     Words, Zeros,
 };
 pub use making::{made_lines, unmade_lines};
+pub use middle::Middle;
 pub use own::{frame_lines, own_lines};
 pub use remarks::Remark;
 pub use swapped::{Swapped, find_swapped};

@@ -3,6 +3,7 @@
 ghost use Rattle.std.specs.Prelude.{◌≡◌};
 
 use crate::cure::MakerCure;
+use crate::middle::Middle;
 use crate::remarks::Remark;
 use crate::why::Why;
 use dvg_cert::{End, Entry, Key, LitBox};
@@ -24,6 +25,12 @@ pub enum Line {
     Rule(u8),
     /// Why the answer is a refusal.
     Why(Why),
+    /// The stroke by which a called shape reaches furthest past the edge.
+    Furthest(Item),
+    /// The word that is meant if the called word address is that of a byte.
+    ByteAddress { at: u16, word: u16 },
+    /// A jump that may lead into the middle of an instruction.
+    JumpsInto(Middle),
     /// Which line of the certificate's text is refused, counted from 1.
     CertificateLine(u32),
     /// At which column, counted from 1, that line leaves the form.

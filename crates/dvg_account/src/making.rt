@@ -8,6 +8,8 @@ use crate::cure::MakerCure;
 use crate::item::RefusedItem;
 use crate::line::{EntryName, Line, MadeLine, MakerChain, PathLine, Role};
 use crate::lines::Lines;
+use crate::meant::meant_line;
+use crate::middle::middle_line;
 use crate::why::{Addresses, MakerWhy, Why};
 use dvg_cert::{Cert, Entries, Entry, Key, ListIndex};
 use dvg_items::Kind;
@@ -61,10 +63,14 @@ pub fn unmade_lines(
     let why = why_of(rom, &account);
     let told = why_line(account.fault.call, account.at, why);
     let cure = MakerCure::of(rom.map(), &account);
+    let meant = meant_line(alloc, rom, cure, &account)?;
+    let middle = middle_line(rom.machine(), frame, account.fault.call);
     let mut lines = Lines::new(alloc);
     lines.push_machine(rom.machine());
     lines.push(Line::Rule(number));
     lines.push_some(told);
+    lines.push_some(meant);
+    lines.push_some(middle);
     push_way(
         &mut lines,
         &call,

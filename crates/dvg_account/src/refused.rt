@@ -11,6 +11,7 @@ ghost use Rattle.dvg_account.specs.Refused.{FrameLines, ShapeLines, TellsChain};
 ghost use Rattle.dvg_account.specs.Machines.{other_machine_line};
 ghost use Rattle.dvg_account.specs.Building.{Adds};
 
+use crate::furthest::furthest_line;
 use crate::inputs::{Inputs, plain_lines};
 use crate::item::{RefusedItem, callee_of};
 use crate::line::{EntryName, Line, PathLine, Role};
@@ -40,8 +41,8 @@ pub fn refused_lines(
         (Some(RomFinding::Shape(finding)), Some(cert), Some(rom), frame) => {
             shape_lines(alloc, &inputs.window, rom, cert, frame, finding)
         }
-        (Some(RomFinding::Frame(finding)), Some(cert), _, Some(frame)) => {
-            frame_lines(alloc, inputs.machine, &inputs.window, cert, frame, finding)
+        (Some(RomFinding::Frame(finding)), Some(cert), rom, Some(frame)) => {
+            frame_lines(alloc, inputs, rom, cert, frame, finding)
         }
         _ => {
             let why = inputs.plain_why(refusal);
@@ -50,17 +51,19 @@ pub fn refused_lines(
     }
 }
 
-/// The lines of the first fault of a frame on a machine, judged for a window.
+/// The lines of the first fault of a frame of these inputs, over a ROM, if its bytes are of the right length.
 fn frame_lines(
     alloc: Global,
-    machine: Machine,
-    window: &Window,
+    inputs: &Inputs,
+    rom: Option<&RomImage>,
     cert: &Cert,
     frame: &FrameImage,
     finding: &FrameFinding,
 ) -> Result<Vec<Line>, AllocError>
-    ensures { IfOk result (λ lines. FrameLines machine window.now frame.now cert.now.entries finding.now lines.items) }
+    ensures { IfOk result (λ lines. FrameLines inputs.now.machine inputs.now.window (option_copied rom.entry) frame.now cert.now.entries
+        finding.now lines.items) }
 {
+    let machine = inputs.machine;
     let at = finding.fault.word;
     let number = finding.fault.number();
     let callee = callee_of(&finding.found);
@@ -70,11 +73,13 @@ fn frame_lines(
         ..RefusedItem::new(&framed, Kind::Frame, 0, at, finding.before, callee)
     };
     let why = Why::of_frame(machine, finding, frame);
+    let furthest = furthest_line(rom, cert, finding);
     let mut lines = Lines::new(alloc);
     lines.push_machine(machine);
-    lines.push_some(zone_line(window));
+    lines.push_some(zone_line(&inputs.window));
     lines.push(Line::Rule(number));
     lines.push(Line::Why(why));
+    lines.push_some(furthest);
     item.push_lines(Role::Refused, &mut lines);
     lines.push(Line::WhatToDo(number));
     lines.finish()

@@ -9,6 +9,7 @@ use crate::line::{
     AcceptedLine, EntryName, Instruction, ItemLine, Line, MadeLine, MakerChain, PathLine, Role,
     Words, Zeros,
 };
+use crate::middle::Middle;
 use crate::remarks::Remark;
 use crate::sentences::push_why;
 use crate::swapped::Swapped;
@@ -137,6 +138,16 @@ fn push_line(text: &mut Text, telling: Telling, line: &Line) {
             push_why(text, why);
             text.push("\n");
         }
+        Line::Furthest(item) => {
+            push_item(text, "reaches furthest: ", item);
+            text.push("\n");
+        }
+        Line::ByteAddress { at, word } => push_byte_address(text, *at, *word),
+        Line::JumpsInto(Middle { jump, into }) => {
+            push_item(text, "jumps into: ", into);
+            push_item(text, ", by ", jump);
+            text.push("\n");
+        }
         Line::CertificateLine(line) => push_count(text, "certificate line: ", *line, ""),
         Line::Column(column) => {
             text.push_number("column: ", *column);
@@ -181,6 +192,13 @@ fn push_making_stops(text: &mut Text, at: u16, why: &Why) {
         }
     }
     text.push("\n");
+}
+
+/// The word that a called address means as that of a byte.
+fn push_byte_address(text: &mut Text, at: u16, word: u16) {
+    text.push_addressed("byte address: taken as one, ", at);
+    text.push_addressed(" is word ", word);
+    text.push("; calls take word addresses\n");
 }
 
 /// A line of a count between two texts.

@@ -1,6 +1,8 @@
 //! The items that lead to an item: the one right before it, and zeros.
 
-ghost use Rattle.std.specs.Prelude.{◌<◌, IfSome};
+ghost use Rattle.std.specs.Prelude.{◌≡◌, ◌<◌, IfSome};
+ghost use Rattle.dvg_words.specs.Decoding.{cell_at};
+ghost use Rattle.dvg_words.specs.declared.instruction.Cell.TheVariants.{Holds};
 ghost use Rattle.dvg_words.specs.declared.map.TheConstants.{ADDRESS_END};
 
 use crate::item::words_at;
@@ -55,7 +57,9 @@ fn are_zeros<F: Fetch>(words: &F, at: u16) -> bool {
 
 /// The item at this word address, if one stands there and the address is below another.
 pub fn item_below<F: Fetch>(words: &F, here: Option<u16>, end: u16) -> Option<Item>
-    ensures { IfSome result (λ item. item.at < ADDRESS_END) }
+    ensures address { IfSome result (λ item. item.at < ADDRESS_END) }
+    ensures below { IfSome result (λ item. item.at < end) }
+    ensures stands { IfSome result (λ item. cell_at (F.words words.now) item.at ≡ Holds item.format item.instr) }
 {
     let at = here?;
     if at >= end {

@@ -278,7 +278,7 @@ pub const FRAME_OUTSIDE_WINDOW: Rule = Rule {
     line: "refused 46 frame at 002",
     heading: "Shortest input",
     input: "`A000 0000 F510`",
-    cure: "move the place, or draw a smaller size or scale; in a given certificate claim the least box; without `--clip`, give `--board --clip`, or a wider `--window` where it is smaller than the screen; dark moves may leave it",
+    cure: "move the place, or draw a smaller size or scale; see that a called shape is drawn as you mean it; in a given certificate claim the least box; without `--clip`, give `--board --clip`, or a wider `--window` where it is smaller than the screen; dark moves may leave it",
 };
 
 pub const FRAME_NO_ENTRY: Rule = Rule {
@@ -413,7 +413,7 @@ pub const OWN_SHAPE_OUTSIDE_WINDOW: Rule = Rule {
 
 /// What is told of 46 where no certificate was given.
 pub const OWN_FRAME_OUTSIDE_WINDOW: Rule = Rule {
-    cure: "move the place, or draw a smaller size or scale; without `--clip`, give `--board --clip`, or a wider `--window` where it is smaller than the screen; dark moves may leave it",
+    cure: "move the place, or draw a smaller size or scale; see that a called shape is drawn as you mean it; without `--clip`, give `--board --clip`, or a wider `--window` where it is smaller than the screen; dark moves may leave it",
     ..FRAME_OUTSIDE_WINDOW
 };
 

@@ -1,0 +1,31 @@
+//! The stroke of a called shape that is told beside a refusal of the call.
+
+ghost use Rattle.std.specs.Prelude.{option_copied};
+ghost use Rattle.dvg_account.specs.Furthest.{TellsFurthest};
+ghost use Rattle.dvg_account.specs.Items.{callee_of};
+
+use crate::item::callee_of;
+use crate::line::Line;
+use dvg_cert::{Cert, Entries, ListIndex};
+use dvg_check::{FrameCause, FrameFinding};
+use dvg_survey::furthest_stroke;
+use dvg_words::RomImage;
+
+/// The line of the stroke by which a called shape reaches furthest past the edge that its box leaves, where a frame is refused because
+/// of that box.
+#[tactic(auto, using(dvg_items::proofs::Listed::listed_at))]
+pub fn furthest_line(rom: Option<&RomImage>, cert: &Cert, finding: &FrameFinding) -> Option<Line>
+    ensures { TellsFurthest (option_copied rom.entry) cert.now.entries finding.now.cause (callee_of finding.now.found) result }
+{
+    let (Some(rom), FrameCause::OffScreen(leaving), Some(called)) = (
+        rom,
+        finding.cause,
+        callee_of(&finding.found),
+    ) else {
+        return None;
+    };
+    let entries = ListIndex::new(cert);
+    let entry = entries.find(called.addr, called.key)?;
+    let stroke = furthest_stroke(rom, cert, &entries, &entry, leaving.edge)?;
+    Some(Line::Furthest(stroke))
+}
