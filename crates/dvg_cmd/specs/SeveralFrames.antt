@@ -1,12 +1,12 @@
 -- What a run writes of several frames that are judged one after another. All of it is this project's own.
-use Rattle.std.specs.Prelude.{◌≡◌, ℕ, Bool, true, false, if◌then◌else◌, List, [], ◌∷◌, ◌++◌, length, Option, None, Some, option_map, string_bytes, Result, Ok, Err}
+use Rattle.std.specs.Prelude.{◌≡◌, ℕ, Bool, true, false, if◌then◌else◌, List, [], ◌∷◌, ◌++◌, length, Option, None, Some, string_bytes, Result, Ok, Err}
 use Rattle.std.specs.Io.KnownBytes.{Appends}
 use Rattle.std.specs.Iterator.{Drains, Yields}
 use Rattle.dvg_words.specs.declared.machine.Machine.{Machine}
 use Rattle.dvg_words.specs.Memory.{rom_on, IsRomLength}
 use Rattle.dvg_words.specs.Values.{Window}
 use Rattle.dvg_words.specs.declared.image.ImageFault.TheVariants.{RomLength}
-use Rattle.dvg_text.specs.Devices.{AppendsPrefix, TakesOneWrite}
+use Rattle.dvg_text.specs.Devices.{AppendsPrefix, TakesOneWrite, count_after}
 use Rattle.dvg_cert.specs.Order.{Certificate}
 use Rattle.dvg_cert.specs.declared.fault.CertFault.{CertFault}
 use Rattle.dvg_check.specs.FirstFault.{FirstShapeFault}
@@ -25,26 +25,16 @@ use Rattle.dvg_cmd.specs.declared.listing.Lines.TheVariants as which
 use Rattle.dvg_cmd.specs.declared.listing.Listing.{Listing}
 use Rattle.dvg_cmd.specs.declared.several_frames.NamedFrame.{NamedFrame}
 use Rattle.dvg_cmd.specs.Runs.{Outcome, WritesReport, WritesReportPrefix}
-use Rattle.dvg_cmd.specs.Frames.{FrameAnswer, Unread, FrameOutcome, frame_outcome_of, worse, frame_line, Judging, AnswersFrame, judged_over}
+use Rattle.dvg_cmd.specs.Frames.{FrameAnswer, Unread, FrameOutcome, frame_outcome_of, worse, frame_line, is_unread, Judging, AnswersFrame, judged_over}
 
--- a frame whose turn it is: its name, and what its reader holds; `None` if it can't be opened
-pub record OpenedFrame : Type 0 where
-  pub name : List ℕ
-  pub held : Option (Option (List ℕ))
-
--- the frame whose turn it is, by what its reader holds
-abbrev pub opened : {R : Type 0} → (R → Option (List ℕ)) → NamedFrame R → OpenedFrame
-opened remaining frame = record { name = string_bytes frame.name; held = option_map remaining frame.reader }
-
--- an iterator gave frames and then none, or some frames, and P holds of what they are
-module _ {I R : Type 0} (next_gives : I → Option (NamedFrame R) → I → Type 0) (remaining : R → Option (List ℕ))
-    (frames : I) (P : List OpenedFrame → Type 0) where
+module _ {I R : Type 0} (next_gives : I → Option (NamedFrame R) → I → Type 0) (frames : I) (P : List (NamedFrame R) → Type 0) where
+  -- an iterator gave these frames and then none, and P holds of them
   abbrev pub HoldsOfAll : Type 0
-  HoldsOfAll = (taken : List (NamedFrame R)) × Drains next_gives frames taken × P (of_each (opened remaining) taken)
+  HoldsOfAll = (taken : List (NamedFrame R)) × Drains next_gives frames taken × P taken
 
-  -- it gave some frames, and P holds of what they are
+  -- it gave these frames first, and P holds of them
   abbrev pub HoldsOfTaken : Type 0
-  HoldsOfTaken = (taken : List (NamedFrame R)) × (left : I) × Yields next_gives frames taken left × P (of_each (opened remaining) taken)
+  HoldsOfTaken = (taken : List (NamedFrame R)) × (left : I) × Yields next_gives frames taken left × P taken
 
 -- the line of a frame's answer: the name, the answer, and what is behind the line
 pub record Line : Type 0 where
@@ -104,20 +94,24 @@ abbrev pub worst_of : FrameOutcome → List Line → FrameOutcome
 worst_of end [] = end
 worst_of end (line ∷ rest) = worst_of (worse end (line_outcome line)) rest
 
-module _ (j : Judging) (listing : Listing) (start : Option ℕ) where
-  -- the answer to a frame: `Unread` if it can't be opened, else the answer to what its reader held
-  abbrev pub AnswersOpened : Option (Option (List ℕ)) → FrameAnswer → Type 0
+-- `remaining` is what a reader still holds, and `failures` its count of failed reads
+module _ {R : Type 0} (remaining : R → Option (List ℕ)) (failures : R → ℕ)
+    (j : Judging) (listing : Listing) (start : Option ℕ) where
+  -- the answer to a frame: `Unread` if it can't be opened; else the answer to what its reader held, `Unread` exactly where a read failed
+  abbrev pub AnswersOpened : Option R → FrameAnswer → Type 0
   AnswersOpened None answer = answer ≡ Unread
-  AnswersOpened (Some reader) answer = (left : Option (List ℕ)) × AnswersFrame j start reader left answer
+  AnswersOpened (Some reader) answer =
+      (left : R) × AnswersFrame j start (remaining reader) (remaining left) answer
+      × (failures left ≡ count_after (is_unread answer) (failures reader))
 
   -- the line of a frame: its name, the answer to it, and behind the line what the detail asks for
-  pub record IsLineOf (frame : OpenedFrame) (line : Line) : Type 0 where
-    pub name_is : line.name ≡ frame.name
-    pub answers : AnswersOpened frame.held line.answer
+  pub record IsLineOf (frame : NamedFrame R) (line : Line) : Type 0 where
+    pub name_is : line.name ≡ string_bytes frame.name
+    pub answers : AnswersOpened frame.reader line.answer
     pub asked : IsBehind listing.detail line.behind
 
   -- a line for each frame, in the order of the frames
-  abbrev pub AreLinesOf : List OpenedFrame → List Line → Type 0
+  abbrev pub AreLinesOf : List (NamedFrame R) → List Line → Type 0
   AreLinesOf [] [] = Unit {0}
   AreLinesOf (frame ∷ frames) (line ∷ lines) = IsLineOf frame line × AreLinesOf frames lines
   AreLinesOf frames lines = ⊥
@@ -125,7 +119,7 @@ module _ (j : Judging) (listing : Listing) (start : Option ℕ) where
   -- of a line for each of these frames those were written that the listing has, and its summary, and nothing else; the outcome is the
   -- worst of all of them
   pub record ReportsFrames
-      (frames : List OpenedFrame) (old new : Option (List ℕ)) (writes writes_after : ℕ) (end : FrameOutcome) : Type 0 where
+      (frames : List (NamedFrame R)) (old new : Option (List ℕ)) (writes writes_after : ℕ) (end : FrameOutcome) : Type 0 where
     pub lines : List Line
     pub lines_of : AreLinesOf frames lines
     pub written : Appends old new (joined (listing_texts listing lines))
@@ -133,7 +127,7 @@ module _ (j : Judging) (listing : Listing) (start : Option ℕ) where
     pub outcome_is : end ≡ worst_of outcome.Accepted lines
 
   -- a prefix of that was written, and nothing else
-  pub record ReportsFramesPrefix (frames : List OpenedFrame) (old new : Option (List ℕ)) : Type 0 where
+  pub record ReportsFramesPrefix (frames : List (NamedFrame R)) (old new : Option (List ℕ)) : Type 0 where
     pub lines : List Line
     pub lines_of : AreLinesOf frames lines
     pub written : AppendsPrefix old new (joined (listing_texts listing lines))

@@ -1,7 +1,7 @@
 //! Reading the names of a list, one after another.
 
-ghost use Rattle.std.specs.Prelude.{◌≡◌, ◌++◌, [], ◌∷◌, take, option_map, IfOk, OnOk};
-ghost use Rattle.dvg_cmd.specs.Names.{MOST_NAME_READ, ReadsNext, end_byte};
+ghost use Rattle.std.specs.Prelude.{◌≡◌, ◌++◌, [], ◌∷◌, take, option_map, IfOk, OnOk, OnErr};
+ghost use Rattle.dvg_cmd.specs.Names.{MOST_NAME_READ, FailsName, ReadsNext, end_byte};
 
 use arrayvec::ArrayVec;
 use dvg_text::CountedRead;
@@ -41,11 +41,14 @@ fn keep(name: &mut NameBytes, byte: u8)
 
 /// The next name that a list holds, or `None` at its end. It is read through the byte behind it, which the last name may lack; of a
 /// name over 4096 bytes 4097 are kept. A name may be empty.
+/// An error is that of a read that failed, or that 2^64 - 1 bytes were read and none of them is the byte behind a name.
 #[tactic(auto, using(crate::proofs::Naming::first_byte, crate::proofs::Naming::one_byte))]
 pub fn read_name<R: CountedRead>(list: &mut R, end: NameEnd) -> io::Result<Option<NameBytes>>
     ensures name { IfOk result (λ name. ReadsNext (end_byte end) (R.remaining list.old) (R.remaining list.new)
         (option_map (λ kept. kept.items) name)) }
     ensures count { OnOk result (R.failures list.new ≡ R.failures list.old) }
+    ensures failed { OnErr result (FailsName (end_byte end) (R.remaining list.old) (R.remaining list.new)
+        (R.failures list.old) (R.failures list.new)) }
 {
     let mut name = NameBytes::new();
     let mut byte = [0];

@@ -1,6 +1,6 @@
 //! Running a judge of frames on several frames, one after another.
 
-ghost use Rattle.std.specs.Prelude.{◌≡◌, ◌⊎◌, [], ◌∷◌, length, Ok, Err, IfOk, IfErr, OnOk, OnErr, is_err, option_map};
+ghost use Rattle.std.specs.Prelude.{◌≡◌, ◌⊎◌, [], ◌∷◌, length, Ok, Err, IfOk, IfErr, OnOk, OnErr, is_err};
 ghost use Rattle.std.specs.Io.KnownBytes.{Appends};
 ghost use Rattle.std.specs.Iterator.{IsFinite};
 ghost use Rattle.dvg_words.specs.Memory.{IsRomLength};
@@ -10,7 +10,7 @@ ghost use Rattle.dvg_spelling.specs.Outcomes.{plain_outcome};
 ghost use Rattle.dvg_spelling.specs.declared.outcome.Outcome.{Outcome as Plain};
 ghost use Rattle.dvg_cmd.specs.Detail.{IsBehind};
 ghost use Rattle.dvg_cmd.specs.Runs.{WritesReport, WritesReportPrefix};
-ghost use Rattle.dvg_cmd.specs.SeveralFrames.{AnswersOpened, HoldsOfAll, HoldsOfTaken, TakeOneWriteEach, joined, line_outcome, line_texts, opened, summary_of, ReportsFrames, ReportsFramesPrefix, ReportsRefusal, ReportsRefusalPrefix, RefusesShapes, judged_given};
+ghost use Rattle.dvg_cmd.specs.SeveralFrames.{AnswersOpened, HoldsOfAll, HoldsOfTaken, TakeOneWriteEach, joined, line_outcome, line_texts, summary_of, ReportsFrames, ReportsFramesPrefix, ReportsRefusal, ReportsRefusalPrefix, RefusesShapes, judged_given};
 ghost use Rattle.dvg_cmd.specs.Private.Named.{WritesLineOf, WritesLineOfPrefix};
 
 use crate::detail::{Behind, Detail};
@@ -59,8 +59,7 @@ fn answer_opened<J: FrameJudge, R: CountedRead + Drop>(
     listing: Listing,
 ) -> (FrameAnswer, Behind)
     requires { J.valid judge.now listing.detail }
-    ensures answers { AnswersOpened (J.judging judge.now) listing.entry start
-        (option_map (λ reader. R.remaining reader) reader) result.0 }
+    ensures answers { AnswersOpened R.remaining R.failures (J.judging judge.now) listing.entry start reader result.0 }
     ensures behind { IsBehind listing.entry.detail result.1 }
 {
     match reader {
@@ -110,11 +109,11 @@ fn run_named<J: FrameJudge, R: CountedRead + Drop, W: CountedWrite>(
     out: &mut W,
 ) -> Result<FrameOutcome, RunFault>
     requires { J.valid judge.now listing.detail }
-    ensures ok { IfOk result (WritesLineOf (J.judging judge.now) listing.entry start
-        (opened (λ reader. R.remaining reader) frame) (W.contents out.old) (W.contents out.new) tally.old tally.new
+    ensures ok { IfOk result (WritesLineOf R.remaining R.failures (J.judging judge.now) listing.entry start
+        frame (W.contents out.old) (W.contents out.new) tally.old tally.new
         (W.whole_writes out.old) (W.whole_writes out.new)) }
-    ensures prefix { OnErr result (WritesLineOfPrefix (J.judging judge.now) listing.entry start
-        (opened (λ reader. R.remaining reader) frame) (W.contents out.old) (W.contents out.new)) }
+    ensures prefix { OnErr result (WritesLineOfPrefix R.remaining R.failures (J.judging judge.now) listing.entry start
+        frame (W.contents out.old) (W.contents out.new)) }
     ensures fault { IfErr result (λ fault. fault ≡ RunFault.Write) }
     ensures count { W.failures out.new ≡ count_after (is_err result) (W.failures out.old) }
 {
@@ -162,13 +161,14 @@ pub fn run_frames<
     requires ends { IsFinite (I.remaining frames) }
 
     // A line is written for each frame that the listing has, in their order, and then the summary, each by one write if it fits one.
-    ensures report { IfOk result (λ end. HoldsOfAll I.next_gives (λ reader. R.remaining reader) frames (λ opened.
-        ReportsFrames (J.judging judge.now) listing.entry start opened (W.contents out.old) (W.contents out.new)
+    ensures report { IfOk result (λ end. HoldsOfAll I.next_gives frames (λ taken.
+        ReportsFrames R.remaining R.failures (J.judging judge.now) listing.entry start taken (W.contents out.old) (W.contents out.new)
         (W.whole_writes out.old) (W.whole_writes out.new) end)) }
 
     // Where the writer failed, a prefix of what is written of the frames that were taken.
-    ensures prefix { OnErr result (HoldsOfTaken I.next_gives (λ reader. R.remaining reader) frames (λ opened.
-        ReportsFramesPrefix (J.judging judge.now) listing.entry start opened (W.contents out.old) (W.contents out.new))) }
+    ensures prefix { OnErr result (HoldsOfTaken I.next_gives frames (λ taken.
+        ReportsFramesPrefix R.remaining R.failures (J.judging judge.now) listing.entry start taken
+        (W.contents out.old) (W.contents out.new))) }
     ensures fault { IfErr result (λ fault. fault ≡ RunFault.Write) }
     ensures count { W.failures out.new ≡ count_after (is_err result) (W.failures out.old) }
 {
@@ -279,9 +279,10 @@ pub fn run_frames_given<
     ensures report { IfOk result (λ end. ReportsRefusal options.now.machine listing.entry.detail options.now.window rom.now cert.now
         (W.contents out.old) (W.contents out.new) (W.whole_writes out.old) (W.whole_writes out.new) end
         ⊎ IfOk cert.now (λ given. IsRomLength given.map (length rom.now)
-        × HoldsOfAll I.next_gives (λ reader. R.remaining reader) frames (λ opened.
-        ReportsFrames (judged_given options.now.machine options.now.window rom.now given options.now.budget) listing.entry
-        options.now.start opened (W.contents out.old) (W.contents out.new) (W.whole_writes out.old) (W.whole_writes out.new) end))) }
+        × HoldsOfAll I.next_gives frames (λ taken.
+        ReportsFrames R.remaining R.failures
+        (judged_given options.now.machine options.now.window rom.now given options.now.budget) listing.entry options.now.start taken
+        (W.contents out.old) (W.contents out.new) (W.whole_writes out.old) (W.whole_writes out.new) end))) }
     // Without a certificate it is the refusal.
     ensures refused { IfOk result (λ end. IfErr cert.now (λ fault. ReportsRefusal options.now.machine listing.entry.detail
         options.now.window rom.now cert.now (W.contents out.old) (W.contents out.new) (W.whole_writes out.old)
@@ -291,9 +292,10 @@ pub fn run_frames_given<
     ensures prefix { OnErr result (ReportsRefusalPrefix options.now.machine listing.entry.detail options.now.window rom.now cert.now
         (W.contents out.old) (W.contents out.new)
         ⊎ IfOk cert.now (λ given. IsRomLength given.map (length rom.now)
-        × HoldsOfTaken I.next_gives (λ reader. R.remaining reader) frames (λ opened.
-        ReportsFramesPrefix (judged_given options.now.machine options.now.window rom.now given options.now.budget) listing.entry
-        options.now.start opened (W.contents out.old) (W.contents out.new)))) }
+        × HoldsOfTaken I.next_gives frames (λ taken.
+        ReportsFramesPrefix R.remaining R.failures
+        (judged_given options.now.machine options.now.window rom.now given options.now.budget) listing.entry options.now.start taken
+        (W.contents out.old) (W.contents out.new)))) }
     ensures fault { IfErr result (λ fault. fault ≡ RunFault.Write) }
     ensures count { W.failures out.new ≡ count_after (is_err result) (W.failures out.old) }
 {

@@ -6,33 +6,35 @@ use Rattle.dvg_spelling.specs.declared.tally.Tally.{Tally}
 use Rattle.dvg_spelling.specs.Tally.{with_answer}
 use Rattle.dvg_spelling.specs.declared.outcome.FrameOutcome.TheVariants as outcome
 use Rattle.dvg_cmd.specs.declared.listing.Listing.{Listing}
+use Rattle.dvg_cmd.specs.declared.several_frames.NamedFrame.{NamedFrame}
 use Rattle.dvg_cmd.specs.Frames.{FrameOutcome, Judging}
-use Rattle.dvg_cmd.specs.SeveralFrames.{OpenedFrame, Line, line_outcome, line_texts, joined, TakeOneWriteEach, worst_of, tally_on, IsLineOf, AreLinesOf}
+use Rattle.dvg_cmd.specs.SeveralFrames.{Line, line_outcome, line_texts, joined, TakeOneWriteEach, worst_of, tally_on, IsLineOf, AreLinesOf}
 
-module _ (j : Judging) (listing : Listing) (start : Option ℕ) where
+module _ {R : Type 0} (remaining : R → Option (List ℕ)) (failures : R → ℕ)
+    (j : Judging) (listing : Listing) (start : Option ℕ) where
   -- the line of a frame was written if the listing has it, and nothing else; it was counted
   pub record WritesLineOf
-      (frame : OpenedFrame) (old new : Option (List ℕ)) (tally tally_after : Tally) (writes writes_after : ℕ)
+      (frame : NamedFrame R) (old new : Option (List ℕ)) (tally tally_after : Tally) (writes writes_after : ℕ)
       (end : FrameOutcome) : Type 0 where
     pub line : Line
-    pub line_of : IsLineOf j listing start frame line
+    pub line_of : IsLineOf remaining failures j listing start frame line
     pub written : Appends old new (joined (line_texts listing.lines (line ∷ [])))
     pub one_write : TakeOneWriteEach (line_texts listing.lines (line ∷ [])) writes writes_after
     pub end_is : line_outcome line ≡ end
     pub tally_is : tally_after ≡ with_answer tally line.answer
 
   -- a prefix of it was written
-  pub record WritesLineOfPrefix (frame : OpenedFrame) (old new : Option (List ℕ)) : Type 0 where
+  pub record WritesLineOfPrefix (frame : NamedFrame R) (old new : Option (List ℕ)) : Type 0 where
     pub line : Line
-    pub line_of : IsLineOf j listing start frame line
+    pub line_of : IsLineOf remaining failures j listing start frame line
     pub written : AppendsPrefix old new (joined (line_texts listing.lines (line ∷ [])))
 
   -- so were those of several frames
   pub record WritesLinesOf
-      (frames : List OpenedFrame) (old new : Option (List ℕ)) (tally tally_after : Tally) (writes writes_after : ℕ)
+      (frames : List (NamedFrame R)) (old new : Option (List ℕ)) (tally tally_after : Tally) (writes writes_after : ℕ)
       (end : FrameOutcome) : Type 0 where
     pub lines : List Line
-    pub lines_of : AreLinesOf j listing start frames lines
+    pub lines_of : AreLinesOf remaining failures j listing start frames lines
     pub written : Appends old new (joined (line_texts listing.lines lines))
     pub one_write : TakeOneWriteEach (line_texts listing.lines lines) writes writes_after
     pub outcome_is : end ≡ worst_of outcome.Accepted lines
