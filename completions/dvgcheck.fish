@@ -32,7 +32,7 @@ complete -c dvgcheck -n '__dvgcheck_in frames' -l cert -r -F -d 'Judges all fram
 complete -c dvgcheck -n '__dvgcheck_in frames' -l budget -x -d 'How many words a frame may take at most'
 complete -c dvgcheck -n '__dvgcheck_in frames' -l window -x -d 'Where the screen may be lit'
 complete -c dvgcheck -n '__dvgcheck_in frames' -l clip -d 'Lets lit strokes reach from -1024 to 2047'
-complete -c dvgcheck -n '__dvgcheck_in frames' -l start -x -d 'Judges each frame from this word address on'
+complete -c dvgcheck -n '__dvgcheck_in frames' -l start -x -d 'Judges each frame from this word address or label on'
 complete -c dvgcheck -n '__dvgcheck_in frames' -l labels -r -F -d 'The labels of the program'
 complete -c dvgcheck -n '__dvgcheck_in frames' -l list -r -F -d 'Judges the frames that this file names'
 complete -c dvgcheck -n '__dvgcheck_in frames' -l null -d 'Names in the list end with NUL'
@@ -80,7 +80,7 @@ complete -c dvgcheck -n '__dvgcheck_in explain frames' -l cert -r -F -d 'Judges 
 complete -c dvgcheck -n '__dvgcheck_in explain frames' -l budget -x -d 'How many words a frame may take at most'
 complete -c dvgcheck -n '__dvgcheck_in explain frames' -l window -x -d 'Where the screen may be lit'
 complete -c dvgcheck -n '__dvgcheck_in explain frames' -l clip -d 'Lets lit strokes reach from -1024 to 2047'
-complete -c dvgcheck -n '__dvgcheck_in explain frames' -l start -x -d 'Judges each frame from this word address on'
+complete -c dvgcheck -n '__dvgcheck_in explain frames' -l start -x -d 'Judges each frame from this word address or label on'
 complete -c dvgcheck -n '__dvgcheck_in explain frames' -l labels -r -F -d 'The labels of the program'
 complete -c dvgcheck -n '__dvgcheck_in explain frames' -s h -l help -d 'Prints help'
 

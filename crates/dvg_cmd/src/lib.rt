@@ -94,6 +94,7 @@ pub use dvg_words::ASTEROIDS;
 pub use dvg_words::CLIPPED;
 pub use dvg_words::ImageFault;
 pub use dvg_words::Machine;
+pub use dvg_words::RAM_WORDS;
 pub use dvg_words::RomImage;
 pub use dvg_words::RomMap;
 pub use dvg_words::SCREEN;

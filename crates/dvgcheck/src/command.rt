@@ -12,8 +12,8 @@ use clap::error::ErrorKind;
 use clap::{Arg, ArgMatches, Command, value_parser};
 use dvg_cmd::{
     ASTEROIDS, CLIPPED, CheckOptions, Detail, FrameOptions, Key, Labels, Lines, Listing, Machine,
-    Mode, NameEnd, RomMap, RootFault, Rule, SCREEN, Unnamed, Window, map_of, root_by, rule_of,
-    start_of, window_of,
+    Mode, NameEnd, RAM_WORDS, RomMap, RootFault, Rule, SCREEN, Unnamed, Window, map_of, root_by,
+    rule_of, start_of, window_of,
 };
 use std::alloc::{AllocError, AllocFailed, Global};
 use std::{env, io};
@@ -37,8 +37,8 @@ pub enum ArgumentFault<'a> {
     Unreadable,
     /// This word has not its form.
     Word(Form, &'a str),
-    /// The label that this root names is at no word's address, or at several.
-    Label(Unnamed, &'a str),
+    /// The label that this root or start names is at no word's address, or at several.
+    Label(Form, Unnamed, &'a str),
     /// Nothing says what a certificate is to be made of.
     NoRoot,
     /// More than one file is `-`.
@@ -52,7 +52,7 @@ impl<'a> ArgumentFault<'a> {
     pub fn message(self, alloc: Global) -> Result<String, AllocError> {
         let line = match self {
             ArgumentFault::Word(form, word) => return form.message(alloc, word),
-            ArgumentFault::Label(why, word) => return label_message(alloc, why, word),
+            ArgumentFault::Label(form, why, word) => return form.label_message(alloc, why, word),
             ArgumentFault::Unreadable => "dvgcheck: cannot read the command line",
             ArgumentFault::NoRoot => "dvgcheck: no root: a ROOT, as 800/0, or --frame FRAME wanted",
             ArgumentFault::StandardInputTwice => "dvgcheck: standard input is given twice",
@@ -60,16 +60,6 @@ impl<'a> ArgumentFault<'a> {
         };
         String::from_str(alloc, line)
     }
-}
-
-/// The line on standard error, without its LF, about a root whose label names no word.
-fn label_message(alloc: Global, why: Unnamed, word: &str) -> Result<String, AllocError> {
-    let root = shown(alloc, word)?;
-    let why = match why {
-        Unnamed::Unknown => "no label with this name is at a word",
-        Unnamed::Several => "labels with this name are at several words",
-    };
-    format!(in alloc; "dvgcheck: bad root {root}: {why}")
 }
 
 impl<'a> From<ArgumentFault<'a>> for Usage<'a> {
@@ -434,12 +424,27 @@ fn map_of_args<'a>(args: &ArgMatches<'a>) -> Result<RomMap, ArgumentFault<'a>> {
     }
 }
 
-fn start_of_args<'a>(args: &ArgMatches<'a>) -> Result<Option<u16>, ArgumentFault<'a>> {
+/// The start that a word spells: a word address, or else by these labels one that stands in vector RAM.
+fn start_of_word<'a>(word: &'a str, labels: Option<&Labels>) -> Result<u16, ArgumentFault<'a>> {
+    if let Some(start) = start_of(word) {
+        return Ok(start);
+    }
+    let Some(labels) = labels else {
+        return Err(ArgumentFault::Word(Form::Start, word));
+    };
+    match labels.address_of(word.as_bytes()) {
+        Ok(start) if start < RAM_WORDS => Ok(start),
+        Ok(_) => Err(ArgumentFault::Label(Form::Start, Unnamed::Unknown, word)),
+        Err(why) => Err(ArgumentFault::Label(Form::Start, why, word)),
+    }
+}
+
+fn start_of_args<'a>(
+    args: &ArgMatches<'a>,
+    labels: Option<&Labels>,
+) -> Result<Option<u16>, ArgumentFault<'a>> {
     match args.get_str("start") {
-        Some(start) => {
-            let start = start_of(start).ok_or(ArgumentFault::Word(Form::Start, start))?;
-            Ok(Some(start))
-        }
+        Some(start) => Ok(Some(start_of_word(start, labels)?)),
         None => Ok(None),
     }
 }
@@ -497,11 +502,14 @@ fn one_standard_input<'a>(args: &ArgMatches<'a>, names: &[&str]) -> Result<(), A
 }
 
 /// The options of `frames`, and where the ROM lies.
-fn frame_options<'a>(args: &ArgMatches<'a>) -> Result<(RomMap, FrameOptions), ArgumentFault<'a>> {
+fn frame_options<'a>(
+    args: &ArgMatches<'a>,
+    labels: Option<&Labels>,
+) -> Result<(RomMap, FrameOptions), ArgumentFault<'a>> {
     one_standard_input(args, &["ROM", "FRAME", "list", "cert", "labels"])?;
     let map = map_of_args(args)?;
     let window = window_of_args(args)?;
-    let start = start_of_args(args)?;
+    let start = start_of_args(args, labels)?;
     let budget = budget_of_args(args);
     Ok((
         map,
@@ -561,8 +569,9 @@ fn frames_args<'a>(
     rt: &HostRuntime,
     args: &ArgMatches<'a>,
     listing: Listing<'a>,
+    labels: Option<&Labels>,
 ) -> Result<FramesArgs<'a>, Usage<'a>> {
-    let (map, options) = frame_options(args)?;
+    let (map, options) = frame_options(args, labels)?;
     let certificates = match args.get_str("cert") {
         Some(cert) => Certificates::Given(Input::named(rt, cert)),
         None => Certificates::Made(map),
@@ -613,7 +622,7 @@ fn root_of_word<'a>(
     match root_by(labels, word) {
         Ok(root) => Ok(root),
         Err(RootFault::Form) => Err(ArgumentFault::Word(Form::Root, word)),
-        Err(RootFault::Label(why)) => Err(ArgumentFault::Label(why, word)),
+        Err(RootFault::Label(why)) => Err(ArgumentFault::Label(Form::Root, why, word)),
     }
 }
 
@@ -673,7 +682,10 @@ fn explain_request<'a>(
             let args = check_args(rt, args, &["ROM", "CERT", "FRAME", "labels"])?;
             Ok(Request::Check(args, Detail::Account(labels)))
         }
-        Some(("frames", args)) => { Ok(Request::Frames(frames_args(rt, args, explained(labels))?)) }
+        Some(("frames", args)) => {
+            let args = frames_args(rt, args, explained(labels), labels)?;
+            Ok(Request::Frames(args))
+        }
         Some(("make", args)) => Ok(Request::ExplainMake(make_args(
             rt,
             args,
@@ -700,7 +712,10 @@ fn request_of<'a>(
     labels: Option<&'a Labels>,
 ) -> Result<Request<'a>, Usage<'a>> {
     match task {
-        Task::Frames => Ok(Request::Frames(frames_args(rt, args, listing_of_args(args))?)),
+        Task::Frames => {
+            let args = frames_args(rt, args, listing_of_args(args), labels)?;
+            Ok(Request::Frames(args))
+        }
         Task::Check => {
             let args = check_args(rt, args, &["ROM", "CERT", "FRAME"])?;
             Ok(Request::Check(args, Detail::Line))
@@ -814,7 +829,7 @@ impl<'a> Parsed<'a> {
         }
     }
 
-    /// The labels of the file that is given. It is read and closed before another is opened, since roots may be named by them.
+    /// The labels of the file that is given. It is read and closed before another is opened, since roots and starts may be named by them.
     pub fn labels(&self, rt: &HostRuntime) -> Result<Option<Labels>, LabelsFault> {
         match self.labels_path() {
             Some(path) => Ok(Some(load_labels(rt, Input::named(rt, path))?)),

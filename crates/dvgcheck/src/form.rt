@@ -1,7 +1,7 @@
 //! Forms of words on the command line, and what is said of a word that has another.
 
 use crate::escaping::shown;
-use dvg_cmd::{map_of, root_of, start_of, window_of};
+use dvg_cmd::{RomMap, Unnamed, map_of, root_of, start_of, window_of};
 use std::alloc::{AllocError, Global};
 
 /// What a word of the command line is to spell.
@@ -59,7 +59,7 @@ impl Form {
     }
 
     /// The line on standard error, without its LF, about a word that has not this form: the word, the form, and the word that was
-    /// meant if only the case of its digits is wrong.
+    /// meant, where that is known.
     pub fn message(self, alloc: Global, word: &str) -> Result<String, AllocError> {
         let name = self.name();
         let given = shown(alloc, word)?;
@@ -68,11 +68,42 @@ impl Form {
         let mut line = format!(in alloc;
             "dvgcheck: bad {name} {given}: {pattern} wanted, {parts}"
         )?;
-        let meant = self.with_capitals(alloc, word)?;
-        if self.fits(meant.as_str()) {
+        if let Some(meant) = self.meant(alloc, word)? {
             write!(line, "; did you mean {meant}?")?;
         }
         Ok(line)
+    }
+
+    /// The line about a word whose label names no word of this form.
+    pub fn label_message(
+        self,
+        alloc: Global,
+        why: Unnamed,
+        word: &str,
+    ) -> Result<String, AllocError> {
+        let name = self.name();
+        let given = shown(alloc, word)?;
+        let why = match (self, why) {
+            (Form::Start, Unnamed::Unknown) => "no label with this name is at a word of vector RAM",
+            (_, Unnamed::Unknown) => "no label with this name is at a word",
+            (_, Unnamed::Several) => "labels with this name are at several words",
+        };
+        format!(in alloc; "dvgcheck: bad {name} {given}: {why}")
+    }
+
+    /// The word that was meant, if only the case of its digits is wrong, or if the addresses of a map are the processor's.
+    fn meant(self, alloc: Global, word: &str) -> Result<Option<String>, AllocError> {
+        let capitals = self.with_capitals(alloc, word)?;
+        if self.fits(capitals.as_str()) {
+            return Ok(Some(capitals));
+        }
+        match (self, map_of_processor(word)) {
+            (Form::Map, Some(map)) => {
+                let (first, last) = (map.first(), map.last());
+                Ok(Some(format!(in alloc; "{first:03X}/{last:03X}")?))
+            }
+            _ => Ok(None),
+        }
     }
 
     /// The word with its hexadecimal digits in capitals. Those of a root stand before its slash.
@@ -93,4 +124,29 @@ fn in_capitals(alloc: Global, digits: &str) -> Result<String, AllocError> {
         capitals.push(c.to_ascii_uppercase())?;
     }
     Ok(capitals)
+}
+
+/// The map of a ROM from the processor's address of its first byte to that of a byte of its last word, with a slash between.
+fn map_of_processor(text: &str) -> Option<RomMap> {
+    let (first, last) = text.split_once('/')?;
+    let first = processor_offset(first)?;
+    let last = processor_offset(last)?;
+    if first % 2 == 1 {
+        return None;
+    }
+    RomMap::new(first / 2, last / 2)
+}
+
+/// How far an address of the processor, of four hexadecimal digits, is behind the first byte of vector RAM, 4000.
+fn processor_offset(text: &str) -> Option<u16> {
+    let [a, b, c, d] = text.as_bytes() else {
+        return None;
+    };
+    let address = digit(*a)? << 12 | digit(*b)? << 8 | digit(*c)? << 4 | digit(*d)?;
+    address.checked_sub(0x4000)
+}
+
+/// The value of a hexadecimal digit.
+fn digit(byte: u8) -> Option<u16> {
+    Some(char::from(byte).to_digit(16)? as u16)
 }

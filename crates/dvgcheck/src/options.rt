@@ -132,7 +132,7 @@ impl CommandOption {
             CommandOption::Output =>
                 "Writes the certificate to this file, which keeps what it holds until the new one is whole",
             CommandOption::Start =>
-                "Judges each frame as though its word 000 were the jump to this word address",
+                "Judges each frame as though its word 000 were the jump to this word address, or to this label of --labels",
             CommandOption::Summary =>
                 "Ends with a line that counts the frames by what is said of them",
             CommandOption::Window =>
