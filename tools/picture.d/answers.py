@@ -1,12 +1,13 @@
-"""What `dvgcheck` says of the files, and which strokes an answer is about."""
+"""What `dvgcheck` says of the files, and which strokes are refused."""
 
 import os
 import re
 import subprocess
 import tempfile
-from typing import NamedTuple
+from typing import NamedTuple, Optional, Union
 
-from inputs import KEY, Failure, entry_of
+from geometry import leave
+from inputs import KEY, Box, Failure, entry_of
 from machine import Entry, Step
 
 SECONDS = 60
@@ -14,6 +15,7 @@ SECONDS = 60
 
 class Nothing:
     """An answer about no item."""
+    at = None
 
     @staticmethod
     def is_about(_stroke):
@@ -35,6 +37,23 @@ class ShapeItem(NamedTuple):
         return Step(self.shape, self.at) in stroke.path
 
 
+class Refused(NamedTuple):
+    """What is red of a frame: the item of an answer, and with a window whatever lights outside it."""
+    first: Union[Nothing, FrameItem, ShapeItem]
+    window: Optional[Box] = None
+    others: tuple = ()      # the addresses of the frame's other items that light outside
+
+    def is_about(self, stroke):
+        outside = self.window and (stroke.path[0].at in self.others or leave([stroke], self.window))
+        return bool(outside) or self.first.is_about(stroke)
+
+
+def all_refused(first, run, window):
+    """This item, and the others of a frame that light outside the window. What a called shape lights after a LABS counts by itself."""
+    leaving = [item.at for item in run.items if leave(item.before_labs(), window)]
+    return Refused(first, window, tuple(at for at in dict.fromkeys(leaving) if first != FrameItem(at)))
+
+
 def item_of(answer):
     """The item that a line's answer is about."""
     shape = re.fullmatch(f"refused [0-9]+ shape ([0-9A-F]{{3}})/({KEY}) at ([0-9A-F]{{3}})", answer)
@@ -44,34 +63,46 @@ def item_of(answer):
     return FrameItem(int(frame[1], 16)) if frame else Nothing()
 
 
+class Account(NamedTuple):
+    answer: str
+    why: str            # empty where the account has none
+
+
+def account_of(lines):
+    """The answer is what follows the last colon and space of the first line, whatever is in a frame's name."""
+    first, *others = lines.split("\n")
+    reasons = [line[len("why: "):] for line in others if line.startswith("why: ")]
+    return Account(first.rsplit(": ", 1)[-1], reasons[0] if reasons else "")
+
+
 def file_word(name):
     """A name as a word that is a file to `dvgcheck`, whatever it begins with."""
     return os.path.join(".", name) if name.startswith("-") else name
 
 
-def run(program, words):
+def explain(program, command, options, *files):
+    words = [program, "explain", command, *options, "--", *map(file_word, files)]
     try:
-        done = subprocess.run([program, *words], stdin=subprocess.DEVNULL, stdout=subprocess.PIPE, stderr=subprocess.PIPE,
-                              check=False, timeout=SECONDS)
+        done = subprocess.run(words, stdin=subprocess.DEVNULL, stdout=subprocess.PIPE, stderr=subprocess.PIPE, check=False,
+                              timeout=SECONDS)
     except OSError as why:
         raise Failure(f"cannot run {program}: {why.strerror}") from why
     except subprocess.TimeoutExpired as why:
         raise Failure(f"{program} took over {SECONDS} seconds") from why
-    line = done.stdout.decode(errors="replace")
-    if done.returncode not in (0, 1) or not line.endswith("\n"):
-        said = (done.stderr.decode(errors="replace") or line).strip()
+    said = done.stdout.decode(errors="replace")
+    if done.returncode not in (0, 1) or not said.endswith("\n"):
+        said = (done.stderr.decode(errors="replace") or said).strip()
         raise Failure(f"{program} judged nothing, status {done.returncode}: {said}")
-    return line[:-1]
+    return account_of(said)
 
 
-def frame_answer(program, options, rom, frame):
-    """The answer of `frames`: what its line has after the frame's name."""
-    return run(program, ["frames", *options, "--", file_word(rom), file_word(frame)]).rsplit(": ", 1)[-1]
+def explain_frame(program, options, rom, frame):
+    return explain(program, "frames", options, rom, frame)
 
 
-def shapes_answer(program, options, rom, certificate):
-    """The answer of `check` for a frame that is HALT alone: it is about the certificate and its shapes."""
+def explain_shapes(program, options, rom, certificate):
+    """The account of `check` for a frame that is HALT alone: it is about the certificate and its shapes."""
     with tempfile.NamedTemporaryFile() as halt:
         halt.write(bytes([0x00, 0xB0]))
         halt.flush()
-        return run(program, ["check", *options, "--", file_word(rom), file_word(certificate), halt.name])
+        return explain(program, "check", options, rom, certificate, halt.name)

@@ -24,6 +24,9 @@ class Box(NamedTuple):
     top: int
 
 
+ZONE = Box(-1024 * FINE, 2047 * FINE, -1024 * FINE, 2047 * FINE)     # what the board clips
+
+
 class Map(NamedTuple):
     first: int
     last: int

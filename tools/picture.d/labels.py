@@ -4,6 +4,7 @@ import re
 from typing import NamedTuple
 
 from inputs import Failure, read
+from machine import JMPL, JSRL, NAMES
 
 FIRST_BYTE, LAST_BYTE = 0x4000, 0x57FF      # vector RAM and the vector ROM, as the processor sees them
 RAM_END = 0x400                             # no label of vector RAM names an address from this word on
@@ -44,3 +45,27 @@ def name_at(labels, address):
         return ""
     nearest = max(near, key=lambda label: label.at)
     return nearest.name if nearest.at == address else f"{nearest.name}+{address - nearest.at}"
+
+
+def address_text(labels, address):
+    """An address as accounts have it: `SHIP+3 (803)`, or by itself where no label is near."""
+    name = name_at(labels, address)
+    return f"{name} ({address:03X})" if name else f"{address:03X}"
+
+
+def item_text(labels, at, first):
+    """An item by its address and its first word: `LIST+7 (007) JSRL ROCK (816)`."""
+    if first is None:
+        return f"{address_text(labels, at)} missing"
+    opcode, target = first >> 12, f" {address_text(labels, first & 0xFFF)}"
+    return f"{address_text(labels, at)} {NAMES[opcode]}{target if opcode in (JSRL, JMPL) else ''}"
+
+
+def start_of(labels, word):
+    """Where a list begins: an address, or else a label that stands at one word."""
+    if re.fullmatch("[0-9A-F]{3}", word):
+        return int(word, 16)
+    places = {label.at for label in labels if label.name == word}
+    if len(places) != 1:
+        raise Failure(f"bad start: {word}")
+    return places.pop()

@@ -73,9 +73,12 @@ class Stroke(NamedTuple):
 class Item(NamedTuple):
     """An item of the list in which a run begins, and all that it lights, itself or by what it calls or jumps to."""
     at: int
-    text: str
     places_set: int
     strokes: list
+
+    def before_labs(self):
+        """What it lights before a LABS of a called shape: that is what the judge compares with the window."""
+        return [stroke for stroke in self.strokes if stroke.places_set == self.places_set]
 
 
 class Draw(NamedTuple):
@@ -136,8 +139,7 @@ class Run:
         opcode = first >> 12
         second = self.fetch() if opcode <= LABS else 0
         if not self.path:
-            target = f" {first & 0xFFF:03X}" if opcode in (JSRL, JMPL) else ""
-            self.items.append(Item(self.at, f"{self.at:03X} {NAMES[opcode]}{target}", self.places_set, []))
+            self.items.append(Item(self.at, self.places_set, []))
         actions = {LABS: self.set_place, HALT: self.halt, JSRL: self.call, RTSL: self.leave, JMPL: self.jump}
         actions.get(opcode, self.draw)(first, second)
 
