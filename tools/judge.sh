@@ -1,7 +1,7 @@
 #!/bin/sh
 # Judges files that nobody has looked at, for a board and what it clips, within limits of time and memory:
 #   judge.sh check ROM CERT FRAME     the certificate is one by make --board
-#   judge.sh frames ROM FRAME..       up to a thousand frames
+#   judge.sh frames ROM FRAME..       the ROM lies at 800 to BFF
 # docs/TOOLS.md is its page. It is unproved; it needs `dvgcheck` on the PATH, and timeout.
 command=${1:-}
 case $command in
