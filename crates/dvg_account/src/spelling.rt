@@ -138,15 +138,10 @@ fn push_line(text: &mut Text, telling: Telling, line: &Line) {
             push_why(text, why);
             text.push("\n");
         }
-        Line::Furthest(item) => {
-            push_item(text, "reaches furthest: ", item);
-            text.push("\n");
-        }
+        Line::Furthest(item) => push_items(text, &[("reaches furthest: ", item)]),
         Line::ByteAddress { at, word } => push_byte_address(text, *at, *word),
         Line::JumpsInto(Middle { jump, into }) => {
-            push_item(text, "jumps into: ", into);
-            push_item(text, ", by ", jump);
-            text.push("\n");
+            push_items(text, &[("jumps into: ", into), (", by ", jump)])
         }
         Line::CertificateLine(line) => push_count(text, "certificate line: ", *line, ""),
         Line::Column(column) => {
@@ -364,6 +359,14 @@ fn push_item(text: &mut Text, label: &str, item: &Item) {
     text.push_address(item.at);
     text.push(" ");
     push_instruction(text, item.format, &item.instr);
+}
+
+/// A line of items, each behind a label.
+fn push_items(text: &mut Text, items: &[(&str, &Item)]) {
+    for (label, item) in items {
+        push_item(text, label, item);
+    }
+    text.push("\n");
 }
 
 /// The addresses of zeros, and the item before them on a line of its own, with this before its key.
