@@ -2,9 +2,10 @@
 //! window's edges.
 //!
 //! [`survey_frame`] tells what a frame's own items call and light, [`find_chain`] by which calls it comes to a shape,
-//! [`deepest_calls`] which calls below a shape go deepest, [`frame_losses`] and [`shape_losses`] by which items the known place and
-//! the known scale were lost, [`shapes_extent`] where shapes may light something, [`Margins`] how far that is from the edges of the
-//! window, and [`entry_places`] where a call of an entry may stand.
+//! [`deepest_calls`] which calls below a shape go deepest, [`furthest_stroke`] which stroke reaches furthest towards an edge,
+//! [`frame_losses`] and [`shape_losses`] by which items the known place and the known scale were lost, [`shapes_extent`] where shapes
+//! may light something, [`Margins`] how far that is from the edges of the window, and [`entry_places`] where a call of an entry may
+//! stand.
 #![tactic(auto)]
 
 mod calls;
