@@ -1,6 +1,6 @@
 //! Shapes that read a word in which two ROMs differ.
 
-ghost use Rattle.std.specs.Prelude.{◌↔◌, ◌<◌, ℕ, Contains, IsTrue, IfSome, IfNone, IfOk};
+ghost use Rattle.std.specs.Prelude.{◌≡◌, ◌↔◌, ◌<◌, ℕ, Some, Contains, IsTrue, IfSome, IfNone, IfOk};
 ghost use Rattle.dvg_words.specs.declared.map.TheConstants.{ADDRESS_END};
 ghost use Rattle.dvg_diff.specs.Touched.{DiffersAt, taken_at, ReadsDiffering, IsTouched, AreTouched, ReachesTouched};
 
@@ -23,9 +23,10 @@ fn differs(rom: &RomImage, other: &RomImage, addr: u16) -> bool
     rom.word(addr) != other.word(addr)
 }
 
-/// A word that differs of those that are fetched for what stands at an address.
+/// A word that differs of those that are fetched for what stands at an address, the first of two.
 fn differing_at(rom: &RomImage, other: &RomImage, at: u16) -> Option<u16>
     ensures some { IfSome result (λ p. Contains (taken_at rom.now at) p × DiffersAt rom.now other.now p) }
+    ensures first { DiffersAt rom.now other.now at → result ≡ Some at }
     ensures none { IfNone result ((p : ℕ) → Contains (taken_at rom.now at) p → DiffersAt rom.now other.now p → ⊥) }
 {
     if differs(rom, other, at) {
