@@ -1,2 +1,3 @@
 pub mod Common
 mod Building
+mod Keys

@@ -23,9 +23,8 @@ abbrev pub other : Machine → Machine
 other Profile = Board
 other Board = Profile
 
--- an end, a scale and a box may be those of a certificate that was made for the other machine
+-- an end and a box may be those of a certificate that was made for the other machine
 abbrev pub other_machine_line : Machine → ShapeWhy → Option Line
 other_machine_line machine shape.EndDiffers = Some (line.MadeForOther (other machine))
-other_machine_line machine shape.ScaleDiffers = Some (line.MadeForOther (other machine))
 other_machine_line machine shape.BoxTooSmall = Some (line.MadeForOther (other machine))
 other_machine_line machine why = None

@@ -29,9 +29,9 @@ use Rattle.dvg_make.specs.declared.judging.FrameRefusal.TheVariants.{Check}
 -- else of its number
 abbrev pub RefusedLines : Inputs → Option Rom → Option (List ℕ) → Refusal → Option RomFinding → List Line → Type 0
 RefusedLines inputs rom frame refusal (Some (finding.Shape f)) lines =
-    IfSome inputs.cert (λ cert. IfSome rom (λ r. ShapeLines inputs.window r frame cert.now.entries f lines))
+    IfSome inputs.cert (λ cert. IfSome rom (λ r. ShapeLines inputs r frame cert.now.entries f lines))
 RefusedLines inputs rom frame refusal (Some (finding.Frame f)) lines =
-    IfSome inputs.cert (λ cert. IfSome frame (λ words. FrameLines inputs.machine inputs.window rom words cert.now.entries f lines))
+    IfSome inputs.cert (λ cert. IfSome frame (λ words. FrameLines inputs rom words cert.now.entries f lines))
 RefusedLines inputs rom frame refusal cause lines = (why : PlainWhy) × (lines ≡ plain_lines inputs.machine (refusal_number refusal) why)
 
 -- the lines of a verdict on inputs with these images

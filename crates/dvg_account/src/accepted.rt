@@ -46,31 +46,31 @@ impl Survey {
             (option_copied frame.entry) s)) }
     {
         match inputs.cert {
-            Some(cert) => Survey::by(alloc, inputs.machine, cert, rom, frame),
+            Some(cert) => Survey::by(alloc, inputs, cert, rom, frame),
             None => Ok(Survey::nothing(alloc)),
         }
     }
 
-    /// The survey of a ROM and a frame on a machine by a certificate, as far as their bytes are of the right length.
+    /// The survey of inputs with these images by a certificate, as far as their bytes are of the right length.
     fn by(
         alloc: Global,
-        machine: Machine,
+        inputs: &Inputs,
         cert: &Cert,
         rom: Option<&RomImage>,
         frame: Option<&FrameImage>,
     ) -> Result<Survey, AllocError>
-        ensures { IfOk result (Surveyed machine cert.now (option_copied rom.entry) (option_copied frame.entry)) }
+        ensures { IfOk result (Surveyed inputs.now.machine cert.now (option_copied rom.entry) (option_copied frame.entry)) }
     {
         let entries = HashIndex::new(alloc, cert)?;
         let frame = match frame {
-            Some(frame) => survey_frame(machine, alloc, cert, &entries, frame)?,
+            Some(frame) => survey_frame(inputs.machine, alloc, cert, &entries, frame)?,
             None => FrameSurvey::empty(alloc),
         };
         let shapes = match rom {
             Some(rom) => shapes_extent(rom, cert, &entries),
             None => LitBox::Empty,
         };
-        let remarks = remarks_on(alloc, cert, &entries, rom, &frame.faint)?;
+        let remarks = remarks_on(alloc, cert, &entries, rom, &frame.faint, inputs.labels)?;
         Ok(Survey {
             frame,
             shapes,
@@ -107,7 +107,7 @@ fn clipped_line(window: &Window, clipped: Vec<u16>) -> Option<Line>
 }
 
 /// The line of what the board answers to the same inputs, by the frame's own certificate there, unless the board was asked.
-fn board_line(alloc: Global, inputs: &Inputs) -> Result<Option<Line>, AllocError>
+pub fn board_line(alloc: Global, inputs: &Inputs) -> Result<Option<Line>, AllocError>
     ensures { IfOk result (TellsBoard inputs.now.machine inputs.now) }
 {
     let (Machine::Profile, Some(map)) = (inputs.machine, inputs.map) else {

@@ -10,6 +10,7 @@ use crate::why::{Addresses, InputWhy, Why};
 use dvg_cert::Cert;
 use dvg_check::{Mode, Refusal};
 use dvg_form::LineWhy;
+use dvg_labels::Labels;
 use dvg_words::{ImageFault, Machine, RomMap, Window};
 use std::alloc::{AllocError, Global};
 
@@ -28,6 +29,8 @@ pub struct Inputs<'a> {
     pub window: Window,
     /// Whether the certificate's counts are bounds or exact.
     pub mode: Mode,
+    /// The labels of words, if there are any.
+    pub labels: Option<&'a Labels>,
 }
 
 /// Why an answer is a refusal before any item was judged.

@@ -39,7 +39,7 @@ pub use line::{
 pub use making::{made_lines, unmade_lines};
 pub use middle::Middle;
 pub use own::{frame_lines, own_lines};
-pub use remarks::Remark;
+pub use remarks::{Beginning, Remark};
 pub use swapped::{Swapped, find_swapped};
 pub use texts::{
     certificate_text, frame_text, made_text, own_text, plain_text, unmade_text, verdict_text,

@@ -49,8 +49,12 @@ pub enum Line {
     Made(MadeLine),
     /// The other machine, for which the certificate may have been made.
     MadeForOther(Machine),
+    /// The keys of the entries that the certificate has for the called shape.
+    ClaimedScales(Vec<Key>),
     /// What to do about this number.
     WhatToDo(u8),
+    /// What to do about this number in the last word of a frame, which may be meant as its end.
+    EndWithHalt(u8),
     /// What to do about an entry that can't be made.
     MakerCure(MakerCure),
 }

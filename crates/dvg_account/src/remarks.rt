@@ -4,6 +4,7 @@ use crate::line::EntryName;
 use crate::zeros::{MOST_ITEMS, item_below};
 use dvg_cert::{Cert, Entries, Entry, Key};
 use dvg_items::{Item, Kind};
+use dvg_labels::{Labels, Nearest};
 use dvg_survey::is_faint;
 use dvg_words::{ADDRESS_END, Instr, RomImage};
 use std::alloc::{AllocError, Global};
@@ -17,11 +18,21 @@ pub enum Remark {
         first: u16,
         draws: usize,
     },
-    /// A shape runs on into this word address, at which another one begins.
+    /// A shape runs on into this word address, which is the beginning of something else.
     RunsOn {
         shape: EntryName,
         into: u16,
+        at: Beginning,
     },
+}
+
+/// What a word is the beginning of.
+#[derive(Clone, Copy)]
+pub enum Beginning {
+    /// The shape of another entry.
+    Entry,
+    /// What a label names.
+    Label,
 }
 
 /// What a walk over the items of a shape found.
@@ -29,13 +40,31 @@ pub enum Remark {
 struct Walk {
     first: Option<u16>,
     draws: usize,
-    into: Option<u16>,
+    into: Option<(u16, Beginning)>,
+}
+
+/// Which word addresses have a label, by their numbers; none where there are no labels.
+fn labelled_words(alloc: Global, labels: Option<&Labels>) -> Result<Vec<bool>, AllocError> {
+    let mut labelled = Vec::new(alloc);
+    if let Some(labels) = labels {
+        for at in 0..ADDRESS_END {
+            let nearest = labels.name_at(at);
+            labelled.push(matches!(nearest, Some(Nearest { distance: 0, .. })))?;
+        }
+    }
+    Ok(labelled)
 }
 
 impl Walk {
-    /// The walk over the shape of an entry, with the entries behind it, in their order. It ends where another shape begins at the
-    /// very scale that is known there, whose own walk goes on.
-    fn over<E: Entries>(rom: &RomImage, entries: &E, entry: &Entry, later: &[Entry]) -> Walk {
+    /// The walk over the shape of an entry, with the entries behind it, in their order, and which words have labels. It ends where
+    /// another shape begins at the very scale that is known there, whose own walk goes on.
+    fn over<E: Entries>(
+        rom: &RomImage,
+        entries: &E,
+        entry: &Entry,
+        later: &[Entry],
+        labelled: &[bool],
+    ) -> Walk {
         let mut walk = Walk {
             first: None,
             draws: 0,
@@ -52,7 +81,10 @@ impl Walk {
             scale = scale_behind(entries, &item, scale);
             here = item.next_address(Kind::Shape);
             later = from_address(later, here);
-            if walk.meets(entries, later, here, scale) {
+            let Some(at) = here else {
+                break;
+            };
+            if walk.meets(entries, later, at, scale, labelled) {
                 break;
             }
         }
@@ -67,20 +99,27 @@ impl Walk {
         }
     }
 
-    /// Notes where a shape begins, the first of these entries', and answers whether one begins there at this very scale.
+    /// Notes where a shape begins, the first of these entries', or a label stands, and answers whether a shape begins there at this
+    /// very scale.
     fn meets<E: Entries>(
         &mut self,
         entries: &E,
         later: &[Entry],
-        here: Option<u16>,
+        at: u16,
         scale: Key,
+        labelled: &[bool],
     ) -> bool {
-        match (later.first(), here) {
-            (Some(entry), Some(at)) if entry.addr == at => {
-                self.into = self.into.or(here);
+        match later.first() {
+            Some(entry) if entry.addr == at => {
+                self.into = self.into.or(Some((at, Beginning::Entry)));
                 entries.find(at, scale).is_some()
             }
-            _ => false,
+            _ => {
+                if labelled.get(usize::from(at)) == Some(&true) {
+                    self.into = self.into.or(Some((at, Beginning::Label)));
+                }
+                false
+            }
         }
     }
 
@@ -118,18 +157,21 @@ fn from_address(entries: &[Entry], here: Option<u16>) -> &[Entry] {
     }
 }
 
-/// The remarks on a frame, whose faint draws stand at these word addresses, and on the shapes of a certificate over a ROM.
+/// The remarks on a frame, whose faint draws stand at these word addresses, and on the shapes of a certificate over a ROM, whose words
+/// these labels name.
 pub fn remarks_on<E: Entries>(
     alloc: Global,
     cert: &Cert,
     entries: &E,
     rom: Option<&RomImage>,
     faint: &[u16],
+    labels: Option<&Labels>,
 ) -> Result<Vec<Remark>, AllocError> {
     let mut remarks = Vec::new(alloc);
     push_some(&mut remarks, faint_in_frame(faint))?;
     if let Some(rom) = rom {
-        push_shapes(&mut remarks, rom, cert, entries)?;
+        let labelled = labelled_words(alloc, labels)?;
+        push_shapes(&mut remarks, rom, cert, entries, labelled.as_slice())?;
     }
     Ok(remarks)
 }
@@ -149,18 +191,20 @@ fn push_shapes<E: Entries>(
     rom: &RomImage,
     cert: &Cert,
     entries: &E,
+    labelled: &[bool],
 ) -> Result<(), AllocError> {
     let mut told = None;
     let mut later = cert.entries();
     for entry in cert.entries() {
         later = from_address(later, Some(entry.addr));
         let shape = EntryName::of(entry);
-        let walk = Walk::over(rom, entries, entry, later);
+        let walk = Walk::over(rom, entries, entry, later, labelled);
         push_some(remarks, walk.faint(shape))?;
         if told != Some(entry.addr) {
             push_some(
                 remarks,
-                walk.into.map(|into| Remark::RunsOn { shape, into }),
+                walk.into
+                    .map(|(into, at)| Remark::RunsOn { shape, into, at }),
             )?;
         }
         told = Some(entry.addr);

@@ -1,6 +1,7 @@
 //! The sentences that tell why an answer is a refusal.
 
 use crate::line::EntryName;
+use crate::spelling::CertificateOf;
 use crate::text::Text;
 use crate::why::{Addresses, Bounds, ClaimWhy, Corner, Difference, InputWhy, MakerWhy, Owner, Why};
 use dvg_cert::{Key, MOST_WORDS};
@@ -241,6 +242,30 @@ fn push_input(text: &mut Text, why: &InputWhy) {
             text.push_number(", and the certificate has ", counts.found);
         }
     }
+}
+
+/// Where a shorter ROM may lie, if no certificate says where, or what may stand in front of a longer one.
+pub fn push_other_length(text: &mut Text, cert: CertificateOf, why: &Why) {
+    let Why::Input(InputWhy::RomLength { bytes, words }) = why else {
+        return;
+    };
+    match (cert, words.of_bytes(*bytes)) {
+        (CertificateOf::Frame, Some(fitting)) => push_fitting(text, &fitting),
+        _ if *bytes == words.bytes() as usize + 2 => {
+            text.push("; a load address of two bytes may stand in front of it")
+        }
+        _ => {}
+    }
+}
+
+/// The word of the command line by which a ROM lies at these addresses.
+fn push_fitting(text: &mut Text, words: &Addresses) {
+    text.push_addressed("; if it begins at ", words.first);
+    text.push(", say `--rom ");
+    text.push_hex_address(words.first);
+    text.push("/");
+    text.push_hex_address(words.last);
+    text.push("`");
 }
 
 /// So many entries.

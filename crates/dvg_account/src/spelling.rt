@@ -10,12 +10,12 @@ use crate::line::{
     Words, Zeros,
 };
 use crate::middle::Middle;
-use crate::remarks::Remark;
-use crate::sentences::push_why;
+use crate::remarks::{Beginning, Remark};
+use crate::sentences::{push_other_length, push_why};
 use crate::swapped::Swapped;
 use crate::text::Text;
 use crate::why::Why;
-use dvg_cert::{MOST_DEPTH, MOST_ENTRIES, MOST_WORDS};
+use dvg_cert::{Key, MOST_DEPTH, MOST_ENTRIES, MOST_WORDS};
 use dvg_check::Yes;
 use dvg_items::Item;
 use dvg_labels::Labels;
@@ -136,6 +136,7 @@ fn push_line(text: &mut Text, telling: Telling, line: &Line) {
         Line::Why(why) => {
             text.push("why: ");
             push_why(text, why);
+            push_other_length(text, telling.cert, why);
             text.push("\n");
         }
         Line::Furthest(item) => push_items(text, &[("reaches furthest: ", item)]),
@@ -161,7 +162,9 @@ fn push_line(text: &mut Text, telling: Telling, line: &Line) {
         Line::Accepted(line) => push_accepted_line(text, line),
         Line::Made(line) => push_made_line(text, *line),
         Line::MadeForOther(machine) => push_other_machine(text, *machine),
-        Line::WhatToDo(number) => push_cure(text, telling, *number),
+        Line::ClaimedScales(keys) => push_scales(text, keys),
+        Line::WhatToDo(number) => push_cure(text, telling, *number, ""),
+        Line::EndWithHalt(number) => push_cure(text, telling, *number, OR_HALT),
         Line::MakerCure(cure) => push_maker_cure(text, telling, *cure),
     }
 }
@@ -236,17 +239,35 @@ fn push_rule(text: &mut Text, cert: CertificateOf, number: u8) {
     }
 }
 
-/// What to do about a number, if it has a meaning.
-fn push_cure(text: &mut Text, telling: Telling, number: u8) {
+/// What to do about a number, if it has a meaning, and more of it.
+fn push_cure(text: &mut Text, telling: Telling, number: u8, more: &'static str) {
     if let Some(rule) = rule_by(telling.cert, number) {
-        push_to_do(text, telling, &[rule.cure]);
+        push_to_do(text, telling, &[rule.cure, more]);
     }
+}
+
+/// What else may be done about a jump back in the last word of a frame.
+const OR_HALT: &str = ", or, where the list is to end here, end it with HALT";
+
+/// The keys of the entries that the certificate has for the called shape.
+fn push_scales(text: &mut Text, keys: &[Key]) {
+    let mut before = "claimed scales: ";
+    for key in keys {
+        text.push(before);
+        text.push_key(*key);
+        before = ", ";
+    }
+    text.push(if keys.is_empty() {
+        "claimed scales: none\n"
+    } else {
+        "\n"
+    });
 }
 
 /// What to do about an entry that can't be made.
 fn push_maker_cure(text: &mut Text, telling: Telling, cure: MakerCure) {
     match cure {
-        MakerCure::OfRule(number) => push_cure(text, telling, number),
+        MakerCure::OfRule(number) => push_cure(text, telling, number, ""),
         MakerCure::OfCalled(number) => {
             if let Some(rule) = rule_of(number) {
                 push_to_do(text, telling, &[FIRST_WORD, rule.cure]);
@@ -570,11 +591,14 @@ fn push_remark(text: &mut Text, remark: &Remark) {
             text.push_addressed(", the first at ", *first);
             text.push(": on the board each is a dot\n");
         }
-        Remark::RunsOn { shape, into } => {
+        Remark::RunsOn { shape, into, at } => {
             text.push("runs on: ");
             push_of(text, Some(*shape));
             text.push_addressed(" into ", *into);
-            text.push(", where another shape begins\n");
+            text.push(match at {
+                Beginning::Entry => ", where another shape begins\n",
+                Beginning::Label => ", where a label stands\n",
+            });
         }
     }
 }

@@ -113,7 +113,8 @@ impl<'a> Text<'a> {
         self.labels?.name_at(addr)
     }
 
-    fn push_hex_address(&mut self, addr: u16) {
+    /// A word address alone, whatever label names it.
+    pub fn push_hex_address(&mut self, addr: u16) {
         self.push_ascii(hex_address(addr).as_slice());
     }
 

@@ -45,14 +45,13 @@ pub fn verdict_text(
     inputs: &Inputs,
     verdict: &Result<Yes, Refusal>,
     cause: Option<&RomFinding>,
-    labels: Option<&Labels>,
 ) -> Result<String, AllocError> {
     let lines = verdict_lines(alloc, inputs, verdict, cause)?;
     let swapped = match verdict {
         Ok(_) => None,
         Err(refusal) => swapped_for(alloc, inputs, refusal)?,
     };
-    text_of(alloc, Telling::of_given(swapped), &lines, labels)
+    text_of(alloc, Telling::of_given(swapped), &lines, inputs.labels)
 }
 
 /// The account of [`frame_lines`] as a text. Of a refusal because of an item, or by the maker, it tells first what [`find_swapped`]
@@ -62,7 +61,6 @@ pub fn frame_text(
     inputs: &Inputs,
     verdict: &Result<Yes, FrameRefusal>,
     cause: Option<&RomFinding>,
-    labels: Option<&Labels>,
 ) -> Result<String, AllocError> {
     let lines = frame_lines(alloc, inputs, verdict, cause)?;
     let swapped = swapped_for_frame(alloc, inputs, verdict)?;
@@ -70,7 +68,7 @@ pub fn frame_text(
         Some(_) => Telling::of_given(swapped),
         None => Telling::of_own(swapped),
     };
-    text_of(alloc, telling, &lines, labels)
+    text_of(alloc, telling, &lines, inputs.labels)
 }
 
 /// The account of [`own_lines`] as a text. Of a refusal because of an item, or by the maker, it tells first what [`find_swapped`]
@@ -81,12 +79,11 @@ pub fn own_text(
     rom: &RomImage,
     frame: &FrameImage,
     judged: Result<JudgedFrame, MakeAccount>,
-    labels: Option<&Labels>,
 ) -> Result<String, AllocError> {
     let verdict = own_verdict(&judged);
     let lines = own_lines(alloc, inputs, rom, frame, judged)?;
     let swapped = swapped_for_frame(alloc, inputs, &verdict)?;
-    text_of(alloc, Telling::of_own(swapped), &lines, labels)
+    text_of(alloc, Telling::of_own(swapped), &lines, inputs.labels)
 }
 
 /// The account of [`plain_lines`] as a text, where no certificate was given.

@@ -160,6 +160,16 @@ impl Addresses {
         }
     }
 
+    /// The addresses of fewer words from the first one on, which are so many bytes.
+    pub fn of_bytes(&self, bytes: usize) -> Option<Addresses> {
+        let words = u16::try_from(bytes / 2).ok()?;
+        let last = self.first.checked_add(words)?.checked_sub(1)?;
+        if bytes % 2 == 1 || words == 0 || self.last <= last {
+            return None;
+        }
+        Some(Addresses { last, ..*self })
+    }
+
     /// How many bytes these words are.
     pub fn bytes(&self) -> u32 {
         2 * (u32::from(self.last).saturating_sub(u32::from(self.first)) + 1)

@@ -134,17 +134,18 @@ fn explain_by_own<'a>(
         budget: own.budget,
         window: own.window,
         mode: Mode::Exact,
+        labels,
     };
     match images_for(own.machine, own.rom, own.map, frame, own.budget) {
         Ok((image, rom)) => {
             let judged = explain_judging(alloc, &rom, &image, own.budget, own.window);
             let verdict = own_verdict(&judged);
-            let account = own_text(alloc, &inputs, &rom, &image, judged, labels);
+            let account = own_text(alloc, &inputs, &rom, &image, judged);
             (verdict, Behind::of(account))
         }
         Err(refusal) => {
             let verdict = Err(FrameRefusal::Check(refusal));
-            let account = frame_text(alloc, &inputs, &verdict, None, labels);
+            let account = frame_text(alloc, &inputs, &verdict, None);
             (verdict, Behind::of(account))
         }
     }
@@ -270,6 +271,7 @@ fn account_over<E: Entries>(
         budget: given.budget,
         window: given.shapes.window(),
         mode: given.mode,
+        labels,
     };
-    Behind::of(frame_text(alloc, &inputs, verdict, cause, labels))
+    Behind::of(frame_text(alloc, &inputs, verdict, cause))
 }

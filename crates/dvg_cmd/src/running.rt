@@ -188,14 +188,9 @@ fn account_of(
         budget: options.budget,
         window: options.window,
         mode: options.mode,
-    };
-    Behind::of(verdict_text(
-        alloc,
-        &inputs,
-        &judged.verdict,
-        judged.cause.as_ref(),
         labels,
-    ))
+    };
+    Behind::of(verdict_text(alloc, &inputs, &judged.verdict, judged.cause.as_ref()))
 }
 
 /// Writes the report of a verdict, and a text behind it.

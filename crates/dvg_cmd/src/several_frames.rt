@@ -225,9 +225,10 @@ impl<'a> Given<'a> {
             budget: 1,
             window: self.options.window,
             mode: Mode::Bound,
+            labels,
         };
         let verdict = Err(cause.refusal());
-        Behind::of(verdict_text(alloc, &inputs, &verdict, Some(cause), labels))
+        Behind::of(verdict_text(alloc, &inputs, &verdict, Some(cause)))
     }
 
     /// Writes the report of that refusal, and what the detail asks for behind it.

@@ -107,7 +107,7 @@ pub const SHAPE_ODD_LABS: Rule = Rule {
     line: "refused 21 shape 800/0 at 800",
     heading: "Shortest input (words of the ROM; entry)",
     input: "`A400`",
-    cure: "give the LABS places of 0 to 1023, which leave bits 11 and 10 of both words clear",
+    cure: "give `--board`, where each LABS has twelve bits; or give the LABS places of 0 to 1023, which leave bits 11 and 10 of both words clear",
 };
 
 pub const SHAPE_HALT: Rule = Rule {
@@ -233,7 +233,7 @@ pub const FRAME_ODD_LABS: Rule = Rule {
     line: "refused 41 frame at 000",
     heading: "Shortest input",
     input: "`A400 0000`",
-    cure: "give the LABS places of 0 to 1023, which leave bits 11 and 10 of both words clear",
+    cure: "give `--board`, where each LABS has twelve bits; or give the LABS places of 0 to 1023, which leave bits 11 and 10 of both words clear",
 };
 
 pub const FRAME_RETURN: Rule = Rule {

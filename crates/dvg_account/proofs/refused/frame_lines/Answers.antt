@@ -1,4 +1,4 @@
-use Rattle.dvg_account.proofs.Common.{ap, rules, ◌∙◌, [], ◌∷◌, frame_word, Frame, IsItem, Rule, WhatToDo}
+use Rattle.dvg_account.proofs.Common.{ap, rules, ◌∙◌, [], ◌∷◌, frame_word, Frame, IsItem, Rule}
 use Rattle.dvg_account.proofs.Building.{then, told_as, whole, if_ok}
 use Rattle.dvg_account.proofs.refused.frame_lines.Goals as goal
 
@@ -17,8 +17,11 @@ returns c =
       reaches = rw c.callee_of-callee.ensures at c.furthest_line-furthest.ensures;
       zone = c.zone_line.result;
       in_zone = c.zone_line.ensures;
+      besides = c.in_ok-besides.besides;
+      beside = c.in_ok-besides.ensures;
       told = whole c.new-lines.ensures all
-          (then (then (then c.push_machine.ensures c.push_some.ensures)
+          (then (then (then (then c.push_machine.ensures c.push_some.ensures)
           (then (told_as (ap (λ n. Rule n ∷ []) c.number-number.ensures) c.push.ensures) (then c.push-2.ensures (then c.push_some-2.ensures c.push_lines.ensures))))
-          (told_as (ap (λ n. WhatToDo n ∷ []) c.number-number.ensures) c.push-3.ensures));
+          c.push_some-3.ensures)
+          (told_as (ap (λ cure. cure ∷ []) c.frame_cure.ensures) c.push-3.ensures));
     })

@@ -1,4 +1,4 @@
-use Rattle.dvg_account.proofs.Common.{ap, rules, ◌∙◌, [], ◌∷◌, option_to_list, machine_lines, other_machine_line, Rule, WhatToDo}
+use Rattle.dvg_account.proofs.Common.{ap, rules, ◌∙◌, [], ◌∷◌, machine_lines, Rule, WhatToDo}
 use Rattle.dvg_account.proofs.Building.{then, told_as, whole, if_ok}
 use Rattle.dvg_account.proofs.refused.shape_lines.Goals as goal
 
@@ -14,10 +14,12 @@ returns c = if_ok c.finish.result c.finish.ensures (λ lines all. record {
   reached = c.in_ok-chain.ensures;
   zone = c.zone_line.result;
   in_zone = c.zone_line.ensures;
+  besides = c.in_ok-besides.besides;
+  beside = c.in_ok-besides.ensures;
   told = whole c.new-lines.ensures all
-      (then (then (then (then (then (told_as (ap machine_lines c.machine-2.ensures) c.push_machine.ensures) c.push_some.ensures)
+      (then (then (then (then (then (told_as (ap machine_lines c.machine.ensures) c.push_machine.ensures) c.push_some.ensures)
       (then (told_as (ap (λ n. Rule n ∷ []) c.number-number.ensures) c.push.ensures) (then c.push-2.ensures c.push_lines.ensures)))
       (then c.push-3.ensures c.push_some-2.ensures))
-      (told_as (ap option_to_list (c.other_machine_line-other.ensures ∙ ap (λ m. other_machine_line m c.args.finding.now.fault.why) c.machine.ensures)) c.push_some-3.ensures))
+      c.push_some-3.ensures)
       (told_as (ap (λ n. WhatToDo n ∷ []) c.number-number.ensures) c.push-4.ensures));
 })
