@@ -14,14 +14,14 @@ returns c =
       lost = c.frame_losses.ensures.some;
       unled = c.frame_losses.ensures.none;
       furthest = c.furthest_line-furthest.result;
-      reaches = rw c.callee_of-callee.ensures at c.furthest_line-furthest.ensures;
+      reaches = c.furthest_line-furthest.ensures;
       zone = c.zone_line.result;
       in_zone = c.zone_line.ensures;
       besides = c.in_ok-besides.besides;
       beside = c.in_ok-besides.ensures;
       told = whole c.new-lines.ensures all
-          (then (then (then (then c.push_machine.ensures c.push_some.ensures)
-          (then (told_as (ap (λ n. Rule n ∷ []) c.number-number.ensures) c.push.ensures) (then c.push-2.ensures (then c.push_some-2.ensures c.push_lines.ensures))))
+          (then (then (then (then (then c.push_machine.ensures c.push_some.ensures)
+          (then (told_as (ap (λ n. Rule n ∷ []) c.number-number.ensures) c.push.ensures) (then c.push-2.ensures c.push_some-2.ensures))) c.push_lines.ensures)
           c.push_some-3.ensures)
           (told_as (ap (λ cure. cure ∷ []) c.frame_cure.ensures) c.push-3.ensures));
     })
