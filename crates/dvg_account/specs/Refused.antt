@@ -1,6 +1,6 @@
 -- The lines of a refusal because of an item. All of it is this project's own.
-use Rattle.std.specs.Prelude.{◌≡◌, ℕ, List, [], ◌∷◌, ◌++◌, length, Option, Some, None, IfSome, IfNone, option_to_list, nat_eq, if◌then◌else◌}
-use Rattle.dvg_words.specs.Memory.{Rom, rom_word, frame_word, words_of, IsFrameLength}
+use Rattle.std.specs.Prelude.{◌≡◌, ℕ, List, [], ◌∷◌, ◌++◌, Option, Some, None, IfSome, IfNone, option_to_list, nat_eq, if◌then◌else◌}
+use Rattle.dvg_words.specs.Memory.{Rom, rom_word, frame_word}
 use Rattle.std.specs.Global.{Vec}
 use Rattle.dvg_cert.specs.declared.entry.Entry.{Entry}
 use Rattle.dvg_cert.specs.declared.entry.Key.{Key}
