@@ -120,7 +120,7 @@ fn explain_by_own<'a>(
     alloc: Global,
     own: &OwnCertificates<'a>,
     frame: &'a [u8],
-    labels: Option<&Labels>,
+    labels: Option<&'a Labels>,
 ) -> ToldVerdict
     ensures verdict { VerdictOnBytes own.now.machine own.now.rom.now own.now.map frame.now own.now.budget own.now.window result.0 }
     ensures behind { IsBehind (details.Account None) result.1 }
