@@ -40,7 +40,7 @@ BesideFrame inputs list (frame.NoEntry to scale) told =
     (keys : Vec Key) × (keys.items ≡ keys_at to list) × (told ≡ Some (ClaimedScales keys))
 BesideFrame inputs list cause told = told ≡ None
 
--- what else is told of a fault of a shape: of an odd LABS the board's answer
+-- what else is told of a fault of a shape: of an odd LABS the board's answer, of an end or a box that differs the other machine
 abbrev pub BesideShape : Inputs → ShapeWhy → Option Line → Type 0
 BesideShape inputs shape.Odd told = TellsBoard inputs.machine inputs told
 BesideShape inputs why told = told ≡ other_machine_line inputs.machine why

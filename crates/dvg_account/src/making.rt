@@ -64,7 +64,7 @@ pub fn unmade_lines(
     let told = why_line(account.fault.call, account.at, why);
     let cure = MakerCure::of(rom.map(), &account);
     let meant = meant_line(alloc, rom, cure, &account)?;
-    let middle = middle_line(rom.machine(), frame, account.fault.call);
+    let middle = middle_line(rom.machine(), frame, &account);
     let mut lines = Lines::new(alloc);
     lines.push_machine(rom.machine());
     lines.push(Line::Rule(number));

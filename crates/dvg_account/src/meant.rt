@@ -23,8 +23,8 @@ fn byte_word(bits: u16) -> u16
     }
 }
 
-/// Whether a call of this address would be right if that were the address of a word's first byte: the word is in the ROM, and a shape
-/// can be made there at the scale of the call.
+/// Whether a call of this address may be meant as that of a word's first byte: the word is in the ROM, and a shape can be made there
+/// at the scale of the call.
 fn means_byte(alloc: Global, rom: &RomImage, at: u16, scale: Key) -> Result<bool, AllocError>
     ensures { IfOk result (λ means. IsTrue means ↔ MeansByte rom.now at scale) }
 {

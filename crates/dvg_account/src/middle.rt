@@ -9,7 +9,7 @@ ghost use Rattle.dvg_account.specs.Middle.{IsMiddle, TellsMiddle};
 use crate::line::Line;
 use crate::zeros::{MOST_ITEMS, item_below};
 use dvg_items::{Item, Kind};
-use dvg_make::FrameCall;
+use dvg_make::{EntryCause, MakeAccount};
 use dvg_words::{Fetch, FrameImage, FrameOn, Instr, Machine};
 
 /// A jump, and the instruction into whose second word it may lead.
@@ -36,8 +36,20 @@ fn long_over<F: Fetch>(words: &F, from: u16, to: u16) -> Option<Item>
     None
 }
 
-/// The first jump of a frame before its call at a word address that may lead into the middle of an instruction: the words behind the
-/// jump, read as instructions, have one over its target. A guess, since the words that a jump passes over need not be any.
+/// The instruction into whose second word a jump of a frame may lead: the words behind the jump, read as instructions, have one there.
+/// A start puts its jump in the place of word 000, which may have been the first of two: so behind that one they must have one as
+/// read from word 002 on, too.
+fn into_by<F: Fetch>(frame: &F, jump: &Item, to: u16) -> Option<Item>
+    ensures { IfSome result (λ i. (i.at + 1 ≡ to) × (cell_at (F.words frame.now) i.at ≡ Holds Long i.instr)) }
+{
+    if jump.at == 0 && long_over(frame, 2, to).is_none() {
+        return None;
+    }
+    long_over(frame, jump.at.checked_add(1)?, to)
+}
+
+/// The first jump of a frame before its call at a word address that may lead into the middle of an instruction. A guess, since the
+/// words that a jump passes over need not be instructions.
 fn middle_before<F: Fetch>(frame: &F, call: u16) -> Option<Middle>
     ensures { IfSome result (IsMiddle (F.words frame.now)) }
 {
@@ -48,22 +60,37 @@ fn middle_before<F: Fetch>(frame: &F, call: u16) -> Option<Middle>
         let Instr::Jmpl { to } = jump.instr else {
             continue;
         };
-        if let Some(into) = long_over(frame, jump.at + 1, to) {
+        if let Some(into) = into_by(frame, &jump, to) {
             return Some(Middle { jump, into });
         }
     }
     None
 }
 
-/// The line of that jump before the call of a frame, if there is one.
+/// Whether the making stops at an item that can be in no shape that is called so, as where a word that is no call is read as one.
+fn is_of_item(cause: EntryCause) -> bool {
+    match cause {
+        EntryCause::Missing
+        | EntryCause::Odd
+        | EntryCause::Halt
+        | EntryCause::BeamUnknown
+        | EntryCause::ScaleUnknown => true,
+        _ => false,
+    }
+}
+
+/// The line of that jump before the call of a frame, if there is one and the making stops at such an item.
 pub fn middle_line(
     machine: Machine,
     frame: Option<&FrameImage>,
-    call: Option<FrameCall>,
+    account: &MakeAccount,
 ) -> Option<Line>
     ensures { TellsMiddle machine (option_copied frame.entry) result }
 {
+    if !is_of_item(account.cause) {
+        return None;
+    }
     let framed = FrameOn::new(machine, frame?);
-    let middle = middle_before(&framed, call?.at)?;
+    let middle = middle_before(&framed, account.fault.call?.at)?;
     Some(Line::JumpsInto(middle))
 }

@@ -133,7 +133,7 @@ fn keys_at(alloc: Global, entries: &[Entry], addr: u16) -> Result<Vec<Key>, Allo
     Ok(keys)
 }
 
-/// What else is told of the cause in a shape: of an odd LABS what the board answers.
+/// What else is told of the cause in a shape: of an odd LABS what the board answers, of an end or a box that differs the other machine.
 fn beside_shape(alloc: Global, inputs: &Inputs, why: ShapeWhy) -> Result<Option<Line>, AllocError>
     ensures { IfOk result (BesideShape inputs.now why) }
 {

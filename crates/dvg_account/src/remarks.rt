@@ -99,6 +99,14 @@ impl Walk {
         }
     }
 
+    /// Notes that something begins at a word address: of all that is noted the first shape is kept, or without one the first label.
+    fn note_beginning(&mut self, at: u16, beginning: Beginning) {
+        match (self.into, beginning) {
+            (Some((_, Beginning::Entry)), _) | (Some(_), Beginning::Label) => {}
+            _ => self.into = Some((at, beginning)),
+        }
+    }
+
     /// Notes where a shape begins, the first of these entries', or a label stands, and answers whether a shape begins there at this
     /// very scale.
     fn meets<E: Entries>(
@@ -111,12 +119,12 @@ impl Walk {
     ) -> bool {
         match later.first() {
             Some(entry) if entry.addr == at => {
-                self.into = self.into.or(Some((at, Beginning::Entry)));
+                self.note_beginning(at, Beginning::Entry);
                 entries.find(at, scale).is_some()
             }
             _ => {
                 if labelled.get(usize::from(at)) == Some(&true) {
-                    self.into = self.into.or(Some((at, Beginning::Label)));
+                    self.note_beginning(at, Beginning::Label);
                 }
                 false
             }

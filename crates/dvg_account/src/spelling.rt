@@ -133,12 +133,7 @@ fn push_line(text: &mut Text, telling: Telling, line: &Line) {
             "window: the zone that the board clips, X -1024 to 2047, Y -1024 to 2047\n",
         ),
         Line::Rule(number) => push_rule(text, telling.cert, *number),
-        Line::Why(why) => {
-            text.push("why: ");
-            push_why(text, why);
-            push_other_length(text, telling.cert, why);
-            text.push("\n");
-        }
+        Line::Why(why) => push_cause(text, telling.cert, why),
         Line::Furthest(item) => push_items(text, &[("reaches furthest: ", item)]),
         Line::ByteAddress { at, word } => push_byte_address(text, *at, *word),
         Line::JumpsInto(Middle { jump, into }) => {
@@ -169,6 +164,14 @@ fn push_line(text: &mut Text, telling: Telling, line: &Line) {
     }
 }
 
+/// Why an answer is a refusal.
+fn push_cause(text: &mut Text, cert: CertificateOf, why: &Why) {
+    text.push("why: ");
+    push_why(text, why);
+    push_other_length(text, cert, why);
+    text.push("\n");
+}
+
 /// Why what a frame's call asks for can't be made.
 fn push_making_stops(text: &mut Text, at: u16, why: &Why) {
     text.push("why: ");
@@ -194,7 +197,8 @@ fn push_making_stops(text: &mut Text, at: u16, why: &Why) {
 
 /// The word that a called address means as that of a byte.
 fn push_byte_address(text: &mut Text, at: u16, word: u16) {
-    text.push_addressed("byte address: taken as one, ", at);
+    text.push("byte address: taken as one, ");
+    text.push_hex_address(at);
     text.push_addressed(" is word ", word);
     text.push("; calls take word addresses\n");
 }

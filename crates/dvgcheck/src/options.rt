@@ -122,7 +122,7 @@ impl CommandOption {
                 "Takes the certificate's words and depths as exact, not as bounds",
             CommandOption::Frame => "A frame; its calls become roots, too",
             CommandOption::Labels =>
-                "The labels of the program, which name addresses in accounts and roots",
+                "The labels of the program, which name addresses in accounts, roots and starts",
             CommandOption::List =>
                 "Judges the frames that this file names, one a line, in place of FRAME",
             CommandOption::Map =>
