@@ -1,35 +1,32 @@
 /*
- * Calls each function of dvgcheck.h, with malloc and its kin counted and refused in turn, and says what is not as it should be.
+ * Judges frames by certificates, with malloc and its kin counted and refused in turn, and says what is not as it should be.
  * It is linked by tests/c-library, and run in examples/.
  */
+#include <pthread.h>
 #include <stdio.h>
 #include <stdlib.h>
 #include <string.h>
 
 #include "dvgcheck.h"
 
-_Static_assert(sizeof(struct dvgcheck_shapes) == 331800, "as src/shapes.rt has it");
-
-enum { BUDGET = 20000, MOST = 1 << 20 };
+enum { BUDGET = 20000, MOST = 1 << 20, TURNS = 50 };
 
 struct bytes {
     uint8_t at[MOST];
     size_t length;
 };
 
-static struct bytes rom, cert, frame, loose, short_rom;
-
-static struct dvgcheck_shapes shapes, copied;
+static struct bytes rom, cert, frame, loose, short_rom, crossing_rom, crossing_cert, crossing;
 
 static int failed;
 
-/* ---- memory: how many blocks were taken and given back, and which is refused */
+/* ---- memory: how many blocks were taken and given back, and which is refused, by each thread */
 
 void *__real_malloc(size_t size);
 void *__real_realloc(void *block, size_t size);
 void __real_free(void *block);
 
-static long taken, given, asked, refused;
+static _Thread_local long taken, given, asked, refused;
 
 static int is_refused(void) { return ++asked == refused; }
 
@@ -67,96 +64,118 @@ static void read_whole(const char *name, struct bytes *into) {
     fclose(file);
 }
 
-static struct dvgcheck_answer judge_in(const struct bytes *r, const struct bytes *c, struct dvgcheck_window window) {
-    return dvgcheck_judge(r->at, r->length, c->at, c->length, window, &shapes);
-}
+/* ---- the calls */
 
-static const struct dvgcheck_window screen = DVGCHECK_SCREEN;
+static const struct dvgcheck_map asteroids = DVGCHECK_ASTEROIDS;
 
-static struct dvgcheck_answer judge(const struct bytes *r, const struct bytes *c) { return judge_in(r, c, screen); }
+static const struct dvgcheck_window screen = DVGCHECK_SCREEN, zone = DVGCHECK_CLIPPED;
 
-static struct dvgcheck_answer judge_exact(const struct bytes *r, const struct bytes *c) {
-    return dvgcheck_judge_exact(r->at, r->length, c->at, c->length, screen, &shapes);
-}
-
-static struct dvgcheck_answer check(const struct bytes *c, size_t length, uint32_t budget) {
-    return dvgcheck_check(rom.at, rom.length, c->at, c->length, frame.at, length, budget, screen);
-}
-
-static struct dvgcheck_answer check_exact(const struct bytes *c, size_t length, uint32_t budget) {
-    return dvgcheck_check_exact(rom.at, rom.length, c->at, c->length, frame.at, length, budget, screen);
-}
-
-static struct dvgcheck_answer over(size_t length, uint32_t budget) { return dvgcheck_frame(&shapes, frame.at, length, budget); }
+static const struct dvgcheck_window turned = {1, 0, 0, 1023}, wide = {0, 1024, 0, 1023};
 
 static int same(struct dvgcheck_answer a, struct dvgcheck_answer b) {
     return a.number == b.number && a.shapes == b.shapes && a.words == b.words && a.depth == b.depth && a.line == b.line &&
-           a.word == b.word && a.shape == b.shape && a.scale == b.scale;
+           a.word == b.word && a.shape == b.shape && a.scale == b.scale && a.call == b.call;
 }
+
+/* The frame by a certificate, on the profile. */
+static struct dvgcheck_answer judge(uint32_t mode, const struct bytes *r, const struct bytes *c, struct dvgcheck_window window) {
+    return dvgcheck_frame_by_certificate(DVGCHECK_PROFILE, mode, r->at, r->length, c->at, c->length, frame.at, frame.length, BUDGET,
+                                         window);
+}
+
+/* So many bytes of the frame by a certificate of its ROM. */
+static struct dvgcheck_answer check(uint32_t mode, const struct bytes *c, size_t length, uint32_t budget) {
+    return dvgcheck_frame_by_certificate(DVGCHECK_PROFILE, mode, rom.at, rom.length, c->at, c->length, frame.at, length, budget,
+                                         screen);
+}
+
+static struct dvgcheck_answer bound(size_t length, uint32_t budget) { return check(DVGCHECK_BOUND, &cert, length, budget); }
 
 /* ---- the rows */
 
-static void before_judging(void) {
-    EXPECT(over(frame.length, BUDGET).number, DVGCHECK_NO_SHAPES);
-    struct dvgcheck_window turned = {1, 0, 0, 1023}, wide = {0, 1024, 0, 1023};
-    EXPECT(judge(&rom, &cert).number, 0);
-    EXPECT(judge_in(&rom, &cert, turned).number, DVGCHECK_BAD_WINDOW);
-    EXPECT(over(frame.length, BUDGET).number, DVGCHECK_NO_SHAPES);
-    EXPECT(judge_in(&rom, &cert, wide).number, DVGCHECK_BAD_WINDOW);
-    EXPECT(dvgcheck_check(rom.at, rom.length, cert.at, cert.length, frame.at, 0, 0, turned).number, DVGCHECK_BAD_WINDOW);
-    EXPECT(dvgcheck_check_exact(rom.at, rom.length, cert.at, cert.length, frame.at, 0, 0, wide).number, DVGCHECK_BAD_WINDOW);
+/* 82, 87 and 80 come in this order, and before what is wrong with the bytes. */
+static void out_of_range(void) {
+    static const uint32_t none[] = {2, 256, UINT32_MAX};
+    for (size_t i = 0; i < sizeof none / sizeof *none; i++) {
+        uint32_t n = none[i];
+        EXPECT(dvgcheck_frame_by_certificate(n, n, rom.at, 0, cert.at, 0, frame.at, 0, 0, turned).number, DVGCHECK_BAD_MACHINE);
+        EXPECT(dvgcheck_frame_by_certificate(n, 0, rom.at, 0, cert.at, 0, frame.at, 0, 0, screen).number, DVGCHECK_BAD_MACHINE);
+        EXPECT(dvgcheck_frame_by_certificate(1, n, rom.at, 0, cert.at, 0, frame.at, 0, 0, turned).number, DVGCHECK_BAD_MODE);
+        EXPECT(judge(n, &rom, &cert, screen).number, DVGCHECK_BAD_MODE);
+    }
+    for (uint32_t machine = DVGCHECK_PROFILE; machine <= DVGCHECK_BOARD; machine++)
+        for (uint32_t mode = DVGCHECK_BOUND; mode <= DVGCHECK_EXACT; mode++) {
+            struct dvgcheck_answer a =
+                dvgcheck_frame_by_certificate(machine, mode, rom.at, 0, cert.at, 0, frame.at, 0, 0, turned);
+            EXPECT(a.number, DVGCHECK_BAD_WINDOW);
+            a = dvgcheck_frame_by_certificate(machine, mode, rom.at, 0, cert.at, 0, frame.at, 0, 0, wide);
+            EXPECT(a.number, DVGCHECK_BAD_WINDOW);
+            a = dvgcheck_frame_by_certificate(machine, mode, rom.at, 0, cert.at, 0, frame.at, 0, 0, screen);
+            EXPECT(a.number, 2);
+        }
+    EXPECT(judge(DVGCHECK_BOUND, &rom, &cert, screen).number, 0);
+    EXPECT(judge(DVGCHECK_EXACT, &rom, &cert, screen).number, 0);
 }
 
 static void refusals(void) {
-    struct dvgcheck_answer a = judge(&short_rom, &cert);
+    struct dvgcheck_answer a = judge(DVGCHECK_BOUND, &short_rom, &cert, screen);
     EXPECT(a.number, 1);
-    a = judge(&rom, &rom);
+    a = judge(DVGCHECK_BOUND, &rom, &rom, screen);
     EXPECT(a.number, 15);
     EXPECT(a.line, 1);
-    a = judge(&rom, &loose);
+    a = judge(DVGCHECK_BOUND, &crossing_rom, &cert, screen);
+    EXPECT(a.number, 31);
+    EXPECT(a.shape, 0x800);
+    EXPECT(a.scale, 1);
+    EXPECT(a.word, 0x802);
+    a = judge(DVGCHECK_BOUND, &rom, &loose, screen);
     EXPECT(a.number, 0);
     EXPECT(a.shapes, 102);
-    a = judge_exact(&rom, &loose);
+    a = judge(DVGCHECK_EXACT, &rom, &loose, screen);
     EXPECT(a.number, 32);
     EXPECT(a.shape, 0xA17);
     EXPECT(a.scale, DVGCHECK_ANY_SCALE);
     EXPECT(a.word, 0xA5F);
-    EXPECT(over(frame.length, BUDGET).number, DVGCHECK_NO_SHAPES);
-    EXPECT(check(&loose, frame.length, BUDGET).number, 0);
-    EXPECT(check_exact(&loose, frame.length, BUDGET).number, 32);
 }
 
 static void frames(void) {
-    struct dvgcheck_answer a = judge(&rom, &cert);
+    EXPECT(bound(0, BUDGET).number, 2);
+    EXPECT(bound(2050, BUDGET).number, 2);
+    EXPECT(bound(0, 0).number, 2);
+    EXPECT(bound(frame.length, 0).number, 49);
+    EXPECT(bound(frame.length, 1000001).number, 49);
+    EXPECT(check(DVGCHECK_BOUND, &rom, frame.length, 0).number, 49);
+    struct dvgcheck_answer a = bound(frame.length, 551);
     EXPECT(a.number, 0);
     EXPECT(a.shapes, 102);
-    EXPECT(over(0, BUDGET).number, 2);
-    EXPECT(over(2050, BUDGET).number, 2);
-    EXPECT(over(frame.length, 0).number, 49);
-    EXPECT(over(frame.length, 1000001).number, 49);
-    a = over(frame.length, 551);
-    EXPECT(a.number, 0);
     EXPECT(a.words, 551);
     EXPECT(a.depth, 2);
-    EXPECT(over(frame.length, 550).number, 48);
-    memcpy(&copied, &shapes, sizeof shapes);
-    memset(&shapes, 0, sizeof shapes);
-    EXPECT(same(dvgcheck_frame(&copied, frame.at, frame.length, 551), a), 1);
-    EXPECT(over(frame.length, 551).number, DVGCHECK_NO_SHAPES);
+    EXPECT(bound(frame.length, 550).number, 48);
 }
 
-/* Each beginning of the frame, and the frame with each byte turned, comes to the same over shapes that are kept as at once. */
+/*
+ * A certificate whose counts are exact gets the same answer in either mode, and where it gets a frame accepted, so does the ROM alone,
+ * with no more words or depth.
+ */
+static void compare(size_t length) {
+    struct dvgcheck_answer a = bound(length, BUDGET);
+    EXPECT(same(a, check(DVGCHECK_EXACT, &cert, length, BUDGET)), 1);
+    if (a.number != 0) return;
+    struct dvgcheck_answer alone =
+        dvgcheck_frame_alone(DVGCHECK_PROFILE, rom.at, rom.length, asteroids, frame.at, length, BUDGET, screen);
+    EXPECT(alone.number, 0);
+    EXPECT(alone.words <= a.words, 1);
+    EXPECT(alone.depth <= a.depth, 1);
+}
+
+/* Each beginning of the frame, and the frame with each byte turned. */
 static void agree(void) {
-    EXPECT(judge(&rom, &cert).number, 0);
-    for (size_t length = 0; length <= frame.length; length++)
-        EXPECT(same(over(length, BUDGET), check(&cert, length, BUDGET)), 1);
+    for (size_t length = 0; length <= frame.length; length++) compare(length);
     for (size_t i = 0; i < frame.length; i++) {
         frame.at[i] ^= 0xFF;
-        EXPECT(same(over(frame.length, BUDGET), check(&cert, frame.length, BUDGET)), 1);
+        compare(frame.length);
         frame.at[i] ^= 0xFF;
     }
-    EXPECT(judge_exact(&rom, &cert).number, 0);
-    EXPECT(same(over(frame.length, BUDGET), check_exact(&cert, frame.length, BUDGET)), 1);
 }
 
 /* ---- the machines: a shape of two draws up by half a place each, its certificates for both, and a frame that calls it near the top */
@@ -170,26 +189,15 @@ static const char *const half_certs[] = {
     "dvgcert 1\nshape 800 0 end rel 0 2048 box 0 0 0 2048 depth 0 words 5 scale 0\ndone 1\n",
 };
 
-/* On a machine, by the certificate for that of this number. */
+/* On a machine, by the certificate for that of this number; the same in either mode. */
 static struct dvgcheck_answer half_check(uint32_t machine, int by) {
     const uint8_t *c = (const uint8_t *)half_certs[by];
-    size_t length = strlen(half_certs[by]);
-    struct dvgcheck_answer a = dvgcheck_check_on(machine, half_rom, sizeof half_rom, c, length, half_frame, sizeof half_frame,
-                                                 BUDGET, screen);
-    struct dvgcheck_answer exact = dvgcheck_check_exact_on(machine, half_rom, sizeof half_rom, c, length, half_frame,
-                                                           sizeof half_frame, BUDGET, screen);
-    EXPECT(same(a, exact), 1);
-    return a;
-}
-
-static struct dvgcheck_answer half_judge(uint32_t machine, int by) {
-    const uint8_t *c = (const uint8_t *)half_certs[by];
-    size_t length = strlen(half_certs[by]);
-    struct dvgcheck_answer exact =
-        dvgcheck_judge_exact_on(machine, half_rom, sizeof half_rom, c, length, screen, &copied);
-    struct dvgcheck_answer a = dvgcheck_judge_on(machine, half_rom, sizeof half_rom, c, length, screen, &shapes);
-    EXPECT(same(a, exact), 1);
-    return a;
+    struct dvgcheck_answer answers[2];
+    for (uint32_t mode = DVGCHECK_BOUND; mode <= DVGCHECK_EXACT; mode++)
+        answers[mode] = dvgcheck_frame_by_certificate(machine, mode, half_rom, sizeof half_rom, c, strlen(half_certs[by]), half_frame,
+                                                      sizeof half_frame, BUDGET, screen);
+    EXPECT(same(answers[0], answers[1]), 1);
+    return answers[0];
 }
 
 static void machines(void) {
@@ -205,35 +213,11 @@ static void machines(void) {
     a = half_check(DVGCHECK_PROFILE, DVGCHECK_BOARD);
     EXPECT(a.number, 29);
     EXPECT(a.word, 0x804);
-
-    EXPECT(half_judge(DVGCHECK_BOARD, DVGCHECK_PROFILE).number, 31);
-    EXPECT(half_judge(DVGCHECK_PROFILE, DVGCHECK_BOARD).number, 29);
-    EXPECT(half_judge(DVGCHECK_PROFILE, DVGCHECK_PROFILE).number, 0);
-    EXPECT(dvgcheck_frame(&shapes, half_frame, sizeof half_frame, BUDGET).number, 0);
-    EXPECT(dvgcheck_frame_on(DVGCHECK_PROFILE, &shapes, half_frame, sizeof half_frame, BUDGET).number, 0);
-    EXPECT(dvgcheck_frame_on(DVGCHECK_BOARD, &shapes, half_frame, sizeof half_frame, BUDGET).number, DVGCHECK_NO_SHAPES);
-    EXPECT(half_judge(DVGCHECK_BOARD, DVGCHECK_BOARD).number, 0);
-    a = dvgcheck_frame(&shapes, half_frame, sizeof half_frame, BUDGET);
-    EXPECT(a.number, 46);
-    EXPECT(a.word, 2);
-    EXPECT(same(dvgcheck_frame_on(DVGCHECK_BOARD, &shapes, half_frame, sizeof half_frame, BUDGET), a), 1);
-    EXPECT(same(dvgcheck_frame_on(DVGCHECK_BOARD, &copied, half_frame, sizeof half_frame, BUDGET), a), 1);
-    EXPECT(dvgcheck_frame_on(DVGCHECK_PROFILE, &shapes, half_frame, sizeof half_frame, BUDGET).number, DVGCHECK_NO_SHAPES);
-
     EXPECT(half_check(2, DVGCHECK_BOARD).number, DVGCHECK_BAD_MACHINE);
-    EXPECT(dvgcheck_frame_on(256, &shapes, half_frame, sizeof half_frame, BUDGET).number, DVGCHECK_BAD_MACHINE);
-    EXPECT(half_judge(UINT32_MAX, DVGCHECK_BOARD).number, DVGCHECK_BAD_MACHINE);
-    EXPECT(dvgcheck_frame(&shapes, half_frame, sizeof half_frame, BUDGET).number, DVGCHECK_NO_SHAPES);
-    struct dvgcheck_window turned = {1, 0, 0, 1023};
-    const uint8_t *c = (const uint8_t *)half_certs[1];
-    EXPECT(dvgcheck_judge_on(DVGCHECK_BOARD, half_rom, sizeof half_rom, c, 0, turned, &shapes).number, DVGCHECK_BAD_WINDOW);
-    EXPECT(dvgcheck_check_on(DVGCHECK_BOARD, half_rom, 0, c, 0, half_frame, 0, 0, turned).number, DVGCHECK_BAD_WINDOW);
-    EXPECT(dvgcheck_check_on(2, half_rom, 0, c, 0, half_frame, 0, 0, turned).number, DVGCHECK_BAD_MACHINE);
+    EXPECT(half_check(UINT32_MAX, DVGCHECK_BOARD).number, DVGCHECK_BAD_MACHINE);
 }
 
 /* ---- the zone that a board clips: a frame with a rock one place past the screen's left edge, and one stroke near the zone's */
-
-static const struct dvgcheck_window zone = DVGCHECK_CLIPPED;
 
 /* What only looks like the zone: one of its ends one place off, one of its axes alone, its ends turned, more of what is around it. */
 static const struct dvgcheck_window not_zones[] = {
@@ -243,39 +227,22 @@ static const struct dvgcheck_window not_zones[] = {
     {-1, 1023, 0, 1023},        {0, 1023, -1, 1023},        {-1, -1, -1, -1},           {0, 1023, 0, 1024},
 };
 
-static struct bytes crossing_rom, crossing_cert, crossing;
-
 static struct dvgcheck_answer crossing_check(uint32_t machine, struct dvgcheck_window window) {
-    struct dvgcheck_answer a =
-        dvgcheck_check_on(machine, crossing_rom.at, crossing_rom.length, crossing_cert.at, crossing_cert.length, crossing.at,
-                          crossing.length, BUDGET, window);
-    struct dvgcheck_answer exact =
-        dvgcheck_check_exact_on(machine, crossing_rom.at, crossing_rom.length, crossing_cert.at, crossing_cert.length,
-                                crossing.at, crossing.length, BUDGET, window);
-    EXPECT(same(a, exact), 1);
-    return a;
-}
-
-/* The same number for counts as exact, whose shapes are `copied`. */
-static uint8_t crossing_judge(uint32_t machine, struct dvgcheck_window window) {
-    struct dvgcheck_answer exact = dvgcheck_judge_exact_on(machine, crossing_rom.at, crossing_rom.length, crossing_cert.at,
-                                                           crossing_cert.length, window, &copied);
-    struct dvgcheck_answer a = dvgcheck_judge_on(machine, crossing_rom.at, crossing_rom.length, crossing_cert.at,
-                                                 crossing_cert.length, window, &shapes);
-    EXPECT(same(a, exact), 1);
-    return a.number;
-}
-
-static struct dvgcheck_answer crossing_over(const struct dvgcheck_shapes *kept) {
-    return dvgcheck_frame(kept, crossing.at, crossing.length, BUDGET);
+    struct dvgcheck_answer answers[2];
+    for (uint32_t mode = DVGCHECK_BOUND; mode <= DVGCHECK_EXACT; mode++)
+        answers[mode] =
+            dvgcheck_frame_by_certificate(machine, mode, crossing_rom.at, crossing_rom.length, crossing_cert.at, crossing_cert.length,
+                                          crossing.at, crossing.length, BUDGET, window);
+    EXPECT(same(answers[0], answers[1]), 1);
+    return answers[0];
 }
 
 /* A064 0C01 9000 740n B000: from -1023, 100 a stroke by n places to the left, over no shapes; the zone ends at -1024. */
 static struct dvgcheck_answer stroke_check(uint8_t n) {
     const uint8_t stroke[] = {0x64, 0xA0, 0x01, 0x0C, 0, 0x90, n, 0x74, 0, 0xB0};
     static const char none[] = "dvgcert 1\ndone 0\n";
-    return dvgcheck_check_on(DVGCHECK_BOARD, half_rom, sizeof half_rom, (const uint8_t *)none, strlen(none), stroke, sizeof stroke,
-                             BUDGET, zone);
+    return dvgcheck_frame_by_certificate(DVGCHECK_BOARD, DVGCHECK_BOUND, half_rom, sizeof half_rom, (const uint8_t *)none,
+                                         strlen(none), stroke, sizeof stroke, BUDGET, zone);
 }
 
 static void clipped(void) {
@@ -284,17 +251,9 @@ static void clipped(void) {
     EXPECT(a.shapes, 10);
     EXPECT(a.words, 130);
     EXPECT(a.depth, 2);
-    EXPECT(crossing_judge(DVGCHECK_BOARD, zone), 0);
-    EXPECT(same(crossing_over(&shapes), a), 1);
-    EXPECT(same(crossing_over(&copied), a), 1);
-    EXPECT(same(dvgcheck_frame_on(DVGCHECK_BOARD, &shapes, crossing.at, crossing.length, BUDGET), a), 1);
-
     a = crossing_check(DVGCHECK_BOARD, screen);
     EXPECT(a.number, 46);
     EXPECT(a.word, 7);
-    EXPECT(crossing_judge(DVGCHECK_BOARD, screen), 0);
-    EXPECT(same(crossing_over(&shapes), a), 1);
-    EXPECT(same(crossing_over(&copied), a), 1);
 
     EXPECT(stroke_check(1).number, 0);
     a = stroke_check(2);
@@ -302,45 +261,52 @@ static void clipped(void) {
     EXPECT(a.word, 2);
 
     EXPECT(crossing_check(DVGCHECK_PROFILE, zone).number, DVGCHECK_BAD_WINDOW);
-    EXPECT(crossing_judge(DVGCHECK_PROFILE, zone), DVGCHECK_BAD_WINDOW);
-    EXPECT(crossing_over(&shapes).number, DVGCHECK_NO_SHAPES);
-    EXPECT(crossing_over(&copied).number, DVGCHECK_NO_SHAPES);
     EXPECT(crossing_check(2, zone).number, DVGCHECK_BAD_MACHINE);
-    EXPECT(judge_in(&crossing_rom, &crossing_cert, zone).number, DVGCHECK_BAD_WINDOW);
-    EXPECT(dvgcheck_judge_exact(rom.at, rom.length, cert.at, cert.length, zone, &shapes).number, DVGCHECK_BAD_WINDOW);
-    EXPECT(dvgcheck_check(rom.at, rom.length, cert.at, cert.length, frame.at, frame.length, BUDGET, zone).number,
-           DVGCHECK_BAD_WINDOW);
-    EXPECT(dvgcheck_check_exact(rom.at, rom.length, cert.at, cert.length, frame.at, frame.length, BUDGET, zone).number,
-           DVGCHECK_BAD_WINDOW);
+    EXPECT(judge(DVGCHECK_BOUND, &rom, &cert, zone).number, DVGCHECK_BAD_WINDOW);
+    EXPECT(judge(DVGCHECK_EXACT, &rom, &cert, zone).number, DVGCHECK_BAD_WINDOW);
     for (size_t i = 0; i < sizeof not_zones / sizeof *not_zones; i++)
-        for (uint32_t machine = DVGCHECK_PROFILE; machine <= DVGCHECK_BOARD; machine++) {
+        for (uint32_t machine = DVGCHECK_PROFILE; machine <= DVGCHECK_BOARD; machine++)
             EXPECT(crossing_check(machine, not_zones[i]).number, DVGCHECK_BAD_WINDOW);
-            EXPECT(crossing_judge(machine, not_zones[i]), DVGCHECK_BAD_WINDOW);
-        }
 }
+
+/* ---- memory, and threads */
 
 static void memory(void) {
     EXPECT(taken, given);
-    EXPECT(judge(&rom, &cert).number, 0);
-    EXPECT(taken, given);
+    for (uint32_t mode = DVGCHECK_BOUND; mode <= DVGCHECK_EXACT; mode++) {
+        struct dvgcheck_answer a = {.number = 1};
+        for (refused = 1; a.number != 0; refused++) {
+            asked = 0;
+            a = check(mode, &cert, frame.length, BUDGET);
+            if (a.number != 0 && a.number != 50) EXPECT(a.number, 16);
+            EXPECT(taken, given);
+        }
+        refused = 0;
+    }
     asked = 0;
-    EXPECT(over(frame.length, BUDGET).number, 0);
+    EXPECT(judge(2, &rom, &cert, screen).number, DVGCHECK_BAD_MODE);
+    EXPECT(bound(0, BUDGET).number, 2);
     EXPECT(asked, 0);
-    struct dvgcheck_answer a = {.number = 1};
-    for (refused = 1; a.number != 0; refused++) {
-        asked = 0;
-        a = judge(&rom, &cert);
-        if (a.number != 0) EXPECT(a.number, 16);
-        EXPECT(over(frame.length, BUDGET).number, a.number == 0 ? 0 : DVGCHECK_NO_SHAPES);
+}
+
+/* Judges the frame many times; answers its argument where an answer is not what it is without threads, else null. */
+static void *run(void *wrong) {
+    for (int i = 0; i < TURNS; i++) {
+        struct dvgcheck_answer a = bound(frame.length, 551), b = check(DVGCHECK_EXACT, &loose, frame.length, BUDGET);
+        if (a.number != 0 || a.words != 551 || a.depth != 2 || b.number != 32 || taken != given) return wrong;
     }
-    a.number = 1;
-    for (refused = 1; a.number != 0; refused++) {
-        asked = 0;
-        a = check(&cert, frame.length, BUDGET);
-        if (a.number != 0 && a.number != 50) EXPECT(a.number, 16);
+    return NULL;
+}
+
+static void at_once(void) {
+    pthread_t threads[2];
+    for (int i = 0; i < 2; i++)
+        if (pthread_create(&threads[i], NULL, run, &failed) != 0) exit(2);
+    for (int i = 0; i < 2; i++) {
+        void *wrong;
+        pthread_join(threads[i], &wrong);
+        EXPECT(wrong == NULL, 1);
     }
-    refused = 0;
-    EXPECT(taken, given);
 }
 
 /* The word is the name of arcade.cert with one word too many in its last entry. */
@@ -355,12 +321,13 @@ int main(int count, char **words) {
     read_whole("homebrew-too-far.frame", &crossing);
     read_whole(words[1], &loose);
     taken = given = 0;
-    before_judging();
+    out_of_range();
     refusals();
     frames();
     agree();
     machines();
     clipped();
     memory();
+    at_once();
     return failed;
 }

@@ -1,5 +1,5 @@
 /*
- * Calls the functions of dvgcheck.h that judge from the ROM alone, and says what is not as it should be; the text that the first line of
+ * Calls the functions of dvgcheck.h that take no certificate, and says what is not as it should be; the text that the first line of
  * `main` names goes to standard output. It is linked by tests/c-texts, with malloc and its kin counted and refused in turn.
  *
  *     texts account MACHINE WINDOW ROM FIRST LAST BUDGET FRAME
@@ -44,7 +44,6 @@ STANDS(text, length, 0);
 STANDS(text, frame, sizeof(size_t));
 STANDS(text, answer, 2 * sizeof(size_t));
 STANDS(text, number, 2 * sizeof(size_t) + 24);
-STANDS(shapes, bytes, 0);
 
 enum { MOST = 4097, MOST_TEXT = 1 << 20, MOST_FRAMES = 16, UNTOUCHED = 0xA5, TURNS = 50 };
 

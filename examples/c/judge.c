@@ -1,5 +1,6 @@
 /*
- * Judges frames over a vector ROM and its certificate, the last one a hundred thousand times, and says how long that took:
+ * Judges frames by a certificate of their vector ROM, and then the last one a thousand times, by the certificate and from the ROM
+ * alone, and says how long that took:
  *
  *     judge ROM CERT FRAME..
  */
@@ -8,20 +9,42 @@
 
 #include "dvgcheck.h"
 
-enum { TIMES = 100000, BUDGET = 20000, MOST_ROM = 4097, MOST_CERT = 819801, MOST_FRAME = 2049 };
+enum { MACHINE = DVGCHECK_PROFILE, TIMES = 1000, BUDGET = 20000, MOST_ROM = 4097, MOST_CERT = 819801, MOST_FRAME = 2049 };
 
-static uint8_t rom[MOST_ROM], cert[MOST_CERT], frame[MOST_FRAME];
+/* What was read of a file. */
+struct file {
+    uint8_t *at;
+    size_t most, length;
+};
 
-static struct dvgcheck_shapes shapes;
+static uint8_t rom_bytes[MOST_ROM], cert_bytes[MOST_CERT], frame_bytes[MOST_FRAME];
 
-/* Reads a file to at most so many bytes; -1 where it can't be read. A limit is one more than a good file has. */
-static long read_file(const char *name, uint8_t *into, size_t most) {
+static struct file rom = {rom_bytes, MOST_ROM, 0}, cert = {cert_bytes, MOST_CERT, 0}, frame = {frame_bytes, MOST_FRAME, 0};
+
+static const struct dvgcheck_map map = DVGCHECK_ASTEROIDS;
+
+static const struct dvgcheck_window screen = DVGCHECK_SCREEN;
+
+/* Reads a file to its limit, which is one more than a good file has; 0 where it can't be read. */
+static int read_file(const char *name, struct file *into) {
     FILE *file = fopen(name, "rb");
-    if (file == NULL) return -1;
-    size_t length = fread(into, 1, most, file);
-    int failed = ferror(file);
-    fclose(file);
-    return failed ? -1 : (long)length;
+    int is_read = file != NULL;
+    if (is_read) {
+        into->length = fread(into->at, 1, into->most, file);
+        is_read = !ferror(file);
+        fclose(file);
+    }
+    if (!is_read) fprintf(stderr, "judge: cannot read %s\n", name);
+    return is_read;
+}
+
+static struct dvgcheck_answer by_certificate(void) {
+    return dvgcheck_frame_by_certificate(MACHINE, DVGCHECK_BOUND, rom.at, rom.length, cert.at, cert.length, frame.at, frame.length,
+                                         BUDGET, screen);
+}
+
+static struct dvgcheck_answer alone(void) {
+    return dvgcheck_frame_alone(MACHINE, rom.at, rom.length, map, frame.at, frame.length, BUDGET, screen);
 }
 
 static void say(const char *name, struct dvgcheck_answer a) {
@@ -40,30 +63,33 @@ static void say(const char *name, struct dvgcheck_answer a) {
         printf("refused %u\n", a.number);
 }
 
+/* Whether a number is about the frame, and not about the ROM or the certificate. */
+static int is_of_frame(uint8_t number) { return number == DVGCHECK_ACCEPTED || number == 2 || (number >= 40 && number <= 48); }
+
+/* How long a call takes, in microseconds. */
+static void time_call(const char *what, struct dvgcheck_answer (*call)(void)) {
+    clock_t from = clock();
+    for (int i = 0; i < TIMES; i++) call();
+    printf("%d times %s: %.1f microseconds each\n", TIMES, what, 1e6 * (double)(clock() - from) / CLOCKS_PER_SEC / TIMES);
+}
+
 int main(int count, char **words) {
-    long rom_length, cert_length, length = 0;
-    if (count < 4 || (rom_length = read_file(words[1], rom, MOST_ROM)) < 0 ||
-        (cert_length = read_file(words[2], cert, MOST_CERT)) < 0) {
+    if (count < 4) {
         fprintf(stderr, "usage: judge ROM CERT FRAME..\n");
         return 2;
     }
-    struct dvgcheck_window screen = DVGCHECK_SCREEN;
-    struct dvgcheck_answer answer = dvgcheck_judge(rom, (size_t)rom_length, cert, (size_t)cert_length, screen, &shapes);
-    if (answer.number != DVGCHECK_ACCEPTED) {
-        say(words[2], answer);
-        return 1;
-    }
+    if (!read_file(words[1], &rom) || !read_file(words[2], &cert)) return 2;
+    struct dvgcheck_answer answer = {0};
     for (int i = 3; i < count; i++) {
-        if ((length = read_file(words[i], frame, MOST_FRAME)) < 0) {
-            fprintf(stderr, "judge: cannot read %s\n", words[i]);
-            return 2;
+        if (!read_file(words[i], &frame)) return 2;
+        answer = by_certificate();
+        if (!is_of_frame(answer.number)) {
+            say(words[2], answer);
+            return 1;
         }
-        say(words[i], dvgcheck_frame(&shapes, frame, (size_t)length, BUDGET));
+        say(words[i], answer);
     }
-
-    clock_t from = clock();
-    for (int i = 0; i < TIMES; i++) answer = dvgcheck_frame(&shapes, frame, (size_t)length, BUDGET);
-    double seconds = (double)(clock() - from) / CLOCKS_PER_SEC;
-    printf("%d times: %.2f seconds, %.1f microseconds each\n", TIMES, seconds, 1e6 * seconds / TIMES);
+    time_call("by the certificate", by_certificate);
+    time_call("from the ROM alone", alone);
     return answer.number != DVGCHECK_ACCEPTED;
 }

@@ -1,16 +1,17 @@
 -- What a frame comes to by its own certificate, from what C passes. All of it is this project's own.
-use Rattle.std.specs.Prelude.{◌≡◌, ◌≤◌, ℕ, List, Result, Ok, Err}
+use Rattle.std.specs.Prelude.{◌≡◌, ◌≤◌, ℕ, List, Result, Ok, Err, IfErr}
 use Rattle.dvg_words.specs.Values.{MemoryMap, Window, IsMap, IsFor}
+use Rattle.dvg_words.specs.Memory.{words_of, rom_on}
 use Rattle.dvg_check.specs.declared.verdict.Yes.{Yes}
 use Rattle.dvg_make.specs.declared.judging.FrameRefusal.{FrameRefusal}
+use Rattle.dvg_make.specs.Judging.{HasCallCause}
 use Rattle.dvg_cmd.specs.declared.frame_judge.OwnCertificates.{OwnCertificates}
-use Rattle.dvg_cmd.specs.Frames.{VerdictOnBytes, IsAccepted}
+use Rattle.dvg_cmd.specs.Frames.{VerdictOnBytes}
 use Rattle.dvg_c.specs.declared.answer.Answer.{Answer}
 use Rattle.dvg_c.specs.declared.machine.TheConstants.{BOARD}
 use Rattle.dvg_c.specs.declared.answer.OutOfRange.{OutOfRange}
 use Rattle.dvg_c.specs.declared.answer.OutOfRange.TheVariants as bad
-use Rattle.dvg_c.specs.Kept.{machine_of}
-use Rattle.dvg_c.specs.Told.{bad_number, numbered, told_own, yes_of}
+use Rattle.dvg_c.specs.Told.{bad_number, machine_of, numbered, told_own}
 
 -- the number stands for a machine, a ROM may lie there, and the window is one for that machine
 pub record AreTaken (machine : ℕ) (map : MemoryMap) (w : Window) : Type 0 where
@@ -24,16 +25,18 @@ IsBad machine map w bad.Machine = machine ≤ BOARD → ⊥
 IsBad machine map w bad.Map = (machine ≤ BOARD) × (IsMap map → ⊥)
 IsBad machine map w bad.Window = (machine ≤ BOARD) × IsMap map × (IsFor (machine_of machine) w → ⊥)
 
--- what is out of range, or the verdict on the frame's bytes by its own certificate
+-- what is out of range; or the verdict on the frame's bytes by its own certificate, and why none can be made
 abbrev pub AloneVerdict : ℕ → List ℕ → MemoryMap → List ℕ → ℕ → Window → Result (Result Yes FrameRefusal) OutOfRange → Type 0
 AloneVerdict machine rom map frame budget w (Ok v) =
     AreTaken machine map w × VerdictOnBytes (machine_of machine) rom map frame budget w v
+    × IfErr v (HasCallCause (rom_on (machine_of machine) map rom) (words_of frame))
 AloneVerdict machine rom map frame budget w (Err b) = IsBad machine map w b
 
 -- each verdict of this judge is the verdict on what C passes
 abbrev pub JudgesAlone : ℕ → List ℕ → MemoryMap → ℕ → Window → OwnCertificates → Type 0
 JudgesAlone machine rom map budget w own =
     (frame : List ℕ) (v : Result Yes FrameRefusal) → VerdictOnBytes own.machine own.rom.now own.map frame own.budget own.window v
+    → IfErr v (HasCallCause (rom_on own.machine own.map own.rom.now) (words_of frame))
     → AloneVerdict machine rom map frame budget w (Ok v)
 
 -- the answer in plain numbers
@@ -45,7 +48,3 @@ told_alone (Err b) = numbered (bad_number b)
 abbrev pub TellsAlone : ℕ → List ℕ → MemoryMap → List ℕ → ℕ → Window → Answer → Type 0
 TellsAlone machine rom map frame budget w a =
     (v : Result (Result Yes FrameRefusal) OutOfRange) × AloneVerdict machine rom map frame budget w v × (a ≡ told_alone v)
-
--- every run of the frame is safe, and has just the answer's counts
-abbrev pub IsAcceptedAlone : ℕ → List ℕ → MemoryMap → List ℕ → ℕ → Window → Answer → Type 0
-IsAcceptedAlone machine rom map frame budget w a = IsAccepted (machine_of machine) rom map frame budget w (yes_of a)

@@ -1,6 +1,5 @@
 pub mod Told
-pub mod Kept
-pub mod Judging
 pub mod Alone
+pub mod ByCertificate
 pub mod Texts
 pub mod Making

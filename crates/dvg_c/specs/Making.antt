@@ -20,8 +20,7 @@ use Rattle.dvg_c.specs.declared.make.Root.{Root}
 use Rattle.dvg_c.specs.declared.make.Unmade.{Unmade}
 use Rattle.dvg_c.specs.declared.make.Unmade.TheVariants as unmade
 use Rattle.dvg_c.specs.declared.text.TextAnswer.{TextAnswer}
-use Rattle.dvg_c.specs.Kept.{machine_of}
-use Rattle.dvg_c.specs.Told.{numbered, told_fault}
+use Rattle.dvg_c.specs.Told.{machine_of, numbered, told_fault}
 use Rattle.dvg_c.specs.Texts.{TellsText}
 
 -- the address and the key of a root

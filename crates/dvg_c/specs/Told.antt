@@ -1,9 +1,13 @@
 -- What the plain structs that C sees stand for. All of it is this project's own.
-use Rattle.std.specs.Prelude.{◌≡◌, ℕ, Option, Some, None, Result, Ok, Err}
+use Rattle.std.specs.Prelude.{◌≡◌, ◌==◌, ℕ, Option, Some, None, Result, Ok, Err, if◌then◌else◌}
+use Rattle.dvg_words.specs.declared.machine.Machine.{Machine}
+use Rattle.dvg_words.specs.declared.machine.Machine.TheVariants.{Profile, Board}
 use Rattle.dvg_words.specs.Values.{Window, MemoryMap}
 use Rattle.dvg_cert.specs.declared.entry.Key.{Key}
 use Rattle.dvg_cert.specs.declared.entry.Key.TheVariants.{At, Any}
 use Rattle.dvg_check.specs.Numbers.{refusal_number}
+use Rattle.dvg_check.specs.declared.fault.Mode.{Mode}
+use Rattle.dvg_check.specs.declared.fault.Mode.TheVariants.{Bound, Exact}
 use Rattle.dvg_check.specs.declared.verdict.Yes.{Yes}
 use Rattle.dvg_check.specs.declared.verdict.Refusal.{Refusal}
 use Rattle.dvg_check.specs.declared.verdict.Refusal.TheVariants as refusal
@@ -17,6 +21,16 @@ use Rattle.dvg_c.specs.declared.answer.Answer.{Answer}
 use Rattle.dvg_c.specs.declared.answer.OutOfRange.{OutOfRange}
 use Rattle.dvg_c.specs.declared.answer.OutOfRange.TheVariants as bad
 use Rattle.dvg_c.specs.declared.answer.TheConstants.{ANY_SCALE, BAD_MACHINE, BAD_MAP, BAD_WINDOW}
+use Rattle.dvg_c.specs.declared.machine.TheConstants.{BOARD}
+use Rattle.dvg_c.specs.declared.mode.TheConstants.{EXACT}
+
+-- the machine that a number stands for: 1 for the board
+abbrev pub machine_of : ℕ → Machine
+machine_of n = if n == BOARD then Board else Profile
+
+-- how counts are judged, that a number stands for: 1 for exact counts
+abbrev pub mode_of : ℕ → Mode
+mode_of n = if n == EXACT then Exact else Bound
 
 -- the window between these ends
 abbrev pub window_of : WindowEnds → Window

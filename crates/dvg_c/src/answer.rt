@@ -1,8 +1,6 @@
 //! What a judgement comes to, in plain numbers.
 
 ghost use Rattle.std.specs.Prelude.{◌≡◌, ◌≢◌, Ok};
-ghost use Rattle.dvg_cert.specs.Entry.{IsKey};
-ghost use Rattle.dvg_c.specs.Kept.{key_of};
 ghost use Rattle.dvg_c.specs.Told.{bad_number, told_key, numbered, told_yes, told_refusal, told, told_fault, told_own, yes_of};
 
 use dvg_cert::Key;
@@ -28,8 +26,8 @@ pub struct Answer {
     pub scale: u8,
     /// With 0: how many return places every run stores at once at most.
     pub depth: u8,
-    /// 0 where it is accepted, else the number of the refusal, 80 for a bad window, 81 where no shapes are judged, 82 for a bad
-    /// machine, 83 for a bad map, or 86 for lengths that don't add up.
+    /// 0 where it is accepted, else the number of the refusal, 80 for a bad window, 82 for a bad machine, 83 for a bad map, 86 for
+    /// lengths that don't add up, or 87 for a bad mode.
     pub number: u8,
     /// With 60 to 62, and of a made text with 63 at a call: the word address of the frame's call whose entry can't be made, or
     /// `NO_CALL` where it is a root's.
@@ -38,9 +36,6 @@ pub struct Answer {
 
 /// The number of a bad window.
 pub const BAD_WINDOW: u8 = 80;
-
-/// The number of a frame over memory that has no judged shapes.
-pub const NO_SHAPES: u8 = 81;
 
 /// The number of a bad machine.
 pub const BAD_MACHINE: u8 = 82;
@@ -56,6 +51,9 @@ pub const NO_TEXT_MEMORY: u8 = 85;
 
 /// The number of lengths that don't add up to that of the bytes.
 pub const BAD_LENGTHS: u8 = 86;
+
+/// The number of a bad mode.
+pub const BAD_MODE: u8 = 87;
 
 /// What stands for a call where a root's entry can't be made.
 pub const NO_CALL: u16 = 0xFFFF;
@@ -90,8 +88,7 @@ impl OutOfRange {
 
 /// A number that stands for a key.
 pub fn scale_of(key: Key) -> u8
-    ensures value { result ≡ told_key key }
-    ensures key { IsKey key → key_of result ≡ key }
+    ensures { result ≡ told_key key }
 {
     match key {
         Key::At(scale) => scale,

@@ -37,6 +37,7 @@ pub use Rattle.dvg_check.specs.Passing.{AllKept, IsKept, Kept, moved, set_number
 pub use Rattle.dvg_cert.specs.declared.entry.LitBox.TheVariants.{Empty, Span}
 pub use Rattle.dvg_check.specs.Finding.{IsFound, FaultFound, Found, ShapeFaultFound, ShapeFinding, FirstShapeFound}
 pub use Rattle.dvg_check.specs.Circuit.{SafeOnCircuit, CountsOnCircuit, IsPast, IsSafeRun, SafeRuns, CountsOfRun}
+pub use Rattle.dvg_check.specs.Means.{Means}
 pub use Rattle.dvg_items.proofs.Points.{shift_origin, shift_shift, point_is, origin_shift}
 pub use Rattle.dvg_items.proofs.Leading.{Same, same_lead, too_long, shorter, everywhere, item_same}
 pub use Rattle.dvg_items.proofs.Lists.{all_append, all_map, all_right, at_place}

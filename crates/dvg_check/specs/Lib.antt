@@ -10,6 +10,7 @@ pub mod Numbers
 pub mod Behaving
 pub mod Safety
 pub mod Circuit
+pub mod Means
 pub mod Drift
 pub mod Laws
 pub mod Example

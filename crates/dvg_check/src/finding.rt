@@ -2,12 +2,9 @@
 
 ghost use Rattle.std.specs.Prelude.{◌≡◌, ◌≤◌, IfOk, IfErr};
 ghost use Rattle.dvg_words.specs.Memory.{rom_on};
-ghost use Rattle.dvg_words.specs.declared.machine.Machine.TheVariants.{Board};
 ghost use Rattle.dvg_cert.specs.declared.limits.TheConstants.{MOST_WORDS};
-ghost use Rattle.dvg_check.specs.declared.fault.Mode.TheVariants.{Exact};
 ghost use Rattle.dvg_check.specs.Verdict.{PartsVerdict, RomVerdict, memory_on};
-ghost use Rattle.dvg_check.specs.Safety.{Safe, CountsAtHalt};
-ghost use Rattle.dvg_check.specs.Circuit.{SafeOnCircuit, CountsOnCircuit};
+ghost use Rattle.dvg_check.specs.Means.{Means};
 ghost use Rattle.dvg_check.specs.Causes.{refusal_of, verdict_of, TellsOf};
 ghost use Rattle.dvg_check.specs.declared.finding.RomFinding.TheVariants as findings;
 
@@ -69,11 +66,7 @@ pub fn find_parts_fault(
     requires map { rom.now.map ≡ cert.now.map }
     ensures verdict { PartsVerdict mode window rom.now cert.now.entries frame.now budget (verdict_of result) }
     ensures found { IfErr result (TellsOf mode window rom.now cert.now.entries frame.now budget) }
-    ensures safe { IfOk result (λ yes. Safe (record { frame = frame.now; rom = rom.now }) window yes.words yes.depth) }
-    ensures exact { mode ≡ Exact → IfOk result (λ yes. CountsAtHalt (record { frame = frame.now; rom = rom.now }) yes.words yes.depth) }
-    ensures circuit { rom.now.machine ≡ Board → IfOk result (λ yes. SafeOnCircuit (record { frame = frame.now; rom = rom.now }) window yes.words yes.depth) }
-    ensures circuit_exact { rom.now.machine ≡ Board → mode ≡ Exact
-        → IfOk result (λ yes. CountsOnCircuit (record { frame = frame.now; rom = rom.now }) yes.words yes.depth) }
+    ensures means { IfOk result (λ yes. Means mode (record { frame = frame.now; rom = rom.now }) window yes.words yes.depth) }
 {
     let listed = cert.entries().len();
     let Ok(entries) = HashIndex::new(alloc, cert) else {
@@ -96,7 +89,7 @@ pub fn find_parts_fault(
 ///
 /// `budget` is how many words the frame may take at most, up to 1,000,000, `window` where strokes may be lit. On the profile a yes
 /// for `CLIPPED` says nothing of the screen. What is accepted is safe, on the board also on its circuit, and in the mode `Exact` the
-/// counts are those of each run. Takes memory for the index of the entries alone.
+/// counts are those of each run: the clause `means`. Takes memory for the index of the entries alone.
 #[tactic(auto, using(crate::proofs::Accepting::over_rom))]
 pub fn find_rom_fault(
     machine: Machine,
@@ -111,11 +104,7 @@ pub fn find_rom_fault(
     requires { budget ≤ MOST_WORDS }
     ensures verdict { RomVerdict machine mode window rom.now cert.now frame.now budget (verdict_of result) }
     ensures found { IfErr result (TellsOf mode window (rom_on machine cert.now.map rom.now) cert.now.entries frame.now budget) }
-    ensures safe { IfOk result (λ yes. Safe (memory_on machine cert.now.map frame.now rom.now) window yes.words yes.depth) }
-    ensures exact { mode ≡ Exact → IfOk result (λ yes. CountsAtHalt (memory_on machine cert.now.map frame.now rom.now) yes.words yes.depth) }
-    ensures circuit { machine ≡ Board → IfOk result (λ yes. SafeOnCircuit (memory_on machine cert.now.map frame.now rom.now) window yes.words yes.depth) }
-    ensures circuit_exact { machine ≡ Board → mode ≡ Exact
-        → IfOk result (λ yes. CountsOnCircuit (memory_on machine cert.now.map frame.now rom.now) yes.words yes.depth) }
+    ensures means { IfOk result (λ yes. Means mode (memory_on machine cert.now.map frame.now rom.now) window yes.words yes.depth) }
 {
     let Ok(rom) = RomImage::from_bytes_on(machine, rom, cert.map()) else {
         return Err(RomFinding::RomLength);

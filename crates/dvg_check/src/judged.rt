@@ -2,16 +2,12 @@
 
 ghost use Rattle.std.specs.Prelude.{◌≡◌, ◌≤◌, OnOk, IfOk, IfErr};
 ghost use Rattle.dvg_cert.specs.declared.limits.TheConstants.{MOST_WORDS};
-ghost use Rattle.dvg_words.specs.declared.machine.Machine.TheVariants.{Board};
-ghost use Rattle.dvg_check.specs.declared.fault.Mode.TheVariants.{Exact};
 ghost use Rattle.dvg_items.specs.Bounds.{IsSomeCertificate};
 ghost use Rattle.dvg_check.specs.Rules.{Good, GoodFrame};
 ghost use Rattle.dvg_check.specs.FirstFault.{FirstShapeFault, FirstFrameFault};
 ghost use Rattle.dvg_check.specs.Causes.{CauseOf, ShapeCauseOf};
 ghost use Rattle.dvg_check.specs.Finding.{FirstFrameFound, FirstShapeFound, IsSoundFound};
-ghost use Rattle.dvg_check.specs.Safety.{Safe};
-ghost use Rattle.dvg_check.specs.Circuit.{SafeOnCircuit, CountsOnCircuit};
-ghost use Rattle.dvg_check.specs.Laws.{CountsAtHalt};
+ghost use Rattle.dvg_check.specs.Means.{Means};
 
 use crate::fault::{FrameFault, FrameFinding, Mode, ShapeFault, ShapeFinding};
 use crate::frames::{Accepted, find_frame_fault};
@@ -114,11 +110,7 @@ impl<'a, E: Entries> JudgedShapes<'a, E> {
         ensures err { IfErr result (FirstFrameFound self.now.window self.now.rom.machine frame.now self.now.list budget) }
         ensures sound { IfErr result (λ finding. IsSoundFound finding.found) }
         ensures cause { IfErr result (CauseOf self.now.window budget) }
-        ensures safe { IfOk result (λ yes. Safe (record { frame = frame.now; rom = self.now.rom }) self.now.window yes.words yes.depth) }
-        ensures exact { self.now.mode ≡ Exact → IfOk result (λ yes. CountsAtHalt (record { frame = frame.now; rom = self.now.rom }) yes.words yes.depth) }
-        ensures circuit { self.now.rom.machine ≡ Board → IfOk result (λ yes. SafeOnCircuit (record { frame = frame.now; rom = self.now.rom }) self.now.window yes.words yes.depth) }
-        ensures circuit_exact { self.now.rom.machine ≡ Board → self.now.mode ≡ Exact
-            → IfOk result (λ yes. CountsOnCircuit (record { frame = frame.now; rom = self.now.rom }) yes.words yes.depth) }
+        ensures means { IfOk result (λ yes. Means self.now.mode (record { frame = frame.now; rom = self.now.rom }) self.now.window yes.words yes.depth) }
     {
         // Its clause says that the frame is whole.
         let _words = frame.words();
@@ -164,11 +156,7 @@ impl<'a, E: Entries> JudgedShapes<'a, E> {
         requires { budget ≤ MOST_WORDS }
         ensures ok { IfOk result (λ yes. GoodFrame self.now.window self.now.rom.machine frame.now self.now.list budget yes.words yes.depth) }
         ensures err { IfErr result (FirstFrameFault self.now.window self.now.rom.machine frame.now self.now.list budget) }
-        ensures safe { IfOk result (λ yes. Safe (record { frame = frame.now; rom = self.now.rom }) self.now.window yes.words yes.depth) }
-        ensures exact { self.now.mode ≡ Exact → IfOk result (λ yes. CountsAtHalt (record { frame = frame.now; rom = self.now.rom }) yes.words yes.depth) }
-        ensures circuit { self.now.rom.machine ≡ Board → IfOk result (λ yes. SafeOnCircuit (record { frame = frame.now; rom = self.now.rom }) self.now.window yes.words yes.depth) }
-        ensures circuit_exact { self.now.rom.machine ≡ Board → self.now.mode ≡ Exact
-            → IfOk result (λ yes. CountsOnCircuit (record { frame = frame.now; rom = self.now.rom }) yes.words yes.depth) }
+        ensures means { IfOk result (λ yes. Means self.now.mode (record { frame = frame.now; rom = self.now.rom }) self.now.window yes.words yes.depth) }
     {
         match self.find_fault(frame, budget) {
             Ok(accepted) => Ok(accepted),

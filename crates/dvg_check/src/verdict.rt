@@ -2,13 +2,10 @@
 
 ghost use Rattle.std.specs.Prelude.{◌≡◌, ◌≤◌, OnOk, IfOk, IfErr};
 ghost use Rattle.dvg_words.specs.Memory.{words_of};
-ghost use Rattle.dvg_words.specs.declared.machine.Machine.TheVariants.{Board};
 ghost use Rattle.dvg_check.specs.Rules.{Bound, Exact};
 ghost use Rattle.dvg_check.specs.Verdict.{InRange, RangeRefusal, memory_on, PartsVerdict, RomVerdict};
 ghost use Rattle.dvg_check.specs.Numbers.{refusal_number};
-ghost use Rattle.dvg_check.specs.Safety.{Safe};
-ghost use Rattle.dvg_check.specs.Circuit.{SafeOnCircuit, CountsOnCircuit};
-ghost use Rattle.dvg_check.specs.Laws.{CountsAtHalt};
+ghost use Rattle.dvg_check.specs.Means.{Means};
 ghost use Rattle.dvg_check.specs.declared.verdict.Refusal.TheVariants as refusals;
 
 use crate::fault::{FrameFault, Mode, ShapeFault};
@@ -133,11 +130,7 @@ pub fn check_rom(
 ) -> Result<Yes, Refusal>
     requires { budget ≤ MOST_WORDS }
     ensures verdict { RomVerdict machine mode window rom.now cert.now frame.now budget result }
-    ensures safe { IfOk result (λ yes. Safe (memory_on machine cert.now.map frame.now rom.now) window yes.words yes.depth) }
-    ensures exact { mode ≡ Exact → IfOk result (λ yes. CountsAtHalt (memory_on machine cert.now.map frame.now rom.now) yes.words yes.depth) }
-    ensures circuit { machine ≡ Board → IfOk result (λ yes. SafeOnCircuit (memory_on machine cert.now.map frame.now rom.now) window yes.words yes.depth) }
-    ensures circuit_exact { machine ≡ Board → mode ≡ Exact
-        → IfOk result (λ yes. CountsOnCircuit (memory_on machine cert.now.map frame.now rom.now) yes.words yes.depth) }
+    ensures means { IfOk result (λ yes. Means mode (memory_on machine cert.now.map frame.now rom.now) window yes.words yes.depth) }
 {
     match find_rom_fault(machine, alloc, rom, frame, cert, budget, window, mode) {
         Ok(yes) => Ok(yes),
@@ -163,8 +156,7 @@ pub fn check_parts(
     requires budget { budget ≤ MOST_WORDS }
     requires map { rom.now.map ≡ cert.now.map }
     ensures verdict { PartsVerdict Bound window rom.now cert.now.entries frame.now budget result }
-    ensures safe { IfOk result (λ yes. Safe (record { frame = frame.now; rom = rom.now }) window yes.words yes.depth) }
-    ensures circuit { rom.now.machine ≡ Board → IfOk result (λ yes. SafeOnCircuit (record { frame = frame.now; rom = rom.now }) window yes.words yes.depth) }
+    ensures means { IfOk result (λ yes. Means Bound (record { frame = frame.now; rom = rom.now }) window yes.words yes.depth) }
 {
     match find_parts_fault(alloc, rom, frame, cert, budget, window, Mode::Bound) {
         Ok(yes) => Ok(yes),
@@ -185,10 +177,7 @@ pub fn check_parts_exact(
     requires budget { budget ≤ MOST_WORDS }
     requires map { rom.now.map ≡ cert.now.map }
     ensures verdict { PartsVerdict Exact window rom.now cert.now.entries frame.now budget result }
-    ensures safe { IfOk result (λ yes. Safe (record { frame = frame.now; rom = rom.now }) window yes.words yes.depth) }
-    ensures exact { IfOk result (λ yes. CountsAtHalt (record { frame = frame.now; rom = rom.now }) yes.words yes.depth) }
-    ensures circuit { rom.now.machine ≡ Board → IfOk result (λ yes. SafeOnCircuit (record { frame = frame.now; rom = rom.now }) window yes.words yes.depth) }
-    ensures circuit_exact { rom.now.machine ≡ Board → IfOk result (λ yes. CountsOnCircuit (record { frame = frame.now; rom = rom.now }) yes.words yes.depth) }
+    ensures means { IfOk result (λ yes. Means Exact (record { frame = frame.now; rom = rom.now }) window yes.words yes.depth) }
 {
     match find_parts_fault(alloc, rom, frame, cert, budget, window, Mode::Exact) {
         Ok(yes) => Ok(yes),

@@ -1,9 +1,8 @@
 -- The verdict on what was read is the one on all, and what is reported of it, over plain values.
-use Rattle.dvg_cmd.proofs.Common.{Option, List, [], None, Some, subst, ◌≡◌, ℕ, Result, IfOk, IfSome, Ok, Err, Machine, Board, words_of, rom_on, Window, Certificate, CertFault, Safe, CountsAtHalt, SafeOnCircuit, CountsOnCircuit, InRange, RomVerdict, Mode, Refusal, Yes, IsPrefix, Judges, ReadsText, arith, Memory, Spells, PrefixRefusal, RangeRefusal, JudgesRom, SafeRead, CountsRead, SafeCircuitRead, CountsCircuitRead, ◌++◌, OnOk, Appends, TakesOneWrite, Detail, Behind, IsBehind, RunFault, behind_text, outcome_behind, Outcome, Accepted, IsReadFor, outcome_of, Reports, ReportsAccepted}
+use Rattle.dvg_cmd.proofs.Common.{Option, List, [], None, Some, subst, ◌≡◌, ℕ, Result, IfOk, IfSome, Ok, Err, Machine, words_of, rom_on, Window, Certificate, CertFault, Means, InRange, RomVerdict, Mode, Refusal, Yes, IsPrefix, Judges, ReadsText, arith, Memory, Spells, PrefixRefusal, RangeRefusal, JudgesRom, MeansRead, ◌++◌, OnOk, Appends, TakesOneWrite, Detail, Behind, IsBehind, RunFault, behind_text, outcome_behind, Outcome, Accepted, IsReadFor, outcome_of, Reports, ReportsAccepted}
 use Rattle.dvg_verdict.proofs.OneVerdict.{out_of_range}
 use Rattle.dvg_verdict.specs.Verdict.{CertVerdict, VerdictOn}
 use Rattle.dvg_cmd.proofs.Whole.{held_bytes, held_told, text_of_held, in_range, range_whole, frame_same, rom_same, rom_back, rom_whole, refused_whole}
-use Rattle.dvg_check.specs.declared.fault.Mode.TheVariants.{Exact}
 use Rattle.dvg_spelling.specs.Report.{report_text}
 use Rattle.dvg_check.specs.declared.verdict.Refusal.TheVariants as refusal
 
@@ -24,14 +23,14 @@ over machine P mode w budget (Ok y) rb fb c (Some t) left range text h holds (So
 
 module _ (machine : Machine) (mode : Mode) (w : Window) (budget : ℕ) (rb fb : List ℕ) (rom frame_held : Option (List ℕ)) (rom_read : IsPrefix 4097 rom rb) (frame_read : IsPrefix 2049 frame_held fb) where
   -- a verdict on what was read of the ROM and of the frame, and on all of the certificate
-  judges : (cert : Option (List ℕ)) (cb : List ℕ) (v : Result Yes Refusal) → VerdictOn machine mode w (held_bytes rom rb) (held_bytes cert cb) (held_bytes frame_held fb) budget v → IfOk v (SafeRead machine w rom cert frame_held)
-      → (mode ≡ Exact → IfOk v (CountsRead machine rom cert frame_held)) → (machine ≡ Board → IfOk v (SafeCircuitRead machine w rom cert frame_held)) → (machine ≡ Board → mode ≡ Exact → IfOk v (CountsCircuitRead machine rom cert frame_held)) → Judges machine mode w rom cert frame_held budget v
-  judges cert cb v is safe exact circuit circuit_exact = grind (arith, held_bytes, held_told)
+  judges : (cert : Option (List ℕ)) (cb : List ℕ) (v : Result Yes Refusal) → VerdictOn machine mode w (held_bytes rom rb) (held_bytes cert cb) (held_bytes frame_held fb) budget v → IfOk v (MeansRead machine mode w rom cert frame_held)
+      → Judges machine mode w rom cert frame_held budget v
+  judges cert cb v is means = grind (arith, held_bytes, held_told)
 
   -- out of range: the ROM and the certificate are nothing to the verdict
   pub judges_range : (cert : Option (List ℕ)) (r : Refusal) → RangeRefusal fb budget r → Judges machine mode w rom cert frame_held budget (Err r)
   judges_range cert r h =
-      judges cert [] (Err r) (out_of_range machine mode w (held_bytes rom rb) (held_bytes cert []) (held_bytes frame_held fb) budget r (range_whole frame_held fb frame_read budget r h)) tt (λ e. tt) (λ b. tt) (λ b e. tt)
+      judges cert [] (Err r) (out_of_range machine mode w (held_bytes rom rb) (held_bytes cert []) (held_bytes frame_held fb) budget r (range_whole frame_held fb frame_read budget r h)) tt
 
   -- the certificate was refused
   pub judges_refused : PrefixRefusal → (cert left : Option (List ℕ)) (f : CertFault) → InRange fb budget → ReadsText cert left (Err f) → Judges machine mode w rom cert frame_held budget (Err (refusal.Cert f))
@@ -39,20 +38,18 @@ module _ (machine : Machine) (mode : Mode) (w : Window) (budget : ℕ) (rb fb : 
       judges cert text.bytes (Err (refusal.Cert f)) (
         in_range frame_held fb frame_read budget range,
         refused_whole law text.bytes (held_bytes cert text.bytes) f.line f.why (text_of_held cert left (Err f) text) text.is,
-      ) tt (λ e. tt) (λ b. tt) (λ b e. tt)
+      ) tt
 
   -- the certificate was taken
   pub judges_cert : (cert left : Option (List ℕ)) (c : Certificate) (v : Result Yes Refusal) → InRange fb budget → ReadsText cert left (Ok c) → JudgesRom machine mode w rb c (words_of fb) budget v → Judges machine mode w rom cert frame_held budget v
   judges_cert cert left c v range text h =
-      let all = λ (P : Yes → Memory → Type 0) (holds : IfOk v (λ yes. P yes (record { frame = words_of fb; rom = rom_on machine c.map rb }))).
-      over machine P mode w budget v rb fb c cert left range text h.is holds rom frame_held rom_read frame_read in
       judges cert text.bytes v (of_cert machine mode w (held_bytes rom rb) (held_bytes cert text.bytes) (held_bytes frame_held fb) budget v (record {
         in_range = in_range frame_held fb frame_read budget range;
         certificate = c;
         spells = subst (λ (x : List ℕ). Spells c x) ((text_of_held cert left (Ok c) text).whole tt) text.is;
         by_it = subst (λ (x : List ℕ). RomVerdict machine mode w (held_bytes rom rb) c (words_of x) budget v) (frame_same frame_held fb frame_read range.frame_length) (rom_whole machine c rb (held_bytes rom rb) (rom_same c.map text.is.0.map_is rom rb rom_read) (rom_back c.map text.is.0.map_is rom rb rom_read) mode w (words_of fb) budget v h.is);
       }))
-      (all (λ y m. Safe m w y.words y.depth) h.safe) (λ e. all (λ y m. CountsAtHalt m y.words y.depth) (h.exact e)) (λ b. all (λ y m. SafeOnCircuit m w y.words y.depth) (h.circuit b)) (λ b e. all (λ y m. CountsOnCircuit m y.words y.depth) (h.circuit_exact b e))
+      (over machine (λ y m. Means mode m w y.words y.depth) mode w budget v rb fb c cert left range text h.is h.means rom frame_held rom_read frame_read)
 
 -- ---- what is written of it
 

@@ -2,7 +2,6 @@
 use Rattle.std.specs.Prelude.{◌≡◌, ◌≢◌, ◌<◌, ◌≤◌, ◌==◌, ℕ, Bool, false, List, ◌++◌, length, Option, IfSome, Result, Ok, Err, IfOk, IfErr, OnOk}
 use Rattle.std.specs.Io.KnownBytes.{Appends, Consumes, IsAtEnd}
 use Rattle.dvg_words.specs.declared.machine.Machine.{Machine}
-use Rattle.dvg_words.specs.declared.machine.Machine.TheVariants.{Board}
 use Rattle.dvg_words.specs.Values.{Window}
 use Rattle.dvg_text.specs.Devices.{AppendsPrefix, TakesOneWrite, count_after}
 use Rattle.dvg_cert.specs.declared.fault.CertWhy.TheVariants.{Unended}
@@ -13,8 +12,7 @@ use Rattle.dvg_check.specs.declared.verdict.Yes.{Yes}
 use Rattle.dvg_check.specs.declared.verdict.Refusal.{Refusal}
 use Rattle.dvg_check.specs.declared.verdict.Refusal.TheVariants as refusal
 use Rattle.dvg_check.specs.declared.fault.Mode.{Mode}
-use Rattle.dvg_check.specs.declared.fault.Mode.TheVariants.{Exact}
-use Rattle.dvg_verdict.specs.Verdict.{VerdictOn, SafeOn, CountsOn, SafeCircuitOn, CountsCircuitOn}
+use Rattle.dvg_verdict.specs.Verdict.{VerdictOn, MeansOn}
 use Rattle.dvg_spelling.specs.Report.{report_text}
 pub use Rattle.dvg_spelling.specs.declared.outcome.Outcome.{Outcome}
 pub use Rattle.dvg_spelling.specs.declared.outcome.Outcome.TheVariants.{Accepted, Refused, NoMemory}
@@ -97,25 +95,10 @@ IsReadFor verdict old new = IsReadTo MOST_TEXT_READ old new
 
 -- ---- what is written
 
--- P holds of all bytes that three readers held, with these counts, if all of them are known
-abbrev pub HoldsOfRead : (List ℕ → List ℕ → List ℕ → ℕ → ℕ → Type 0) → Option (List ℕ) → Option (List ℕ) → Option (List ℕ) → Yes → Type 0
-HoldsOfRead P rom cert frame y = IfSome rom (λ r. IfSome cert (λ c. IfSome frame (λ f. P r c f y.words y.depth)))
-
--- every run over them is safe with these counts
-abbrev pub SafeRead : Machine → Window → Option (List ℕ) → Option (List ℕ) → Option (List ℕ) → Yes → Type 0
-SafeRead machine w = HoldsOfRead (SafeOn machine w)
-
--- every run over them has just these counts at its halt
-abbrev pub CountsRead : Machine → Option (List ℕ) → Option (List ℕ) → Option (List ℕ) → Yes → Type 0
-CountsRead machine = HoldsOfRead (CountsOn machine)
-
--- every run of the board's circuit over them is safe with these counts
-abbrev pub SafeCircuitRead : Machine → Window → Option (List ℕ) → Option (List ℕ) → Option (List ℕ) → Yes → Type 0
-SafeCircuitRead machine w = HoldsOfRead (SafeCircuitOn machine w)
-
--- every run of the board's circuit over them has just these counts when it has halted
-abbrev pub CountsCircuitRead : Machine → Option (List ℕ) → Option (List ℕ) → Option (List ℕ) → Yes → Type 0
-CountsCircuitRead machine = HoldsOfRead (CountsCircuitOn machine)
+-- all that a yes means holds of all bytes that three readers held, with these counts, if all of them are known
+abbrev pub MeansRead : Machine → Mode → Window → Option (List ℕ) → Option (List ℕ) → Option (List ℕ) → Yes → Type 0
+MeansRead machine mode w rom cert frame y =
+    IfSome rom (λ r. IfSome cert (λ c. IfSome frame (λ f. MeansOn machine mode w r c f y.words y.depth)))
 
 -- the verdict on all bytes that three readers held, on a machine, in a mode and for a window; if the bytes of a reader are not known,
 -- some bytes. An accepted frame is safe.
@@ -129,10 +112,7 @@ pub record Judges
   pub cert_held : IfSome cert (λ held. cert_bytes ≡ held)
   pub frame_held : IfSome frame (λ held. frame_bytes ≡ held)
   pub is : VerdictOn machine mode w rom_bytes cert_bytes frame_bytes budget verdict
-  pub safe : IfOk verdict (SafeRead machine w rom cert frame)
-  pub exact : mode ≡ Exact → IfOk verdict (CountsRead machine rom cert frame)
-  pub circuit : machine ≡ Board → IfOk verdict (SafeCircuitRead machine w rom cert frame)
-  pub circuit_exact : machine ≡ Board → mode ≡ Exact → IfOk verdict (CountsCircuitRead machine rom cert frame)
+  pub means : IfOk verdict (MeansRead machine mode w rom cert frame)
 
 -- the report of a verdict and what the detail asks for behind it were written, by one write if they fit one, and nothing else;
 -- `writes` and `writes_after` count the writes that took their whole piece

@@ -1,11 +1,10 @@
 //! By which certificate a frame is judged: by its own, which is made for it, or by a given one, whose shapes were judged.
 
 ghost use Rattle.std.specs.Prelude.{◌≡◌, length, Err, None, IfOk, IfErr};
-ghost use Rattle.dvg_words.specs.Memory.{IsFrameLength, words_of};
+ghost use Rattle.dvg_words.specs.Memory.{IsFrameLength, rom_on, words_of};
 ghost use Rattle.dvg_words.specs.Values.{Window as Places};
-ghost use Rattle.dvg_words.specs.declared.machine.Machine.TheVariants.{Board};
-ghost use Rattle.dvg_check.specs.Safety.{Safe, CountsAtHalt};
-ghost use Rattle.dvg_check.specs.Circuit.{SafeOnCircuit, CountsOnCircuit};
+ghost use Rattle.dvg_check.specs.Means.{Means};
+ghost use Rattle.dvg_make.specs.Judging.{HasCallCause};
 ghost use Rattle.dvg_make.specs.declared.judging.FrameRefusal.TheVariants.{Check};
 ghost use Rattle.dvg_cmd.specs.Detail.{IsBehind};
 ghost use Rattle.dvg_cmd.specs.Frames.{Judging, MayJudgeOver, VerdictOnBytes, VerdictOver, judged_by_own, judged_over};
@@ -30,8 +29,8 @@ pub trait FrameJudge {
     /// What must hold of it before it judges with this detail.
     ghost valid: { Self → Detail → Type 0 };
 
-    /// What is a verdict on the bytes of a frame, which ROM frames call, which part of the screen may be lit, and whether the counts
-    /// of what is accepted are exact.
+    /// What is a verdict on the bytes of a frame, and what is told of why one is refused; which ROM frames call, which part of the
+    /// screen may be lit, and in which mode counts are judged.
     ghost judging: { Self → Judging };
 
     /// The machine that accounts name.
@@ -43,17 +42,9 @@ pub trait FrameJudge {
         ensures verdict { (judging self.now).is_verdict frame.now result.0 }
         ensures behind { IsBehind detail.entry result.1 }
         ensures whole { IfOk result.0 (λ yes. IsFrameLength (length frame.now)) }
-        ensures safe { IfOk result.0 (λ yes. Safe (record { frame = words_of frame.now; rom = (judging self.now).rom })
-            (judging self.now).window yes.words yes.depth) }
-        ensures exact { (judging self.now).is_exact
-            → IfOk result.0 (λ yes. CountsAtHalt (record { frame = words_of frame.now; rom = (judging self.now).rom }) yes.words
-            yes.depth) }
-        ensures circuit { (judging self.now).rom.machine ≡ Board
-            → IfOk result.0 (λ yes. SafeOnCircuit (record { frame = words_of frame.now; rom = (judging self.now).rom })
-            (judging self.now).window yes.words yes.depth) }
-        ensures circuit_exact { (judging self.now).rom.machine ≡ Board → (judging self.now).is_exact
-            → IfOk result.0 (λ yes. CountsOnCircuit (record { frame = words_of frame.now; rom = (judging self.now).rom }) yes.words
-            yes.depth) };
+        ensures means { IfOk result.0 (λ yes. Means (judging self.now).mode
+            (record { frame = words_of frame.now; rom = (judging self.now).rom }) (judging self.now).window yes.words yes.depth) }
+        ensures told { IfErr result.0 ((judging self.now).is_told frame.now) };
 }
 
 /// The judge of each frame by its own certificate, as [`judge`] judges.
@@ -104,9 +95,10 @@ fn images_for<'a>(
 }
 
 /// The verdict on the bytes of a frame by its own certificate: the first that applies of 2, 49 and 1, else that of [`judge`].
-#[tactic(auto, using(crate::proofs::Answers::own_verdict))]
+#[tactic(auto, using(crate::proofs::Answers::own_verdict, crate::proofs::Answers::own_told))]
 fn verdict_by_own(alloc: Global, own: &OwnCertificates, frame: &[u8]) -> Result<Yes, FrameRefusal>
-    ensures { VerdictOnBytes own.now.machine own.now.rom.now own.now.map frame.now own.now.budget own.now.window result }
+    ensures verdict { VerdictOnBytes own.now.machine own.now.rom.now own.now.map frame.now own.now.budget own.now.window result }
+    ensures told { IfErr result (HasCallCause (rom_on own.now.machine own.now.map own.now.rom.now) (words_of frame.now)) }
 {
     match images_for(own.machine, own.rom, own.map, frame, own.budget) {
         Ok((frame, rom)) => judge(alloc, &rom, &frame, own.budget, own.window),
@@ -115,7 +107,7 @@ fn verdict_by_own(alloc: Global, own: &OwnCertificates, frame: &[u8]) -> Result<
 }
 
 /// The same verdict, and the account of it.
-#[tactic(auto, using(crate::proofs::Answers::own_verdict))]
+#[tactic(auto, using(crate::proofs::Answers::own_verdict, crate::proofs::Answers::own_told))]
 fn explain_by_own<'a>(
     alloc: Global,
     own: &OwnCertificates<'a>,
@@ -123,6 +115,7 @@ fn explain_by_own<'a>(
     labels: Option<&'a Labels>,
 ) -> ToldVerdict
     ensures verdict { VerdictOnBytes own.now.machine own.now.rom.now own.now.map frame.now own.now.budget own.now.window result.0 }
+    ensures told { IfErr result.0 (HasCallCause (rom_on own.now.machine own.now.map own.now.rom.now) (words_of frame.now)) }
     ensures behind { IsBehind (details.Account None) result.1 }
 {
     let inputs = Inputs {

@@ -105,8 +105,6 @@ pub use explaining_make::write_make_answer;
 pub use frame_judge::FrameJudge;
 pub use frame_judge::GivenCertificate;
 pub use frame_judge::OwnCertificates;
-pub use frame_run::run_frame;
-pub use frame_run::run_unopened;
 pub use listing::Lines;
 pub use listing::Listing;
 pub use making::run_make;

@@ -2,13 +2,12 @@
 
 ghost use Rattle.std.specs.Prelude.{◌≡◌, ◌≤◌, ◌++◌, ℕ, List, Option, Ok, Err, IfOk, IfErr, OnOk, OnErr, is_err, true};
 ghost use Rattle.std.specs.Io.KnownBytes.{Appends};
-ghost use Rattle.dvg_words.specs.declared.machine.Machine.TheVariants.{Profile, Board};
+ghost use Rattle.dvg_words.specs.declared.machine.Machine.TheVariants.{Profile};
 ghost use Rattle.dvg_cert.specs.declared.limits.TheConstants.{MOST_WORDS};
-ghost use Rattle.dvg_check.specs.declared.fault.Mode.TheVariants.{Exact};
 ghost use Rattle.dvg_text.specs.Devices.{AppendsPrefix, TakesOneWrite, count_after};
 ghost use Rattle.dvg_spelling.specs.Report.{report_text};
 ghost use Rattle.dvg_cmd.specs.Detail.{IsBehind, behind_text, outcome_behind};
-ghost use Rattle.dvg_cmd.specs.Runs.{CountsFaults, ReadsInOrder, MOST_ROM_READ, MOST_FRAME_READ, IsReadFor, Judges, SafeRead, CountsRead, SafeCircuitRead, CountsCircuitRead, outcome_of, Reports, ReportsPrefix, ReportsAccepted};
+ghost use Rattle.dvg_cmd.specs.Runs.{CountsFaults, ReadsInOrder, MOST_ROM_READ, MOST_FRAME_READ, IsReadFor, Judges, MeansRead, outcome_of, Reports, ReportsPrefix, ReportsAccepted};
 ghost use Rattle.dvg_cmd.specs.declared.detail.Detail.TheVariants as details;
 ghost use Rattle.dvg_cmd.specs.Private.Judging.{JudgesRom};
 ghost use Rattle.dvg_cmd.specs.Private.Reading.{IsPrefix};
@@ -250,19 +249,10 @@ pub fn run_check_in<R1: CountedRead, R2: CountedRead, R3: CountedRead, W: Counte
         (R2.remaining cert.old) (R3.remaining frame.old) options.now.budget (W.contents out.old) (W.contents out.new) }
     ensures one_write { detail.entry ≡ details.Line → OnOk result (W.whole_writes out.new ≡ count_after true (W.whole_writes out.old)) }
 
-    // What is accepted is safe, with the counts of the line that was written, and in the mode `Exact` these are the counts of
-    // each run; on the board also on its circuit.
-    ensures safe { result ≡ Ok Outcome.Accepted → ReportsAccepted detail.entry (W.contents out.old) (W.contents out.new)
-        (SafeRead options.now.machine options.now.window (R1.remaining rom.old) (R2.remaining cert.old) (R3.remaining frame.old)) }
-    ensures exact { options.now.mode ≡ Exact → result ≡ Ok Outcome.Accepted
-        → ReportsAccepted detail.entry (W.contents out.old) (W.contents out.new)
-        (CountsRead options.now.machine (R1.remaining rom.old) (R2.remaining cert.old) (R3.remaining frame.old)) }
-    ensures circuit { options.now.machine ≡ Board → result ≡ Ok Outcome.Accepted
-        → ReportsAccepted detail.entry (W.contents out.old) (W.contents out.new)
-        (SafeCircuitRead options.now.machine options.now.window (R1.remaining rom.old) (R2.remaining cert.old) (R3.remaining frame.old)) }
-    ensures circuit_exact { options.now.machine ≡ Board → options.now.mode ≡ Exact → result ≡ Ok Outcome.Accepted
-        → ReportsAccepted detail.entry (W.contents out.old) (W.contents out.new)
-        (CountsCircuitRead options.now.machine (R1.remaining rom.old) (R2.remaining cert.old) (R3.remaining frame.old)) }
+    // What is accepted is safe, with the counts of the line that was written: all that a yes means, in this mode and on this machine.
+    ensures means { result ≡ Ok Outcome.Accepted → ReportsAccepted detail.entry (W.contents out.old) (W.contents out.new)
+        (MeansRead options.now.machine options.now.mode options.now.window
+        (R1.remaining rom.old) (R2.remaining cert.old) (R3.remaining frame.old)) }
 {
     let Ok(rom) = read_rom(rom) else {
         return Err(RunFault::ReadRom);
@@ -334,10 +324,8 @@ pub fn run_check<R1: CountedRead, R2: CountedRead, R3: CountedRead, W: CountedWr
 
     // What is accepted is safe, with the counts of the line that was written, and in the mode `Exact` these are the counts of
     // each run.
-    ensures safe { result ≡ Ok Outcome.Accepted → ReportsAccepted details.Line (W.contents out.old) (W.contents out.new)
-        (SafeRead Profile window (R1.remaining rom.old) (R2.remaining cert.old) (R3.remaining frame.old)) }
-    ensures exact { mode ≡ Exact → result ≡ Ok Outcome.Accepted → ReportsAccepted details.Line (W.contents out.old) (W.contents out.new)
-        (CountsRead Profile (R1.remaining rom.old) (R2.remaining cert.old) (R3.remaining frame.old)) }
+    ensures means { result ≡ Ok Outcome.Accepted → ReportsAccepted details.Line (W.contents out.old) (W.contents out.new)
+        (MeansRead Profile mode window (R1.remaining rom.old) (R2.remaining cert.old) (R3.remaining frame.old)) }
 {
     let options = CheckOptions {
         machine: Machine::Profile,

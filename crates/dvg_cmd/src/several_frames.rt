@@ -138,11 +138,14 @@ fn write_summary<W: CountedWrite>(summary: bool, tally: &Tally, out: &mut W) -> 
     Ok(())
 }
 
-/// Judges frames, one after another, and writes a line for each that the listing has, as [`run_frame`](crate::run_frame) does, and
-/// at the end the summary if it is asked for; answers the worst outcome of all.
+/// Judges frames, one after another, and writes a line for each that the listing has: the name, which has no control characters, a
+/// colon, a space, and the report; and an account of the answer behind it if the detail asks for one. At the end it writes the
+/// summary if it is asked for, and answers the worst outcome of all.
 ///
-/// The next frame is taken once the line of the one before it is written. The only fault is 73, if the writer failed, and then
-/// a prefix of these lines was written.
+/// With a start, which is below 1000 hexadecimal, a frame is judged as though its word 000 were the jump there. Each frame is read to
+/// its end, or to one byte past its limit, and nothing is tried again. A frame that can't be opened or read has a line, too. The next
+/// frame is taken once the line of the one before it is written. The only fault is 73, if the writer failed, and then a prefix of
+/// these lines was written.
 pub fn run_frames<
     J: FrameJudge,
     R: CountedRead + Drop,
@@ -161,6 +164,7 @@ pub fn run_frames<
     requires ends { IsFinite (I.remaining frames) }
 
     // A line is written for each frame that the listing has, in their order, and then the summary, each by one write if it fits one.
+    // Of each accepted frame it says what a yes means (`AnswersFrame`).
     ensures report { IfOk result (λ end. HoldsOfAll I.next_gives frames (λ taken.
         ReportsFrames R.remaining R.failures (J.judging judge.now) listing.entry start taken (W.contents out.old) (W.contents out.new)
         (W.whole_writes out.old) (W.whole_writes out.new) end)) }

@@ -6,7 +6,7 @@ pub use Rattle.std.specs.Option.{option_or}
 pub use Rattle.std.specs.List.{All}
 pub use Rattle.std.proofs.Common.{take-suc, take_all, take-append-drop}
 pub use Rattle.indexmap.proofs.CallerLemmas.{insert_entry-new}
-pub use Rattle.dvg_check.proofs.Common.{◌≡◌, ℕ, zero, suc, ◌+◌, ◌<◌, List, [], ◌∷◌, Option, Some, refl, sym, ◌∙◌, subst, arith, Contains, Rom, rom_word, entry_at, LeadsTo, target, scale_before, listed_at, ◌≢◌, ◌≤◌, ◌++◌, None, ap, ⊎_elim, ints, screen, next_address, Context, shape_context, callee, callee_words, place_before, words_before, depth_before, depth_under, known_before, InBox, IsInside, extent, seen_at, HasCallee, all_append, word_count-some, ShapeKeeps, CellKeeps, rules, all_map, length, ◌⊎◌, inl, inr, length-append, if◌then◌else◌, take, drop, get_or, InRom, unwrap_or, IfSome, IsClaim, scale_set, Window, AllBefore, all_right, AtLast, example_entry, example_list, AllKeep, IsCertificate, frame_word, frame_context, LitInWindow, Good, GoodFrame, word_count, FrameKeeps, FramePlaceKeeps, Source, append_assoc, cases_lt, next_near, same_lead, shorter, everywhere, ◌-◌, box_extent, ◌≤ℤ◌, ℤ, neg_ℤ, PlaceKnown, ScaleKnown, seen_by, moved, known_at_end, known_over, place_over, place_past, DrawFields, effect_of, draw_extent, LitInBox, AllByRecursion, IsSoundStep, at_place, Result, Ok, Err, max, IfOk, Safe, SafeOnCircuit, CountsOnCircuit, Shapes, GoodShape, pos, negsuc, ◌*◌, ◌/◌, ◌%◌, nat_le, nat_tests, ◌==◌, origin, shift, effective_scale, axis_move, labs_place, IsWithin, cell_holding, cell_of_words, cell_of_format, draw_effect, callee_effect, place_moved_by, callee_extent, common_steps, ShapePlaceKeeps, slice_index_or, Certificate, ADDRESS_END, Abs, Any, Anywhere, At, Between, Board, Cell, CountsAtHalt, Draws, Effect, Empty, End, Entry, Format, Frame, Halt, Holds, Instr, Item, Jmpl, Jsrl, Key, Known, Labs, LitBox, LitExtent, Long, Lost, Machine, Missing, Nothing, Odd, Point, Profile, Rel, Rtsl, Seen, Shape, Short, Span}
+pub use Rattle.dvg_check.proofs.Common.{◌≡◌, ℕ, zero, suc, ◌+◌, ◌<◌, List, [], ◌∷◌, Option, Some, refl, sym, ◌∙◌, subst, arith, Contains, Rom, rom_word, entry_at, LeadsTo, target, scale_before, listed_at, ◌≢◌, ◌≤◌, ◌++◌, None, ap, ⊎_elim, ints, screen, next_address, Context, shape_context, callee, callee_words, place_before, words_before, depth_before, depth_under, known_before, InBox, IsInside, extent, seen_at, HasCallee, all_append, word_count-some, ShapeKeeps, CellKeeps, rules, all_map, length, ◌⊎◌, inl, inr, length-append, if◌then◌else◌, take, drop, get_or, InRom, unwrap_or, IfSome, IsClaim, scale_set, Window, AllBefore, all_right, AtLast, example_entry, example_list, AllKeep, IsCertificate, frame_word, frame_context, LitInWindow, Good, GoodFrame, word_count, FrameKeeps, FramePlaceKeeps, Source, append_assoc, cases_lt, next_near, same_lead, shorter, everywhere, ◌-◌, box_extent, ◌≤ℤ◌, ℤ, neg_ℤ, PlaceKnown, ScaleKnown, seen_by, moved, known_at_end, known_over, place_over, place_past, DrawFields, effect_of, draw_extent, LitInBox, AllByRecursion, IsSoundStep, at_place, Result, Ok, Err, max, IfOk, Means, Shapes, GoodShape, pos, negsuc, ◌*◌, ◌/◌, ◌%◌, nat_le, nat_tests, ◌==◌, origin, shift, effective_scale, axis_move, labs_place, IsWithin, cell_holding, cell_of_words, cell_of_format, draw_effect, callee_effect, place_moved_by, callee_extent, common_steps, ShapePlaceKeeps, slice_index_or, Certificate, ADDRESS_END, Abs, Any, Anywhere, At, Between, Board, Cell, Draws, Effect, Empty, End, Entry, Format, Frame, Halt, Holds, Instr, Item, Jmpl, Jsrl, Key, Known, Labs, LitBox, LitExtent, Long, Lost, Machine, Missing, Nothing, Odd, Point, Profile, Rel, Rtsl, Seen, Shape, Short, Span}
 pub use Rattle.dvg_cert.proofs.Common.{slice_get, IsEntry, is_at, Contains-get_or, IsTrue, ◌↔◌, IsRising, IsMap, IsKeyed, IfNone, IsOnlyAt, HasNoneAt, ◌&&◌, nat_eq, KeyBefore, Before, IsOwn, cond, is_some, All-nil, All-cons, MemoryMap, same_key}
 pub use Rattle.dvg_items.proofs.Common.{callee_at, clamps, InstrFits, AtEachOf, AtEveryPlace}
 unfoldable pub use Rattle.dvg_check.proofs.Common.{cell_at, displacement, instruction_of}

@@ -1,5 +1,5 @@
 -- A frame judged by the certificate that is made for it.
-use Rattle.dvg_make.proofs.Common.{Machine, Board, ◌≡◌, ℕ, ◌≤◌, List, [], ◌∷◌, Option, None, Some, subst, arith, Result, Ok, Err, Rom, frame_word, Window, Entry, frame_context, seen_at, GoodFrame, Exact, EntryFault, Memory, FrameCall, FramesRefuse, FrameRefused, max, IfOk, IfErr, Frame, AllKeep, FramePlaceKeeps, Safe, CountsAtHalt, SafeOnCircuit, CountsOnCircuit, no_fault, no_shape_fault, one_count, FrameMade, BarsFrame, CallBarredAt, VerdictByMade, AreLeast, CheckMeans, checked, refusal_at, IsJudged}
+use Rattle.dvg_make.proofs.Common.{Machine, ◌≡◌, ℕ, ◌≤◌, List, [], ◌∷◌, Option, None, Some, subst, arith, Result, Ok, Err, Rom, frame_word, Window, Entry, frame_context, seen_at, GoodFrame, Exact, EntryFault, Memory, FrameCall, FramesRefuse, FrameRefused, max, IfOk, IfErr, Frame, AllKeep, FramePlaceKeeps, Means, no_fault, no_shape_fault, one_count, FrameMade, BarsFrame, CallBarredAt, VerdictByMade, AreLeast, CheckMeans, checked, refusal_at, IsJudged}
 use Rattle.dvg_check.specs.Verdict.{PartsVerdict}
 use Rattle.dvg_check.specs.Causes.{verdict_of, refusal_of}
 use Rattle.dvg_check.specs.declared.finding.RomFinding.{RomFinding}
@@ -46,13 +46,10 @@ module _ (rom : Rom) (words : List ℕ) (w : Window) (budget : ℕ) (made : List
   pub judged_by : (answer : Result Yes RomFinding)
       → IfErr answer (λ f. IsOfItem (refusal_of f))
       → PartsVerdict Exact w rom made words budget (verdict_of answer)
-      → IfOk answer (λ yes. Safe (record { frame = words; rom = rom }) w yes.words yes.depth)
-      → IfOk answer (λ yes. CountsAtHalt (record { frame = words; rom = rom }) yes.words yes.depth)
-      → (rom.machine ≡ Board → IfOk answer (λ yes. SafeOnCircuit (record { frame = words; rom = rom }) w yes.words yes.depth))
-      → (rom.machine ≡ Board → IfOk answer (λ yes. CountsOnCircuit (record { frame = words; rom = rom }) yes.words yes.depth))
+      → IfOk answer (λ yes. Means Exact (record { frame = words; rom = rom }) w yes.words yes.depth)
       → IsJudged rom words w budget (checked answer)
-  judged_by (Ok y) item v safe exact circuit circuit_exact = grind (arith, (judged_least y v))
-  judged_by (Err f) item v safe exact circuit circuit_exact = grind (arith, (judged_refused (refusal_of f) item v))
+  judged_by (Ok y) item v means = grind (arith, (judged_least y v))
+  judged_by (Err f) item v means = grind (arith, (judged_refused (refusal_of f) item v))
 
 -- what the fault of the maker means, of one frame
 module _ (rom : Rom) (words : List ℕ) where

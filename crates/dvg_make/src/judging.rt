@@ -2,9 +2,7 @@
 
 ghost use Rattle.std.specs.Prelude.{◌≡◌, ◌↔◌, ◌≤◌, [], ◌∷◌, IsTrue, OnOk, IfOk, IfErr};
 ghost use Rattle.dvg_cert.specs.declared.limits.TheConstants.{MOST_WORDS};
-ghost use Rattle.dvg_words.specs.declared.machine.Machine.TheVariants.{Board};
-ghost use Rattle.dvg_check.specs.Safety.{Safe, CountsAtHalt};
-ghost use Rattle.dvg_check.specs.Circuit.{SafeOnCircuit, CountsOnCircuit};
+ghost use Rattle.dvg_check.specs.Means.{Means};
 ghost use Rattle.dvg_check.specs.Causes.{ShapeCauseOf, TellsOf};
 ghost use Rattle.dvg_check.specs.Finding.{FirstShapeFound, ShapeFaultFound};
 ghost use Rattle.dvg_check.specs.Rules.{Good, GoodShape};
@@ -195,10 +193,7 @@ pub fn judge(
 ) -> Result<Yes, FrameRefusal>
     requires { budget ≤ MOST_WORDS }
     ensures verdict { VerdictByMade rom.now frame.now window budget result }
-    ensures safe { IfOk result (λ yes. Safe (record { frame = frame.now; rom = rom.now }) window yes.words yes.depth) }
-    ensures exact { IfOk result (λ yes. CountsAtHalt (record { frame = frame.now; rom = rom.now }) yes.words yes.depth) }
-    ensures circuit { rom.now.machine ≡ Board → IfOk result (λ yes. SafeOnCircuit (record { frame = frame.now; rom = rom.now }) window yes.words yes.depth) }
-    ensures circuit_exact { rom.now.machine ≡ Board → IfOk result (λ yes. CountsOnCircuit (record { frame = frame.now; rom = rom.now }) yes.words yes.depth) }
+    ensures means { IfOk result (λ yes. Means Exact (record { frame = frame.now; rom = rom.now }) window yes.words yes.depth) }
     ensures least { IfOk result (λ yes. AreLeast rom.now frame.now window yes.words yes.depth) }
     ensures refused { IfErr result (FrameRefused rom.now frame.now window budget) }
     ensures told { IfErr result (HasCallCause rom.now frame.now) }
@@ -232,12 +227,7 @@ pub fn explain_judging(
 
     // The verdict is one of `judge`.
     ensures verdict { VerdictByMade rom.now frame.now window budget (own_verdict result) }
-    ensures safe { IfOk (own_verdict result) (λ yes. Safe (record { frame = frame.now; rom = rom.now }) window yes.words yes.depth) }
-    ensures exact { IfOk (own_verdict result) (λ yes. CountsAtHalt (record { frame = frame.now; rom = rom.now }) yes.words yes.depth) }
-    ensures circuit { rom.now.machine ≡ Board
-        → IfOk (own_verdict result) (λ yes. SafeOnCircuit (record { frame = frame.now; rom = rom.now }) window yes.words yes.depth) }
-    ensures circuit_exact { rom.now.machine ≡ Board
-        → IfOk (own_verdict result) (λ yes. CountsOnCircuit (record { frame = frame.now; rom = rom.now }) yes.words yes.depth) }
+    ensures means { IfOk (own_verdict result) (λ yes. Means Exact (record { frame = frame.now; rom = rom.now }) window yes.words yes.depth) }
     ensures least { IfOk (own_verdict result) (λ yes. AreLeast rom.now frame.now window yes.words yes.depth) }
     ensures refused { IfErr (own_verdict result) (FrameRefused rom.now frame.now window budget) }
     ensures told { IfErr (own_verdict result) (HasCallCause rom.now frame.now) }

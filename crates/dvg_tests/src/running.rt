@@ -6,14 +6,15 @@ use crate::expecting::{FaultRow, expect, expect_faults, expect_same};
 use crate::inputs::{EMPTY, STROKE_FRAME, stroke_rom};
 use devices::SlowReader;
 use dvg_cmd::{
-    ASTEROIDS, Counted, Detail, EntryFault, FrameCall, FrameOutcome, FramesRunFault, Key, Machine,
-    MakeFault, MakeRunFault, Mode, Outcome, OwnCertificates, RunFault, SCREEN, Window,
-    frames_status_of, make_frames_report_of, make_frames_status_of, make_report_of, make_status_of,
-    map_of, message_of, root_of, run_check, run_frame, run_make, run_unopened, start_of, status_of,
-    window_of,
+    ASTEROIDS, Counted, Detail, EntryFault, FrameCall, FrameOutcome, FramesRunFault, Key, Lines,
+    Listing, Machine, MakeFault, MakeRunFault, Mode, NamedFrame, Outcome, OwnCertificates,
+    RunFault, SCREEN, Window, frames_status_of, make_frames_report_of, make_frames_status_of,
+    make_report_of, make_status_of, map_of, message_of, root_of, run_check, run_frames, run_make,
+    start_of, status_of, window_of,
 };
 use std::alloc::Global;
 use std::fmt::Debug;
+use std::iter;
 use std::process::Abort;
 
 /// How often a reader was read, and how many bytes nobody read.
@@ -77,9 +78,15 @@ fn reads_each_byte_once(rt: HostRuntime) {
     }
 }
 
-/// The frame of the stroke, over the stroke's ROM by its own certificate, and a frame that can't be opened.
-#[test]
-fn judges_one_frame(rt: HostRuntime) {
+/// Stops the test unless a frame, or one that can't be opened, has this outcome and this line, over the stroke's ROM by its own
+/// certificate.
+fn expect_line(
+    rt: &impl Abort,
+    alloc: Global,
+    frame: Option<&'static [u8]>,
+    outcome: FrameOutcome,
+    line: &str,
+) {
     let rom = stroke_rom();
     let judge = OwnCertificates {
         machine: Machine::Profile,
@@ -88,30 +95,38 @@ fn judges_one_frame(rt: HostRuntime) {
         budget: 20000,
         window: SCREEN,
     };
-    let mut frame = Counted::new(SlowReader::new(STROKE_FRAME, 1));
-    let mut out = Counted::new(Vec::new(rt.alloc()));
-    let judged = run_frame(
-        rt.alloc(),
-        &judge,
-        None,
-        "stroke",
-        &mut frame,
-        Detail::Line,
-        &mut out,
-    );
-    expect_same(&rt, &judged, &Ok(FrameOutcome::Accepted), &"stroke");
-    let unopened = run_unopened(
-        Machine::Profile,
-        rt.alloc(),
-        "absent",
-        Detail::Line,
-        &mut out,
-    );
-    expect_same(&rt, &unopened, &Ok(FrameOutcome::Unread), &"absent");
+    let frame = NamedFrame {
+        name: format!(in alloc; "frame").expect(rt, "memory for a name"),
+        reader: frame.map(|bytes| Counted::new(SlowReader::new(bytes, 1))),
+    };
+    let listing = Listing {
+        detail: Detail::Line,
+        lines: Lines::All,
+        summary: false,
+    };
+    let mut out = Counted::new(Vec::new(alloc));
+    let judged = run_frames(alloc, &judge, None, iter::once(frame), listing, &mut out);
+    expect_same(rt, &judged, &Ok(outcome), &line);
     let written = out.into_inner();
-    let lines = str::from_utf8(&written).unwrap_or("");
-    let wanted = "stroke: accepted shapes=1 words=7 depth=1\nabsent: cannot read\n";
-    expect_same(&rt, &lines, &wanted, &"lines");
+    expect_same(rt, &str::from_utf8(&written).unwrap_or(""), &line, &line);
+}
+
+#[test]
+fn judges_one_frame(rt: HostRuntime) {
+    expect_line(
+        &rt,
+        rt.alloc(),
+        Some(STROKE_FRAME),
+        FrameOutcome::Accepted,
+        "frame: accepted shapes=1 words=7 depth=1\n",
+    );
+    expect_line(
+        &rt,
+        rt.alloc(),
+        None,
+        FrameOutcome::Unread,
+        "frame: cannot read\n",
+    );
 }
 
 /// Stops the test unless each outcome has its status, which this gives.

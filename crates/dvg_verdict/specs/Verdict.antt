@@ -12,8 +12,7 @@ use Rattle.dvg_cert.specs.Order.{Certificate}
 use Rattle.dvg_text.specs.Grammar.{Spells}
 use Rattle.dvg_text.specs.Reading.{ReadAnswer}
 use Rattle.dvg_check.specs.declared.fault.Mode.{Mode}
-use Rattle.dvg_check.specs.Safety.{Safe, CountsAtHalt}
-use Rattle.dvg_check.specs.Circuit.{SafeOnCircuit, CountsOnCircuit}
+use Rattle.dvg_check.specs.Means.{Means}
 use Rattle.dvg_check.specs.declared.verdict.Refusal.TheVariants as refusal
 use Rattle.dvg_check.specs.Verdict.{InRange, RangeRefusal, RomVerdict, memory_on}
 use Rattle.dvg_check.specs.declared.verdict.Yes.{Yes}
@@ -38,33 +37,10 @@ VerdictOn machine mode w rom cert frame budget answer = CertVerdict machine mode
 abbrev pub Verdict : Mode → Window → List ℕ → List ℕ → List ℕ → ℕ → Result Yes Refusal → Type 0
 Verdict = VerdictOn Profile
 
--- every run from the frame's first word is safe, with the ROM at the map of the certificate that `cert` spells
-abbrev pub SafeOn : Machine → Window → List ℕ → List ℕ → List ℕ → ℕ → ℕ → Type 0
-SafeOn machine w rom cert frame words depth =
-    (c : Certificate) × Spells c cert × Safe (memory_on machine c.map (words_of frame) rom) w words depth
-
--- the same on the profile's machine
-abbrev pub SafeOver : Window → List ℕ → List ℕ → List ℕ → ℕ → ℕ → Type 0
-SafeOver = SafeOn Profile
-
--- every run over the same frame and ROM has just these counts at its halt
-abbrev pub CountsOn : Machine → List ℕ → List ℕ → List ℕ → ℕ → ℕ → Type 0
-CountsOn machine rom cert frame words depth =
-    (c : Certificate) × Spells c cert × CountsAtHalt (memory_on machine c.map (words_of frame) rom) words depth
-
--- the same on the profile's machine
-abbrev pub CountsOver : List ℕ → List ℕ → List ℕ → ℕ → ℕ → Type 0
-CountsOver = CountsOn Profile
-
--- every run of the board's circuit is safe, over the same frame and ROM
-abbrev pub SafeCircuitOn : Machine → Window → List ℕ → List ℕ → List ℕ → ℕ → ℕ → Type 0
-SafeCircuitOn machine w rom cert frame words depth =
-    (c : Certificate) × Spells c cert × SafeOnCircuit (memory_on machine c.map (words_of frame) rom) w words depth
-
--- every run of the board's circuit over the same has just these counts when it has halted
-abbrev pub CountsCircuitOn : Machine → List ℕ → List ℕ → List ℕ → ℕ → ℕ → Type 0
-CountsCircuitOn machine rom cert frame words depth =
-    (c : Certificate) × Spells c cert × CountsOnCircuit (memory_on machine c.map (words_of frame) rom) words depth
+-- what a yes means for these bytes, with the ROM at the map of the certificate that `cert` spells
+abbrev pub MeansOn : Machine → Mode → Window → List ℕ → List ℕ → List ℕ → ℕ → ℕ → Type 0
+MeansOn machine mode w rom cert frame words depth =
+    (c : Certificate) × Spells c cert × Means mode (memory_on machine c.map (words_of frame) rom) w words depth
 
 -- the answer is not that memory was short for the certificate or its index
 abbrev pub NotMemory : Result Yes Refusal → Type 0

@@ -1,9 +1,9 @@
 //! The verdict on bytes.
 
-ghost use Rattle.std.specs.Prelude.{◌≡◌, IfOk};
-ghost use Rattle.dvg_words.specs.declared.machine.Machine.TheVariants.{Board};
+ghost use Rattle.std.specs.Prelude.{IfOk};
+ghost use Rattle.dvg_words.specs.declared.machine.Machine.TheVariants.{Profile};
 ghost use Rattle.dvg_check.specs.declared.fault.Mode.TheVariants.{Bound, Exact};
-ghost use Rattle.dvg_verdict.specs.Verdict.{VerdictOn, Verdict, SafeOn, SafeOver, CountsOn, CountsOver, SafeCircuitOn, CountsCircuitOn};
+ghost use Rattle.dvg_verdict.specs.Verdict.{VerdictOn, Verdict, MeansOn};
 
 use dvg_check::{Mode, Refusal, Yes, check_rom, frame_of};
 use dvg_text::read_cert;
@@ -27,11 +27,7 @@ pub fn check_on(
     mode: Mode,
 ) -> Result<Yes, Refusal>
     ensures verdict { VerdictOn machine mode window rom.now cert.now frame.now budget result }
-    ensures safe { IfOk result (λ yes. SafeOn machine window rom.now cert.now frame.now yes.words yes.depth) }
-    ensures exact { mode ≡ Exact → IfOk result (λ yes. CountsOn machine rom.now cert.now frame.now yes.words yes.depth) }
-    ensures circuit { machine ≡ Board → IfOk result (λ yes. SafeCircuitOn machine window rom.now cert.now frame.now yes.words yes.depth) }
-    ensures circuit_exact { machine ≡ Board → mode ≡ Exact
-        → IfOk result (λ yes. CountsCircuitOn machine rom.now cert.now frame.now yes.words yes.depth) }
+    ensures means { IfOk result (λ yes. MeansOn machine mode window rom.now cert.now frame.now yes.words yes.depth) }
 {
     let frame = frame_of(frame, budget)?;
     let cert = read_cert(alloc, cert)?;
@@ -61,7 +57,7 @@ pub fn check(
     window: Window,
 ) -> Result<Yes, Refusal>
     ensures verdict { Verdict Bound window rom.now cert.now frame.now budget result }
-    ensures safe { IfOk result (λ yes. SafeOver window rom.now cert.now frame.now yes.words yes.depth) }
+    ensures means { IfOk result (λ yes. MeansOn Profile Bound window rom.now cert.now frame.now yes.words yes.depth) }
 {
     check_on(
         Machine::Profile,
@@ -90,8 +86,7 @@ pub fn check_exact(
     window: Window,
 ) -> Result<Yes, Refusal>
     ensures verdict { Verdict Exact window rom.now cert.now frame.now budget result }
-    ensures safe { IfOk result (λ yes. SafeOver window rom.now cert.now frame.now yes.words yes.depth) }
-    ensures exact { IfOk result (λ yes. CountsOver rom.now cert.now frame.now yes.words yes.depth) }
+    ensures means { IfOk result (λ yes. MeansOn Profile Exact window rom.now cert.now frame.now yes.words yes.depth) }
 {
     check_on(
         Machine::Profile,

@@ -99,7 +99,7 @@ pub enum Request<'a> {
 }
 
 /// What `--version` says behind the program's name: its version, and the logic with which it is proved.
-const VERSION: &str = "1.0.0\nproved with logic dac8208d650f15bf";
+const VERSION: &str = "2.0.0\nproved with logic dac8208d650f15bf";
 
 /// A subcommand.
 #[derive(Clone, Copy)]

@@ -1,15 +1,12 @@
 -- A frame and a ROM that are judged, by the frame's own certificate or by a given one.
 use Rattle.std.specs.Prelude.{◌≡◌, ℕ, List, length, Result, IfOk}
 use Rattle.dvg_words.specs.declared.machine.Machine.{Machine}
-use Rattle.dvg_words.specs.declared.machine.Machine.TheVariants.{Board}
 use Rattle.dvg_words.specs.Memory.{Rom, words_of, rom_on, IsRomLength}
 use Rattle.dvg_words.specs.Values.{MemoryMap, Window}
 use Rattle.dvg_cert.specs.Order.{Certificate}
-use Rattle.dvg_check.specs.Circuit.{SafeOnCircuit, CountsOnCircuit}
-use Rattle.dvg_check.specs.Safety.{Safe, CountsAtHalt}
+use Rattle.dvg_check.specs.Means.{Means}
 use Rattle.dvg_check.specs.Verdict.{InRange, RomVerdict}
 use Rattle.dvg_check.specs.declared.fault.Mode.{Mode}
-use Rattle.dvg_check.specs.declared.fault.Mode.TheVariants.{Exact}
 use Rattle.dvg_check.specs.declared.verdict.Refusal.{Refusal}
 use Rattle.dvg_check.specs.declared.verdict.Yes.{Yes}
 
@@ -26,10 +23,4 @@ pub record JudgesRom
     (machine : Machine) (mode : Mode) (w : Window) (rom : List ℕ) (c : Certificate) (words : List ℕ) (budget : ℕ)
     (verdict : Result Yes Refusal) : Type 0 where
   pub is : RomVerdict machine mode w rom c words budget verdict
-  pub safe : IfOk verdict (λ y. Safe (record { frame = words; rom = rom_on machine c.map rom }) w y.words y.depth)
-  pub exact : mode ≡ Exact → IfOk verdict (λ y. CountsAtHalt (record { frame = words; rom = rom_on machine c.map rom }) y.words y.depth)
-  pub circuit :
-      machine ≡ Board → IfOk verdict (λ y. SafeOnCircuit (record { frame = words; rom = rom_on machine c.map rom }) w y.words y.depth)
-  pub circuit_exact :
-      machine ≡ Board → mode ≡ Exact
-      → IfOk verdict (λ y. CountsOnCircuit (record { frame = words; rom = rom_on machine c.map rom }) y.words y.depth)
+  pub means : IfOk verdict (λ y. Means mode (record { frame = words; rom = rom_on machine c.map rom }) w y.words y.depth)

@@ -1,24 +1,20 @@
 -- The verdict on a frame by the certificate that is made for it. No rule stands here.
-use Rattle.std.specs.Prelude.{◌≡◌, ℕ, List, [], ◌∷◌, Result, IfOk, IfErr}
+use Rattle.std.specs.Prelude.{ℕ, List, [], ◌∷◌, Result, IfOk, IfErr}
 use Rattle.dvg_words.specs.Memory.{Rom}
 use Rattle.dvg_words.specs.Values.{Window}
-use Rattle.dvg_words.specs.declared.machine.Machine.TheVariants.{Board}
 use Rattle.dvg_cert.specs.declared.entry.End.{End}
 use Rattle.dvg_cert.specs.declared.entry.End.TheVariants.{Rel, Abs, Lost}
 use Rattle.dvg_make.specs.declared.maker.MadeCert.{MadeCert}
 use Rattle.dvg_make.specs.Private.Framing.{IsMadeFor}
-use Rattle.dvg_check.specs.Safety.{Safe, CountsAtHalt}
-use Rattle.dvg_check.specs.Circuit.{SafeOnCircuit, CountsOnCircuit}
+use Rattle.dvg_check.specs.Means.{Means}
+use Rattle.dvg_check.specs.declared.fault.Mode.TheVariants.{Exact}
 use Rattle.dvg_check.specs.declared.verdict.Yes.{Yes}
 use Rattle.dvg_make.specs.Judging.{FrameRefusal, VerdictByMade, AreLeast, FrameRefused, HasCallCause}
 
 -- each clause of `judge` holds of the answer
 pub record IsJudged (rom : Rom) (words : List ℕ) (w : Window) (budget : ℕ) (answer : Result Yes FrameRefusal) : Type 0 where
   pub verdict : VerdictByMade rom words w budget answer
-  pub safe : IfOk answer (λ yes. Safe (record { frame = words; rom = rom }) w yes.words yes.depth)
-  pub exact : IfOk answer (λ yes. CountsAtHalt (record { frame = words; rom = rom }) yes.words yes.depth)
-  pub circuit : rom.machine ≡ Board → IfOk answer (λ yes. SafeOnCircuit (record { frame = words; rom = rom }) w yes.words yes.depth)
-  pub circuit_exact : rom.machine ≡ Board → IfOk answer (λ yes. CountsOnCircuit (record { frame = words; rom = rom }) yes.words yes.depth)
+  pub means : IfOk answer (λ yes. Means Exact (record { frame = words; rom = rom }) w yes.words yes.depth)
   pub least : IfOk answer (λ yes. AreLeast rom words w yes.words yes.depth)
   pub refused : IfErr answer (FrameRefused rom words w budget)
   pub told : IfErr answer (HasCallCause rom words)

@@ -14,14 +14,5 @@ returns-clause-verdict c = grind (arith, over_rom)
 pub returns-clause-found : goal.returns-clause-found
 returns-clause-found c = search rules
 
-pub returns-clause-safe : goal.returns-clause-safe
-returns-clause-safe c = search rules
-
-pub returns-clause-exact : goal.returns-clause-exact
-returns-clause-exact c = search rules
-
-pub returns-clause-circuit : goal.returns-clause-circuit
-returns-clause-circuit c = search rules
-
-pub returns-clause-circuit_exact : goal.returns-clause-circuit_exact
-returns-clause-circuit_exact c = search rules
+pub returns-clause-means : goal.returns-clause-means
+returns-clause-means c = search rules

@@ -12,14 +12,5 @@ judged g c = (rw (c.as_slice.ensures.value, c.as_slice-2.ensures.value) at c.in-
 pub returns-clause-report : goal.returns-clause-report
 returns-clause-report g c = grind (arith, (reports c.args.detail c.account_of-behind.result c.account_of-behind.ensures c.in-Ok-read_verdict.judged.verdict), (judged g (goal.at.returns-clause-report g c).After-write_report))
 
-pub returns-clause-safe : goal.returns-clause-safe
-returns-clause-safe g c = grind (arith, (reports_accepted c.args.detail c.account_of-behind.result c.account_of-behind.ensures c.in-Ok-read_verdict.judged.verdict), (judged g (goal.at.returns-clause-safe g c).After-write_report))
-
-pub returns-clause-exact : goal.returns-clause-exact
-returns-clause-exact g c = grind (arith, (reports_accepted c.args.detail c.account_of-behind.result c.account_of-behind.ensures c.in-Ok-read_verdict.judged.verdict), (judged g (goal.at.returns-clause-exact g c).After-write_report))
-
-pub returns-clause-circuit : goal.returns-clause-circuit
-returns-clause-circuit g c = grind (arith, (reports_accepted c.args.detail c.account_of-behind.result c.account_of-behind.ensures c.in-Ok-read_verdict.judged.verdict), (judged g (goal.at.returns-clause-circuit g c).After-write_report))
-
-pub returns-clause-circuit_exact : goal.returns-clause-circuit_exact
-returns-clause-circuit_exact g c = grind (arith, (reports_accepted c.args.detail c.account_of-behind.result c.account_of-behind.ensures c.in-Ok-read_verdict.judged.verdict), (judged g (goal.at.returns-clause-circuit_exact g c).After-write_report))
+pub returns-clause-means : goal.returns-clause-means
+returns-clause-means g c = grind (arith, (reports_accepted c.args.detail c.account_of-behind.result c.account_of-behind.ensures c.in-Ok-read_verdict.judged.verdict), (judged g (goal.at.returns-clause-means g c).After-write_report))
