@@ -1,0 +1,3 @@
+pub mod Recipes
+pub mod Limits
+pub mod Private

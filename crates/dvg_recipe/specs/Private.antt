@@ -1,0 +1,4 @@
+-- Definitions for the code alone; no clause of a public call uses them.
+pub mod Indices
+pub mod FrameItems
+pub mod Belonging

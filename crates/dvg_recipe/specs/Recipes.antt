@@ -1,0 +1,124 @@
+-- Which frames a recipe describes. All of it is this project's own.
+use Rattle.std.specs.Prelude.{◌≡◌, ◌⊎◌, ◌≤◌, ◌≤ℤ◌, ℕ, zero, suc, ℤ, pos, true, List, [], ◌∷◌, Contains, Some, get_or, false}
+use Rattle.dvg_words.specs.declared.machine.Machine.TheVariants.{Board}
+use Rattle.dvg_words.specs.declared.instruction.Instr.{Instr}
+use Rattle.dvg_words.specs.declared.instruction.Instr.TheVariants.{Draw as Draws, Labs, Halt, Jsrl, Jmpl}
+use Rattle.dvg_words.specs.declared.instruction.Format.{Format}
+use Rattle.dvg_words.specs.declared.instruction.Cell.TheVariants.{Holds}
+use Rattle.dvg_words.specs.Beam.{signed_field}
+use Rattle.dvg_words.specs.Decoding.{cell_at, cell_of_words}
+use Rattle.dvg_words.specs.Memory.{IsFrame, frame_word}
+use Rattle.dvg_items.specs.declared.item.Item.{Item}
+use Rattle.dvg_items.specs.declared.item.Kind.TheVariants.{Frame}
+use Rattle.dvg_items.specs.Items.{LeadsTo}
+pub use Rattle.dvg_recipe.specs.declared.piece.Span.{Span}
+pub use Rattle.dvg_recipe.specs.declared.piece.PlaceRange.{PlaceRange}
+pub use Rattle.dvg_recipe.specs.declared.piece.DrawRange.{DrawRange}
+pub use Rattle.dvg_recipe.specs.declared.piece.PieceKind.{PieceKind}
+pub use Rattle.dvg_recipe.specs.declared.piece.PieceKind.TheVariants.{Place, Call, Draw, Fixed}
+pub use Rattle.dvg_recipe.specs.declared.piece.Piece.{Piece}
+pub use Rattle.dvg_recipe.specs.declared.recipe.Area.{Area}
+pub use Rattle.dvg_recipe.specs.declared.recipe.Part.{Part}
+pub use Rattle.dvg_recipe.specs.declared.recipe.Part.TheVariants.{Row, Then', Either', Repeat'}
+pub use Rattle.dvg_recipe.specs.declared.recipe.Jump.{Jump}
+
+-- a recipe: where its lists may begin, what stands there up to the first jump, the jumps, and the number of its HALT (profile)
+pub record Recipe : Type 0 where
+  pub lists : List Area
+  pub body : Part
+  pub jumps : List Jump
+  pub halt : ℕ
+
+-- ---- one item
+
+-- the number is in the range, whose ends are included
+pub record IsInSpan (range : Span) (z : ℤ) : Type 0 where
+  pub low : range.low ≤ℤ z
+  pub high : z ≤ℤ range.high
+
+-- a LABS to a place of the rectangle, as the board reads it, at a scale of the set (profile)
+abbrev pub TakesPlace : PlaceRange → Instr → Type 0
+TakesPlace r (Labs x y scale) = IsInSpan r.x (signed_field x) × IsInSpan r.y (signed_field y) × (get_or r.scales scale false ≡ true)
+TakesPlace r i = ⊥
+
+-- a JSRL to one of the word addresses (profile)
+abbrev pub TakesCall : List ℕ → Instr → Type 0
+TakesCall targets (Jsrl to) = Contains targets to
+TakesCall targets i = ⊥
+
+-- a draw of the local scale, with its sizes and its intensity in the ranges (profile)
+abbrev pub TakesDraw : DrawRange → Instr → Type 0
+TakesDraw r (Draws d) = (d.lscale ≡ r.lscale) × IsInSpan r.dx d.dx × IsInSpan r.dy d.dy × IsInSpan r.bright (pos d.bright)
+TakesDraw r i = ⊥
+
+-- the instruction, of this format, is one that the piece allows (profile)
+abbrev pub Takes : PieceKind → Format → Instr → Type 0
+Takes (Place r) format i = TakesPlace r i
+Takes (Call targets) format i = TakesCall targets.items i
+Takes (Draw r) format i = (format ≡ r.format) × TakesDraw r i
+Takes (Fixed first second) format i = cell_of_words Board (Some first) (Some second) ≡ Holds format i
+
+-- ---- items one behind the other, the latest first
+
+-- the items are those before and one more, which the piece allows (profile)
+pub record AddsPiece (piece : Piece) (before after : List Item) : Type 0 where
+  pub item : Item
+  pub one_more : after ≡ item ∷ before
+  pub taken : Takes piece.kind item.format item.instr
+
+-- the items are those before and one for each of the pieces, in their order (profile)
+abbrev pub AddsRow : List Piece → List Item → List Item → Type 0
+AddsRow [] before after = after ≡ before
+AddsRow (piece ∷ row) before after = (between : List Item) × AddsPiece piece before between × AddsRow row between after
+
+-- n times
+abbrev pub Times : ℕ → (List Item → List Item → Type 0) → List Item → List Item → Type 0
+Times zero Adds before after = after ≡ before
+Times (suc n) Adds before after = (between : List Item) × Adds before between × Times n Adds between after
+
+-- the items are those before and some that the part spells (profile)
+abbrev pub Spells : Part → List Item → List Item → Type 0
+Spells (Row row) before after = AddsRow row.items before after
+Spells (Then' p a q b) before after = (between : List Item) × Spells a before between × Spells b between after
+Spells (Either' p a q b) before after = Spells a before after ⊎ Spells b before after
+Spells (Repeat' least most p body) before after = (n : ℕ) × (least ≤ n) × (n ≤ most) × Times n (Spells body) before after
+
+-- ---- frames
+
+-- the items are those before and a JMPL to a word address
+pub record AddsJump (to : ℕ) (before after : List Item) : Type 0 where
+  pub item : Item
+  pub one_more : after ≡ item ∷ before
+  pub jumps : item.instr ≡ Jmpl to
+
+-- the items that lead to a list: none if it begins at 000, else the jump to it, which is word 000 (profile)
+abbrev pub BeginsAt : ℕ → List Item → Type 0
+BeginsAt zero items = items ≡ []
+BeginsAt (suc n) items = AddsJump (suc n) [] items
+
+-- the items are those before, and for each jump its JMPL and some that its part spells (profile)
+abbrev pub SpellsJumps : List Jump → List Item → List Item → Type 0
+SpellsJumps [] before after = after ≡ before
+SpellsJumps (jump ∷ jumps) before after =
+    (there between : List Item) × AddsJump jump.area.first before there × Spells jump.body there between × SpellsJumps jumps between after
+
+-- the items of a list of the recipe: those that lead to it, those of its body, and those of its jumps (profile)
+pub record SpellsList (recipe : Recipe) (items : List Item) : Type 0 where
+  pub area : Area
+  pub listed : Contains recipe.lists area
+  pub start : List Item
+  pub begins : BeginsAt area.first start
+  pub between : List Item
+  pub spelled : Spells recipe.body start between
+  pub jumped : SpellsJumps recipe.jumps between items
+
+-- a frame of the recipe: its items from word 000 on, as the board reads them, are those of a list, and a HALT stands behind them; all
+-- other words are free (profile)
+pub record Belongs (recipe : Recipe) (words : List ℕ) : Type 0 where
+  pub frame : IsFrame words
+  pub items : List Item
+  pub at : ℕ
+  pub format : Format
+  pub leads : LeadsTo Frame (frame_word Board words) 0 items at
+  pub halts : cell_at (frame_word Board words) at ≡ Holds format Halt
+  pub spelled : SpellsList recipe items

@@ -1,0 +1,21 @@
+//! Recipes: descriptions of all frames that a game can build.
+//!
+//! A [`Recipe`] says where a frame's list may begin, and of which instructions it is made up to its HALT: pieces ([`Piece`]) in rows,
+//! alternatives and repeats ([`Part`]). [`belongs`] says whether a frame is one of the recipe's, and if not, where it leaves it.
+#![tactic(auto)]
+
+mod belonging;
+mod frame_items;
+mod indices;
+mod limits;
+mod piece;
+mod recipe;
+mod takes;
+#[cfg(test)]
+mod tests;
+mod tried;
+
+pub use belonging::{Leaving, NotMember, belongs};
+pub use limits::{MOST_LEVELS, MOST_LISTS, MOST_PIECES, MOST_TURNS};
+pub use piece::{DrawRange, Piece, PieceKind, PlaceRange, Span};
+pub use recipe::{Area, Jump, Part, Recipe};

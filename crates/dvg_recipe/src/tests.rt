@@ -1,0 +1,339 @@
+//! Which frames belong to a recipe, and where the others leave it: rows that a program in Python, written apart from this one, gave.
+
+use crate::{
+    Area, DrawRange, Jump, NotMember, Part, Piece, PieceKind, PlaceRange, Recipe, Span, belongs,
+};
+use dvg_words::{Format, FrameImage};
+use std::alloc::{AllocError, Global};
+use std::fmt::Debug;
+use std::process::Abort;
+
+/// Words at a word address.
+type Words<'a> = (usize, &'a [u16]);
+
+/// A frame's number of words, those of its words that are not 0, and where it leaves the recipe, with the pieces that could stand there.
+type Row<'a> = (usize, &'a [Words<'a>], Option<(u16, &'a [u16])>);
+
+const ROWS: &[Row] = &[
+    (
+        0x205,
+        &[
+            (0x000, &[0xAFFD, 0x0000, 0xE200]),
+            (0x200, &[0xFD67, 0xA200, 0x0200, 0xC800, 0xB000]),
+        ],
+        None,
+    ),
+    (
+        0x205,
+        &[
+            (0x000, &[0xE101]),
+            (0x101, &[0xA002, 0x23FF, 0x9002, 0x7004, 0xF0F0, 0xE200]),
+            (0x200, &[0xFD61, 0xA200, 0x0200, 0xC800, 0xB000]),
+        ],
+        None,
+    ),
+    (
+        0x205,
+        &[
+            (
+                0x000,
+                &[
+                    0xAFF8, 0x2000, 0x9002, 0x0001, 0xF0F0, 0x9001, 0x7404, 0xF0F0, 0x9002, 0x7403,
+                    0xF0F0, 0xE200,
+                ],
+            ),
+            (0x200, &[0xFD63, 0xA200, 0x0200, 0xC800, 0xB000]),
+        ],
+        None,
+    ),
+    (
+        0x205,
+        &[
+            (0x000, &[0xE111]),
+            (0x101, &[0xAFF8, 0x0000, 0xE200]),
+            (0x200, &[0xF856, 0xA200, 0x0200, 0xC800, 0xB000]),
+        ],
+        Some((0x000, &[0])),
+    ),
+    (
+        0x205,
+        &[
+            (0x000, &[0xE101]),
+            (0x101, &[0xAFF8, 0x22D7, 0xC800, 0xE200]),
+            (0x200, &[0xF866, 0xC800, 0x0200, 0xC800, 0xB000]),
+        ],
+        Some((0x201, &[7])),
+    ),
+    (
+        0x205,
+        &[
+            (0x000, &[0xE101]),
+            (0x101, &[0xA000, 0x20BA, 0xC810, 0xE240]),
+            (0x200, &[0xF851, 0xA200, 0x0200, 0xC800, 0xB000]),
+        ],
+        Some((0x104, &[5])),
+    ),
+    (
+        0x0DA,
+        &[(0x000, &[0xAFF8, 0x032A, 0xC800, 0xE200])],
+        Some((0x200, &[6])),
+    ),
+    (
+        0x205,
+        &[
+            (0x000, &[0xE101]),
+            (
+                0x101,
+                &[
+                    0xAFF8, 0x00BA, 0x9000, 0x2004, 0xF0F0, 0x9002, 0x0004, 0xF0F0, 0xE200,
+                ],
+            ),
+            (0x200, &[0xFD50, 0xA200, 0x0200, 0xC840, 0xB000]),
+        ],
+        Some((0x203, &[8])),
+    ),
+    (
+        0x205,
+        &[
+            (0x000, &[0xE101]),
+            (0x101, &[0xAFF8, 0x03FF, 0xF0F4, 0xE200]),
+            (0x200, &[0xF850, 0xF0F4, 0x0200, 0xC800, 0xB000]),
+        ],
+        Some((0x103, &[1, 2, 4, 5])),
+    ),
+    (
+        0x205,
+        &[
+            (0x000, &[0xA008, 0x03FC, 0xC820, 0xC828, 0xE200]),
+            (0x200, &[0xF867, 0xA200, 0xC800, 0xC800, 0xB000]),
+        ],
+        Some((0x003, &[4, 5])),
+    ),
+    (
+        0x205,
+        &[
+            (0x000, &[0xE101]),
+            (0x101, &[0xA002, 0x2135, 0x9000, 0x0002, 0xF1F0, 0xE200]),
+            (0x200, &[0xF867, 0xA200, 0x0200, 0xC800, 0xB000]),
+        ],
+        Some((0x105, &[3])),
+    ),
+    (
+        0x205,
+        &[
+            (0x000, &[0xAFF8, 0x23FF, 0xC800, 0xC820]),
+            (0x200, &[0xF863, 0xA200, 0x0200, 0xC800, 0xB000]),
+        ],
+        Some((0x003, &[5])),
+    ),
+    (
+        0x205,
+        &[
+            (0x000, &[0xA008, 0x03FF, 0xC810, 0xE200]),
+            (0x200, &[0xF851, 0xA200, 0x0200, 0xC800, 0xE101]),
+        ],
+        Some((0x204, &[9])),
+    ),
+    (
+        0x205,
+        &[
+            (
+                0x000,
+                &[
+                    0xAFFB, 0x0000, 0x9002, 0x0402, 0xF0F0, 0x9002, 0x1401, 0xF0F0, 0x2898, 0x7002,
+                    0xF0F0, 0xE200,
+                ],
+            ),
+            (0x200, &[0xB000, 0xA200, 0x0200, 0xC800, 0xB000]),
+        ],
+        Some((0x008, &[2, 5])),
+    ),
+];
+
+/// The bytes of vector RAM with these words, and zeros elsewhere.
+fn frame_bytes(parts: &[Words]) -> [u8; 2048] {
+    let mut bytes = [0; 2048];
+    for &(addr, words) in parts {
+        let mut at = 2 * (addr % 0x400);
+        for word in words {
+            let [low, high] = word.to_le_bytes();
+            let here = at % 2048;
+            bytes[here] = low;
+            bytes[(here + 1) % 2048] = high;
+            at = here + 2;
+        }
+    }
+    bytes
+}
+
+/// Stops the test unless two values are the same, and tells at which row they are not.
+fn expect_same<T: PartialEq + Debug, P: Debug>(rt: &impl Abort, got: &T, want: &T, at: &P) {
+    assert_eq!(rt; got, want, "at {at:?}");
+}
+
+fn span(low: i16, high: i16) -> Span {
+    Span { low, high }
+}
+
+fn row(alloc: Global, number: u16, kind: PieceKind) -> Result<Part, AllocError> {
+    let mut row = Vec::new(alloc);
+    row.push(Piece { number, kind })?;
+    Ok(Part::Row(row))
+}
+
+fn pair(alloc: Global, first: Part, second: Part) -> Result<Part, AllocError> {
+    Ok(Part::Then(Box::new(alloc, first)?, Box::new(alloc, second)?))
+}
+
+fn either(alloc: Global, one: Part, other: Part) -> Result<Part, AllocError> {
+    Ok(Part::Either(Box::new(alloc, one)?, Box::new(alloc, other)?))
+}
+
+fn repeat(alloc: Global, least: u16, most: u16, body: Part) -> Result<Part, AllocError> {
+    let body = Box::new(alloc, body)?;
+    Ok(Part::Repeat { least, most, body })
+}
+
+fn place() -> PieceKind {
+    let mut scales = [false; 16];
+    scales[0] = true;
+    scales[2] = true;
+    PieceKind::Place(PlaceRange {
+        x: span(0, 1023),
+        y: span(-8, 8),
+        scales,
+    })
+}
+
+fn call(alloc: Global, targets: &[u16]) -> Result<PieceKind, AllocError> {
+    Ok(PieceKind::Call(Vec::from_slice(alloc, targets)?))
+}
+
+fn draw(format: Format, lscale: u8, sizes: (Span, Span), bright: Span) -> PieceKind {
+    PieceKind::Draw(DrawRange {
+        format,
+        lscale,
+        dx: sizes.0,
+        dy: sizes.1,
+        bright,
+    })
+}
+
+fn fixed(first: u16, second: u16) -> PieceKind {
+    PieceKind::Fixed { first, second }
+}
+
+/// A place; then a call, or one to three draws, each with a dot, or no more than two calls.
+fn body(alloc: Global) -> Result<Part, AllocError> {
+    let sizes = (span(-4, 4), span(0, 2));
+    let draws = pair(
+        alloc,
+        row(alloc, 2, draw(Format::Long, 9, sizes, span(0, 7)))?,
+        row(alloc, 3, fixed(0xF0F4, 0))?,
+    )?;
+    let calls = row(alloc, 4, call(alloc, &[0x820])?)?;
+    let some = either(
+        alloc,
+        repeat(alloc, 1, 3, draws)?,
+        repeat(alloc, 0, 2, calls)?,
+    )?;
+    let shapes = row(alloc, 1, call(alloc, &[0x800, 0x810])?)?;
+    let start = row(alloc, 0, place())?;
+    pair(alloc, start, either(alloc, shapes, some)?)
+}
+
+/// At 200 a stroke of an SVEC, and a call at 512, 512.
+fn jump(alloc: Global) -> Result<Jump, AllocError> {
+    let sizes = (span(-768, 768), span(-256, 0));
+    let stroke = row(alloc, 6, draw(Format::Short, 3, sizes, span(5, 6)))?;
+    let middle = pair(
+        alloc,
+        row(alloc, 7, fixed(0xA200, 0x0200))?,
+        row(alloc, 8, fixed(0xC800, 0))?,
+    )?;
+    Ok(Jump {
+        number: 5,
+        area: Area {
+            first: 0x200,
+            last: 0x2FF,
+        },
+        body: pair(alloc, stroke, middle)?,
+    })
+}
+
+/// The recipe of two lists, with a part to which each of them jumps.
+fn recipe(alloc: Global, second: u16) -> Result<Option<Recipe>, AllocError> {
+    let mut lists = Vec::new(alloc);
+    for (first, last) in [(0, 0x0FF), (second, 0x1FF)] {
+        lists.push(Area { first, last })?;
+    }
+    let mut jumps = Vec::new(alloc);
+    jumps.push(jump(alloc)?)?;
+    Ok(Recipe::new(lists, body(alloc)?, jumps, 9))
+}
+
+/// Stops the test unless each frame belongs to the recipe, or leaves it, as its row says.
+fn expect_rows(rt: &impl Abort, alloc: Global, recipe: &Recipe, rows: &[Row]) {
+    for (words, parts, leaves) in rows {
+        let bytes = frame_bytes(parts);
+        let frame = FrameImage::from_bytes(&bytes[..2 * (*words % 1025)]);
+        let frame = frame.expect(rt, "a frame");
+        match belongs(alloc, recipe, &frame) {
+            Ok(()) => expect_same(rt, &None, leaves, parts),
+            Err(NotMember::Leaves(leaving)) => {
+                expect_same(
+                    rt,
+                    &Some((leaving.at, leaving.pieces.as_slice())),
+                    leaves,
+                    parts,
+                );
+            }
+            Err(NotMember::Memory) => assert!(rt; false, "out of memory"),
+        }
+    }
+}
+
+#[test]
+fn tells_members(rt: HostRuntime) {
+    let recipe = recipe(rt.alloc(), 0x101).expect(&rt, "memory for the recipe");
+    let recipe = recipe.expect(&rt, "a recipe");
+    expect_rows(&rt, rt.alloc(), &recipe, ROWS);
+}
+
+/// The frames of `nested`: 20 calls, and 20 calls with one more behind another item.
+const NESTED_ROWS: &[Row] = &[
+    (0x015, &[(0x000, &[0xC820; 20]), (0x014, &[0xB000])], None),
+    (
+        0x017,
+        &[(0x000, &[0xC820; 20]), (0x014, &[0xC810, 0xC820, 0xB000])],
+        Some((0x014, &[0, 1])),
+    ),
+];
+
+/// The recipe of calls in repeats of 0 to 1,023 turns, one in another.
+fn nested(alloc: Global, levels: u16) -> Result<Option<Recipe>, AllocError> {
+    let mut part = row(alloc, 0, call(alloc, &[0x820])?)?;
+    for _ in 0..levels {
+        part = repeat(alloc, 0, 1023, part)?;
+    }
+    let mut lists = Vec::new(alloc);
+    lists.push(Area {
+        first: 0,
+        last: 0x0FF,
+    })?;
+    Ok(Recipe::new(lists, part, Vec::new(alloc), 1))
+}
+
+#[test]
+fn ends_in_nested_repeats(rt: HostRuntime) {
+    let recipe = nested(rt.alloc(), 12).expect(&rt, "memory for the recipe");
+    let recipe = recipe.expect(&rt, "a recipe");
+    expect_rows(&rt, rt.alloc(), &recipe, NESTED_ROWS);
+}
+
+#[test]
+fn keeps_limits(rt: HostRuntime) {
+    // a second list that begins in the first one's area
+    let recipe = recipe(rt.alloc(), 0x0FF).expect(&rt, "memory for the recipe");
+    assert!(rt; recipe.is_none());
+}
