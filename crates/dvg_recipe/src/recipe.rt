@@ -1,7 +1,8 @@
 //! Recipes: what the frames of a game are made of.
 
-ghost use Rattle.std.specs.Prelude.{◌≡◌, IfSome, IfNone};
-ghost use Rattle.dvg_recipe.specs.Limits.{IsRecipe};
+ghost use Rattle.std.specs.Prelude.{◌≡◌, Contains, IfSome, IfNone};
+ghost use Rattle.dvg_recipe.specs.declared.recipe.Jump.{Jump};
+ghost use Rattle.dvg_recipe.specs.Limits.{IsRecipe, PartFits, MOST_LEVELS};
 
 use crate::limits::is_recipe;
 use crate::piece::Piece;
@@ -93,14 +94,16 @@ impl Recipe {
 
     /// What stands in a list up to the first jump.
     pub fn body(&self) -> &Part
-        ensures { result.now ≡ self.now.body }
+        ensures value { result.now ≡ self.now.body }
+        ensures fits { PartFits MOST_LEVELS self.now.body }
     {
         &self.body
     }
 
     /// The jumps, with what stands behind each.
     pub fn jumps(&self) -> &[Jump]
-        ensures { result.now ≡ self.now.jumps }
+        ensures value { result.now ≡ self.now.jumps }
+        ensures fits { (jump : Jump) → Contains self.now.jumps jump → PartFits MOST_LEVELS jump.body }
     {
         &self.jumps
     }

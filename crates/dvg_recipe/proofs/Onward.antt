@@ -1,0 +1,119 @@
+-- What leads on over the parts, the jumps and the lists of a recipe.
+use Rattle.std.proofs.Common.{Box, Global, Vec, ◌-◌}
+use Rattle.dvg_recipe.proofs.Common.{◌≡◌, ◌⊎◌, ◌≤◌, ◌<◌, ◌+◌, ℕ, zero, suc, List, [], ◌∷◌, length, take, get_or, take-suc, take_all, refl, sym, subst, ⊎_elim, arith, Contains, Contains-append_cases}
+use Rattle.dvg_check.proofs.Common.{Window, Entry, Item, ◌≢◌}
+use Rattle.dvg_recipe.specs.Limits.{PartFits, RowFits, JumpsFit, MOST_LEVELS}
+use Rattle.dvg_recipe.specs.Recipes.{Part, Row, Then', Either', Repeat', Piece, Jump, Area, AddsRow, AddsJump, Spells, SpellsJumps, Times, BeginsAt}
+use Rattle.dvg_recipe.specs.Private.Hulls.{Hull, AreUnder, LeadOn}
+use Rattle.dvg_recipe.specs.Private.Judging.{Adds, Both, Turns, IsTaken, IsJump, IsFront, IsGoodFront, Carries, IsWithin, IsFirst, AreListStarts, IsCounted}
+use Rattle.dvg_recipe.proofs.Judging.{extends_part, good_under, carries_both, carries_under, carries_either, carries_piece, carries_jump, carries_row_next, turn_next, turns_more, carries_jumps_next}
+
+-- ---- hulls behind hulls
+
+-- a part of a part is within the limits
+pub within_as : (part other : Part) → part ≡ other → IsWithin part → IsWithin other
+within_as part other is h = subst IsWithin is h
+
+pub within_then : (p : Box (Unit {0}) Global) (a : Part) (q : Box (Unit {0}) Global) (b : Part) → IsWithin (Then' p a q b) → IsWithin a × IsWithin b
+within_then p a q b (levels, h) = ((levels - 1, h.1), (levels - 1, h.2))
+
+pub within_either : (p : Box (Unit {0}) Global) (a : Part) (q : Box (Unit {0}) Global) (b : Part) → IsWithin (Either' p a q b) → IsWithin a × IsWithin b
+within_either p a q b (levels, h) = ((levels - 1, h.1), (levels - 1, h.2))
+
+pub within_repeat : (least most : ℕ) (p : Box (Unit {0}) Global) (body : Part) → IsWithin (Repeat' least most p body) → (least ≤ most) × IsWithin body
+within_repeat least most p body (levels, h) = (h.1, (levels - 1, h.4))
+
+pub within_row : (row : Vec Piece Global) → IsWithin (Row row) → RowFits row.items
+within_row row (levels, h) = h
+
+module _ (w : Window) (list : List Entry) (budget : ℕ) where
+  pub part_as : (part other : Part) (xs ys : List Hull) → part ≡ other → Carries w list budget (Spells part) xs ys → Carries w list budget (Spells other) xs ys
+  part_as part other xs ys is h = subst (λ (p : Part). Carries w list budget (Spells p) xs ys) is h
+
+  pub from_as : (R : Adds) (xs ys zs : List Hull) → xs ≡ ys → Carries w list budget R xs zs → Carries w list budget R ys zs
+  from_as R xs ys zs is h = subst (λ (l : List Hull). Carries w list budget R l zs) is h
+
+  pub row_next : (row : List Piece) (i n : ℕ) (d : Piece) (xs ys zs : List Hull) → n ≡ suc i → i < length row → Carries w list budget (AddsRow (take i row)) xs ys → LeadOn w list budget (IsTaken (get_or row i d).kind) ys zs → Carries w list budget (AddsRow (take n row)) xs zs
+  row_next row i n d xs ys zs is lt h on = carries_row_next w list budget row i n d xs ys zs is lt h (carries_piece w list budget (get_or row i d) ys zs on)
+
+  pub then_both : (a b : Part) (xs ys zs : List Hull) → Carries w list budget (Spells a) xs ys → Carries w list budget (Spells b) ys zs → Carries w list budget (Both (Spells a) (Spells b)) xs zs
+  then_both a b xs ys zs h k = carries_both w list budget (Spells a) (Spells b) xs ys zs (extends_part b) h k
+
+  pub either_one : (R S : Adds) (xs ys zs all : List Hull) → AreUnder ys all → AreUnder zs all → Carries w list budget R xs ys → Carries w list budget S xs zs → Carries w list budget (λ before after. R before after ⊎ S before after) xs all
+  either_one R S xs ys zs all u v h k = carries_either w list budget R S xs all (carries_under w list budget R xs ys all u h) (carries_under w list budget S xs zs all v k)
+
+  module _ (body : Part) where
+    pub one_turn : (n m : ℕ) (xs ys zs : List Hull) → m ≡ suc n → Carries w list budget (Times n (Spells body)) xs ys → Carries w list budget (Spells body) ys zs → Carries w list budget (Times m (Spells body)) xs zs
+    one_turn n m xs ys zs is h k = turn_next w list budget (Spells body) n m xs ys zs is (extends_part body) h k
+
+    pub least_turns : (least : ℕ) (xs ys zs : List Hull) → ys ≡ zs → Carries w list budget (Times least (Spells body)) xs ys → Carries w list budget (Turns least least (Spells body)) xs zs
+    least_turns least xs ys zs is h =
+        subst (λ (l : List Hull). Carries w list budget (Turns least least (Spells body)) xs l) is
+        (record { each = λ words before after t f good. h.each words before after (subst (λ n. Times n (Spells body) before after) (omega (arith, t.1, t.2)) t.3) f good })
+
+    pub more_turns : (least n m : ℕ) (xs here next more : List Hull) → m ≡ suc n → Carries w list budget (Turns least n (Spells body)) xs next → Carries w list budget (Times m (Spells body)) xs here → AreUnder next more → AreUnder here more → Carries w list budget (Turns least m (Spells body)) xs more
+    more_turns least n m xs here next more is h k u v = turns_more w list budget (Spells body) least n m xs here next more is h k u v
+
+  pub jumps_next : (jumps : List Jump) (i n : ℕ) (d : Jump) (xs ys zs all : List Hull) → n ≡ suc i → i < length jumps → Carries w list budget (SpellsJumps (take i jumps)) xs ys → LeadOn w list budget IsJump ys zs → Carries w list budget (Spells (get_or jumps i d).body) zs all → Carries w list budget (SpellsJumps (take n jumps)) xs all
+  jumps_next jumps i n d xs ys zs all is lt h on k = carries_jumps_next w list budget jumps i n d xs ys zs all is lt h (carries_jump w list budget (get_or jumps i d).area.first ys zs on) k
+
+-- ---- where lists begin
+
+begins_here : (n : ℕ) (items : List Item) → n ≡ 0 → BeginsAt n items → items ≡ []
+begins_here zero items is h = h
+begins_here (suc n) items is h = absurd (omega (arith, is))
+
+begins_there : (n : ℕ) (items : List Item) → n ≢ 0 → BeginsAt n items → AddsJump n [] items
+begins_there zero items not h = absurd (not refl)
+begins_there (suc n) items not h = h
+
+only_area : (a b : Area) → Contains (a ∷ []) b → a ≡ b
+only_area a b (zero, lt, is) = is
+only_area a b (suc k, lt, is) = absurd (omega (arith, lt))
+
+module _ (w : Window) (list : List Entry) (budget : ℕ) where
+  good_start : (h : Hull) (words : List ℕ) → IsFirst h → IsGoodFront w list budget (h ∷ []) words []
+  good_start h words first = record { covered = first; kept = tt }
+
+  pub starts_none : (areas : List Area) (here : List Hull) → AreListStarts w list budget (take 0 areas) here
+  starts_none areas here = record { each = λ words items b f. absurd (omega (arith, b.1.1)) }
+
+  pub starts_more : (areas : List Area) (i n : ℕ) (d : Area) (here more : List Hull) → n ≡ suc i → i < length areas → AreListStarts w list budget (take i areas) here → AreUnder here more
+      → ((words : List ℕ) (items : List Item) → BeginsAt (get_or areas i d).first items → IsFront words items → IsGoodFront w list budget more words items) → AreListStarts w list budget (take n areas) more
+  starts_more areas i n d here more is lt h under new = record {
+    each = λ words items b f. ⊎_elim
+        (λ old. good_under w list budget here more words items under (h.each words items (b.0, old, b.2) f))
+        (λ last. new words items (subst (λ (a : Area). BeginsAt a.first items) (sym (only_area (get_or areas i d) b.0 last)) b.2) f)
+        (Contains-append_cases (take i areas) (get_or areas i d ∷ []) b.0 (subst (λ (l : List Area). Contains l b.0) (take-suc areas i d lt) (subst (λ m. Contains (take m areas) b.0) is b.1)));
+  }
+
+  pub start_here : (first : ℕ) (h : Hull) (more : List Hull) → first ≡ 0 → IsFirst h → AreUnder (h ∷ []) more → (words : List ℕ) (items : List Item) → BeginsAt first items → IsFront words items → IsGoodFront w list budget more words items
+  start_here first h more is known under words items b f = good_under w list budget (h ∷ []) more words items under (subst (IsGoodFront w list budget (h ∷ []) words) (sym (begins_here first items is b)) (good_start h words known))
+
+  pub start_there : (first : ℕ) (h : Hull) (hulls there more : List Hull) → hulls ≡ h ∷ [] → first ≢ 0 → IsFirst h → LeadOn w list budget IsJump hulls there → AreUnder there more → (words : List ℕ) (items : List Item) → BeginsAt first items → IsFront words items → IsGoodFront w list budget more words items
+  start_there first h hulls there more is not known on under words items b f =
+      good_under w list budget there more words items under
+      ((carries_jump w list budget first hulls there on).each words [] items (begins_there first items not b) f (subst (λ (l : List Hull). IsGoodFront w list budget l words []) (sym is) (good_start h words known)))
+
+  pub starts_whole : (areas : List Area) (here : List Hull) (i : ℕ) → length areas ≤ i → AreListStarts w list budget (take i areas) here → AreListStarts w list budget areas here
+  starts_whole areas here i le h = subst (λ (l : List Area). AreListStarts w list budget l here) (take_all i areas le) h
+
+-- ---- counts
+
+only_hull : (a b : Hull) → Contains (a ∷ []) b → a ≡ b
+only_hull a b (zero, lt, is) = is
+only_hull a b (suc k, lt, is) = absurd (omega (arith, lt))
+
+pub counts_next : (here : List Hull) (i n : ℕ) (d : Hull) (words depth more deeper : ℕ) → n ≡ suc i → i < length here → words ≤ more → depth ≤ deeper → IsCounted more deeper (get_or here i d)
+    → ((h : Hull) → Contains (take i here) h → IsCounted words depth h) → (h : Hull) → Contains (take n here) h → IsCounted more deeper h
+counts_next here i n d words depth more deeper is lt le deep new old h there =
+    ⊎_elim (λ c. let e = old h c in record { count = omega (arith, e.count, le); shallow = omega (arith, e.shallow, deep) })
+    (λ last. subst (IsCounted more deeper) (only_hull (get_or here i d) h last) new)
+    (Contains-append_cases (take i here) (get_or here i d ∷ []) h (subst (λ (l : List Hull). Contains l h) (take-suc here i d lt) (subst (λ m. Contains (take m here) h) is there)))
+
+-- ---- the parts of a recipe
+
+pub jumps_within : (jumps : List Jump) (word n m : ℕ) → JumpsFit jumps word n m → (jump : Jump) → Contains jumps jump → PartFits MOST_LEVELS jump.body
+jumps_within [] word n m h jump (k, lt, is) = absurd (omega (arith, lt))
+jumps_within (first ∷ jumps) word n m (k, fits, numbered, rest) jump (zero, lt, is) = subst (λ (j : Jump). PartFits MOST_LEVELS j.body) is fits.body
+jumps_within (first ∷ jumps) word n m (k, fits, numbered, rest) jump (suc i, lt, is) = jumps_within jumps (suc first.area.last) k m rest jump (i, omega (arith, lt), is)

@@ -1,0 +1,435 @@
+//! Judges all frames of a recipe at once, by hulls of what may be known.
+
+ghost use Rattle.std.specs.Prelude.{◌≡◌, ◌≤◌, ◌+◌, [], ◌∷◌, List, None, Contains, IfOk, IfNone};
+ghost use Rattle.dvg_cert.specs.declared.limits.TheConstants.{MOST_WORDS};
+ghost use Rattle.dvg_cert.specs.declared.entry.Entry.{Entry};
+ghost use Rattle.dvg_words.specs.declared.machine.Machine.TheVariants.{Board};
+ghost use Rattle.dvg_items.specs.Bounds.{IsSomeCertificate};
+ghost use Rattle.dvg_check.specs.Rules.{Good};
+ghost use Rattle.dvg_check.specs.declared.fault.Mode.TheVariants.{Exact};
+ghost use Rattle.dvg_recipe.specs.Limits.{PieceFits, RowFits};
+ghost use Rattle.dvg_recipe.specs.Means.{AllMean};
+ghost use Rattle.dvg_recipe.specs.Recipes.{AddsRow, Spells, SpellsJumps};
+ghost use Rattle.dvg_recipe.specs.Private.Judging.{IsJump, IsTaken, Carries, IfFine, IsWithin, AreWithin, Turns, IsFirst, AreListStarts, IsCounted};
+ghost use Rattle.dvg_recipe.specs.Private.Hulls.{AreUnder, AreSoundHulls, IsSoundHull, IsSoundChange, AreSoundChanges, HullKeeps, LightsIn, IsNearLight, AreNearPlaces, AllPut, LeadOn, hull_past};
+
+use crate::changes::{changes_of, still};
+use crate::hull::{Change, Hull, Light, Places};
+use crate::hulls::{add, add_all};
+use crate::piece::Piece;
+use crate::recipe::{Area, Jump, Part, Recipe};
+use crate::rectangles::{is_shown, moved, places_past};
+use dvg_cert::{Entries, Key, MOST_WORDS};
+use dvg_check::{Accepted, FrameWhy};
+use dvg_words::{Machine, RomImage, Window};
+use std::alloc::{AllocError, Global};
+
+/// What is asked of each frame: how many words it may take at most, and in which window it may light.
+#[derive(Clone, Copy)]
+pub struct Asked {
+    pub budget: u32,
+    pub window: Window,
+}
+
+/// The first piece, repeats written out, at which some frame of a recipe breaks a rule, and the rule of the lowest number.
+#[derive(Clone, Copy, Debug)]
+pub struct RecipeFault {
+    /// The number of the piece. `None` if it is the jump to a list, at word 000.
+    pub piece: Option<u16>,
+    pub why: FrameWhy,
+}
+
+/// Why a recipe is not accepted.
+#[derive(Clone, Copy, Debug)]
+pub enum RecipeRefusal {
+    Breaks(RecipeFault),
+    /// There was no memory.
+    Memory,
+}
+
+impl From<AllocError> for RecipeRefusal {
+    fn from(_error: AllocError) -> RecipeRefusal {
+        RecipeRefusal::Memory
+    }
+}
+
+/// The hulls behind the items of a piece, and the rule of the lowest number that one of them breaks.
+#[derive(Drop)]
+struct Next {
+    hulls: Vec<Hull>,
+    broken: Option<FrameWhy>,
+}
+
+/// The first rule that is broken by what is lit from some place.
+fn light_broken(window: &Window, places: &Places, light: &Light) -> Option<FrameWhy>
+    requires places { AreNearPlaces MOST_WORDS places.now }
+    requires light { IsNearLight light.now }
+    ensures { IfNone result (LightsIn window.now places.now light.now) }
+{
+    match (light, places) {
+        (Light::Dark, _) => None,
+        (_, Places::Lost) => Some(FrameWhy::BeamUnknown),
+        (Light::Unbounded, _) => Some(FrameWhy::ScaleUnknown),
+        (Light::Shown { from, to }, Places::Within(r)) => {
+            if is_shown(window, &moved(r, from)) && is_shown(window, &moved(r, to)) {
+                None
+            } else {
+                Some(FrameWhy::OffScreen)
+            }
+        }
+    }
+}
+
+/// The first rule that a change breaks from what a hull has.
+#[tactic(auto, using(crate::proofs::Leads::near_most))]
+fn first_broken(asked: &Asked, hull: &Hull, change: &Change) -> Option<FrameWhy>
+    requires hull { IsSoundHull hull.now }
+    requires change { IsSoundChange change.now }
+    ensures { IfNone result (HullKeeps asked.now.window asked.now.budget hull.now change.now) }
+{
+    match light_broken(&asked.window, &hull.places, &change.light) {
+        Some(why) => Some(why),
+        None if !change.named => Some(FrameWhy::NoEntry),
+        None if change.words + hull.words > asked.budget => Some(FrameWhy::Budget),
+        None => None,
+    }
+}
+
+/// What may be known past a change.
+#[tactic(auto, using(crate::proofs::Leads::near_most, crate::proofs::Past::past_sound))]
+fn hull_past(change: &Change, hull: &Hull) -> Hull
+    requires hull { IsSoundHull hull.now }
+    requires change { IsSoundChange change.now }
+    requires few { change.now.words + hull.now.words ≤ MOST_WORDS }
+    ensures value { result ≡ hull_past change.now hull.now }
+    ensures sound { IsSoundHull result }
+{
+    Hull {
+        scale: change.scale,
+        places: places_past(&change.motion, &hull.places),
+        words: change.words + hull.words,
+        depth: change.depth.max(hull.depth),
+    }
+}
+
+/// The rule of the lower number.
+fn lower(broken: Option<FrameWhy>, why: FrameWhy) -> FrameWhy {
+    match broken {
+        Some(other) if other.number() < why.number() => other,
+        _ => why,
+    }
+}
+
+impl Next {
+    /// No hulls, and no rule that is broken.
+    fn new(alloc: Global) -> Next
+        ensures hulls { result.hulls.items ≡ [] }
+        ensures broken { result.broken ≡ None }
+    {
+        Next {
+            hulls: Vec::new(alloc),
+            broken: None,
+        }
+    }
+
+    /// Adds what is known past a change from what a hull has, and notes the rule that it breaks.
+    fn put(&mut self, asked: &Asked, hull: &Hull, change: &Change) -> Result<(), AllocError>
+        requires budget { asked.now.budget ≤ MOST_WORDS }
+        requires hull { IsSoundHull hull.now }
+        requires change { IsSoundChange change.now }
+        requires sound { AreSoundHulls self.old.hulls.items }
+        ensures fine { IfOk result (λ _. self.new.broken ≡ None → self.old.broken ≡ None) }
+        ensures keeps { IfOk result (λ _. self.new.broken ≡ None → HullKeeps asked.now.window asked.now.budget hull.now change.now) }
+        ensures added { IfOk result (λ _. self.new.broken ≡ None → AreUnder (hull_past change.now hull.now ∷ []) self.new.hulls.items) }
+        ensures kept { IfOk result (λ _. AreUnder self.old.hulls.items self.new.hulls.items) }
+        ensures sound { IfOk result (λ _. AreSoundHulls self.new.hulls.items) }
+    {
+        if let Some(why) = first_broken(asked, hull, change) {
+            self.broken = Some(lower(self.broken, why));
+        }
+        if change.words + hull.words <= MOST_WORDS {
+            add(&mut self.hulls, &hull_past(change, hull))?;
+        }
+        Ok(())
+    }
+
+    /// Adds what is known past each of some changes.
+    fn put_all(&mut self, asked: &Asked, hull: &Hull, changes: &[Change]) -> Result<(), AllocError>
+        requires budget { asked.now.budget ≤ MOST_WORDS }
+        requires hull { IsSoundHull hull.now }
+        requires changes { AreSoundChanges changes.now }
+        requires sound { AreSoundHulls self.old.hulls.items }
+        ensures fine { IfOk result (λ _. self.new.broken ≡ None → self.old.broken ≡ None) }
+        ensures put { IfOk result (λ _. self.new.broken ≡ None → AllPut asked.now.window asked.now.budget hull.now changes.now self.new.hulls.items) }
+        ensures kept { IfOk result (λ _. AreUnder self.old.hulls.items self.new.hulls.items) }
+        ensures sound { IfOk result (λ _. AreSoundHulls self.new.hulls.items) }
+    {
+        for change in changes {
+            self.put(asked, hull, change)?;
+        }
+        Ok(())
+    }
+
+    /// The hulls behind a piece of this number. The first fault is noted.
+    fn done(self, fault: &mut Option<RecipeFault>, piece: Option<u16>) -> Vec<Hull>
+        ensures fine { fault.new ≡ None → (self.broken ≡ None) × (fault.old ≡ None) }
+        ensures hulls { result.items ≡ self.hulls.items }
+    {
+        if let (None, Some(why)) = (*fault, self.broken) {
+            *fault = Some(RecipeFault { piece, why });
+        }
+        self.hulls
+    }
+}
+
+/// The hulls behind a jump of this number. The first fault is noted.
+fn past_jump(
+    alloc: Global,
+    asked: &Asked,
+    fault: &mut Option<RecipeFault>,
+    number: Option<u16>,
+    here: &[Hull],
+) -> Result<Vec<Hull>, AllocError>
+    requires budget { asked.now.budget ≤ MOST_WORDS }
+    requires here { AreSoundHulls here.now }
+    ensures fine { IfOk result (λ _. fault.new ≡ None → fault.old ≡ None) }
+    ensures leads { IfOk result (λ next. fault.new ≡ None → (list : List Entry) → LeadOn asked.now.window list asked.now.budget IsJump here.now next.items) }
+    ensures sound { IfOk result (λ next. AreSoundHulls next.items) }
+{
+    let mut next = Next::new(alloc);
+    for hull in here {
+        next.put_all(asked, hull, &[still(hull.scale)])?;
+    }
+    Ok(next.done(fault, number))
+}
+
+/// The hulls behind the items of a piece. The first fault is noted.
+fn past_piece<E: Entries>(
+    alloc: Global,
+    entries: &E,
+    asked: &Asked,
+    fault: &mut Option<RecipeFault>,
+    piece: &Piece,
+    here: &[Hull],
+) -> Result<Vec<Hull>, AllocError>
+    requires entries { IsSomeCertificate (E.list entries.now) }
+    requires budget { asked.now.budget ≤ MOST_WORDS }
+    requires fits { PieceFits piece.now.kind }
+    requires here { AreSoundHulls here.now }
+    ensures fine { IfOk result (λ _. fault.new ≡ None → fault.old ≡ None) }
+    ensures leads { IfOk result (λ next. fault.new ≡ None → LeadOn asked.now.window (E.list entries.now) asked.now.budget (IsTaken piece.now.kind) here.now next.items) }
+    ensures sound { IfOk result (λ next. AreSoundHulls next.items) }
+{
+    let mut next = Next::new(alloc);
+    for hull in here {
+        let changes = changes_of(alloc, entries, &piece.kind, hull.scale)?;
+        next.put_all(asked, hull, &changes)?;
+    }
+    Ok(next.done(fault, Some(piece.number)))
+}
+
+/// The hulls behind the items of a row. The first fault is noted.
+fn past_row<E: Entries>(
+    alloc: Global,
+    entries: &E,
+    asked: &Asked,
+    fault: &mut Option<RecipeFault>,
+    row: &[Piece],
+    here: Vec<Hull>,
+) -> Result<Vec<Hull>, AllocError>
+    requires entries { IsSomeCertificate (E.list entries.now) }
+    requires budget { asked.now.budget ≤ MOST_WORDS }
+    requires fits { RowFits row.now }
+    requires here { AreSoundHulls here.items }
+    ensures carries { IfOk result (λ next. IfFine fault.old fault.new (Carries asked.now.window (E.list entries.now) asked.now.budget (AddsRow row.now) here.items next.items)) }
+    ensures sound { IfOk result (λ next. AreSoundHulls next.items) }
+{
+    let mut here = here;
+    for piece in row {
+        here = past_piece(alloc, entries, asked, fault, piece, &here)?;
+    }
+    Ok(here)
+}
+
+/// The hulls behind the items of a part. The first fault is noted.
+#[cycle(past_part)]
+pub fn past_part<E: Entries>(
+    part: &Part,
+    alloc: Global,
+    entries: &E,
+    asked: &Asked,
+    fault: &mut Option<RecipeFault>,
+    here: Vec<Hull>,
+) -> Result<Vec<Hull>, AllocError>
+    requires entries { IsSomeCertificate (E.list entries.now) }
+    requires budget { asked.now.budget ≤ MOST_WORDS }
+    requires fits { IsWithin part.now }
+    requires here { AreSoundHulls here.items }
+    ensures carries { IfOk result (λ next. IfFine fault.old fault.new (Carries asked.now.window (E.list entries.now) asked.now.budget (Spells part.now) here.items next.items)) }
+    ensures sound { IfOk result (λ next. AreSoundHulls next.items) }
+{
+    match part {
+        Part::Row(row) => past_row(alloc, entries, asked, fault, row, here),
+        Part::Then(first, second) => {
+            let between = past_part(first, alloc, entries, asked, fault, here)?;
+            past_part(second, alloc, entries, asked, fault, between)
+        }
+        Part::Either(one, other) => {
+            let copy = Vec::from_slice(alloc, &here)?;
+            let mut next = past_part(one, alloc, entries, asked, fault, copy)?;
+            let more = past_part(other, alloc, entries, asked, fault, here)?;
+            add_all(&mut next, &more)?;
+            Ok(next)
+        }
+        Part::Repeat { least, most, body } => {
+            past_repeat(body, alloc, entries, asked, fault, *least, *most, here)
+        }
+    }
+}
+
+/// The hulls behind `least` to `most` turns of a part. The first fault is noted.
+#[cycle(past_part)]
+fn past_repeat<E: Entries>(
+    body: &Part,
+    alloc: Global,
+    entries: &E,
+    asked: &Asked,
+    fault: &mut Option<RecipeFault>,
+    least: u16,
+    most: u16,
+    here: Vec<Hull>,
+) -> Result<Vec<Hull>, AllocError>
+    requires entries { IsSomeCertificate (E.list entries.now) }
+    requires budget { asked.now.budget ≤ MOST_WORDS }
+    requires fits { IsWithin body.now }
+    requires turns { least ≤ most }
+    requires here { AreSoundHulls here.items }
+    ensures carries { IfOk result (λ next. IfFine fault.old fault.new (Carries asked.now.window (E.list entries.now) asked.now.budget (Turns least most (Spells body.now)) here.items next.items)) }
+    ensures sound { IfOk result (λ next. AreSoundHulls next.items) }
+{
+    let mut here = here;
+    for _ in 0..least {
+        here = past_part(body, alloc, entries, asked, fault, here)?;
+    }
+    let mut next = Vec::from_slice(alloc, &here)?;
+    for _ in least..most {
+        here = past_part(body, alloc, entries, asked, fault, here)?;
+        add_all(&mut next, &here)?;
+    }
+    Ok(next)
+}
+
+/// The hulls behind jumps and their parts. The first fault is noted.
+fn past_jumps<E: Entries>(
+    alloc: Global,
+    entries: &E,
+    asked: &Asked,
+    fault: &mut Option<RecipeFault>,
+    jumps: &[Jump],
+    here: Vec<Hull>,
+) -> Result<Vec<Hull>, AllocError>
+    requires entries { IsSomeCertificate (E.list entries.now) }
+    requires budget { asked.now.budget ≤ MOST_WORDS }
+    requires fits { AreWithin jumps.now }
+    requires here { AreSoundHulls here.items }
+    ensures carries { IfOk result (λ next. IfFine fault.old fault.new (Carries asked.now.window (E.list entries.now) asked.now.budget (SpellsJumps jumps.now) here.items next.items)) }
+    ensures sound { IfOk result (λ next. AreSoundHulls next.items) }
+{
+    let mut here = here;
+    for jump in jumps {
+        let there = past_jump(alloc, asked, fault, Some(jump.number), &here)?;
+        here = past_part(&jump.body, alloc, entries, asked, fault, there)?;
+    }
+    Ok(here)
+}
+
+/// All that may be known at word 000 of a frame.
+fn first_hull() -> Hull
+    ensures first { IsFirst result }
+    ensures sound { IsSoundHull result }
+{
+    Hull {
+        scale: Key::Any,
+        places: Places::Lost,
+        words: 0,
+        depth: 0,
+    }
+}
+
+/// The hulls where lists begin. The first fault is noted.
+pub fn starts(
+    alloc: Global,
+    asked: &Asked,
+    fault: &mut Option<RecipeFault>,
+    lists: &[Area],
+) -> Result<Vec<Hull>, AllocError>
+    requires budget { asked.now.budget ≤ MOST_WORDS }
+    ensures fine { IfOk result (λ _. fault.new ≡ None → fault.old ≡ None) }
+    ensures starts { IfOk result (λ here. fault.new ≡ None → (list : List Entry) → AreListStarts asked.now.window list asked.now.budget lists.now here.items) }
+    ensures sound { IfOk result (λ here. AreSoundHulls here.items) }
+{
+    let first = first_hull();
+    let mut here = Vec::new(alloc);
+    for area in lists {
+        if area.first == 0 {
+            add(&mut here, &first)?;
+        } else {
+            let there = past_jump(alloc, asked, fault, None, &[first])?;
+            add_all(&mut here, &there)?;
+        }
+    }
+    Ok(here)
+}
+
+/// The greatest counts of the lists whose HALT, of this number, stands behind these hulls. The first fault is noted.
+fn counts(asked: &Asked, fault: &mut Option<RecipeFault>, halt: u16, here: &[Hull]) -> Accepted
+    requires budget { asked.now.budget ≤ MOST_WORDS }
+    requires here { AreSoundHulls here.now }
+    ensures fine { fault.new ≡ None → fault.old ≡ None }
+    ensures few { fault.new ≡ None → result.words ≤ asked.now.budget }
+    ensures counted { (h : Hull) → Contains here.now h → IsCounted result.words result.depth h }
+{
+    let mut yes = Accepted { words: 0, depth: 0 };
+    for hull in here {
+        yes = Accepted {
+            words: yes.words.max(hull.words + 1),
+            depth: yes.depth.max(hull.depth),
+        };
+    }
+    if yes.words > asked.budget && fault.is_none() {
+        *fault = Some(RecipeFault {
+            piece: Some(halt),
+            why: FrameWhy::Budget,
+        });
+    }
+    yes
+}
+
+/// Judges all frames of a recipe at once over a ROM on the board, whose shapes are good by these entries: the greatest counts of its
+/// frames, or the first fault of one of them.
+pub fn judge_over<E: Entries>(
+    alloc: Global,
+    rom: &RomImage,
+    entries: &E,
+    asked: &Asked,
+    recipe: &Recipe,
+) -> Result<Accepted, RecipeRefusal>
+    requires budget { asked.now.budget ≤ MOST_WORDS }
+    requires list { IsSomeCertificate (E.list entries.now) }
+    requires good { Good Exact asked.now.window rom.now (E.list entries.now) }
+    requires board { rom.now.machine ≡ Board }
+    ensures { IfOk result (λ yes. AllMean (record { rom = rom.now; list = E.list entries.now; window = asked.now.window; mode = Exact }) recipe.now yes.words yes.depth) }
+{
+    // Their clauses say that the ROM is whole, and that the window is a part of the screen, or the zone.
+    let _map = rom.map();
+    let _fits = asked.window.is_for(Machine::Board);
+    let mut fault = None;
+    let here = starts(alloc, asked, &mut fault, recipe.lists())?;
+    let here = past_part(recipe.body(), alloc, entries, asked, &mut fault, here)?;
+    let here = past_jumps(alloc, entries, asked, &mut fault, recipe.jumps(), here)?;
+    let yes = counts(asked, &mut fault, recipe.halt(), &here);
+    match fault {
+        None => Ok(yes),
+        Some(fault) => Err(RecipeRefusal::Breaks(fault)),
+    }
+}
