@@ -11,3 +11,4 @@ pub mod Sounds
 pub mod Doing
 pub mod Members
 pub mod Leads
+pub mod Longest
