@@ -4,18 +4,23 @@
 use crate::tests::{
     Row, call, draw, either, expect_rows, expect_same, fixed, pair, place, repeat, row, span,
 };
-use crate::{Area, Jump, Part, Recipe, too_long};
+use crate::{Area, Jump, Part, Piece, Recipe, too_long};
 use dvg_words::Format;
 use std::alloc::{AllocError, Global};
+use std::fmt::Debug;
 use std::process::Abort;
 
-/// The first and the last word of an area, of which a jump leads to the second, and the number of the piece at which the longest list
-/// passes.
+/// The first and the last word of the area of each list, and the number of the piece at which the longest list passes.
 type Ends<'a> = (&'a [(u16, u16)], Option<u16>);
 
-/// A part that calls a shape, of this number.
-fn shape(alloc: Global, number: u16) -> Result<Part, AllocError> {
-    row(alloc, number, call(alloc, &[0x820])?)
+/// A row of calls of a shape, of these numbers.
+fn shapes(alloc: Global, numbers: &[u16]) -> Result<Part, AllocError> {
+    let mut row = Vec::new(alloc);
+    for &number in numbers {
+        let kind = call(alloc, &[0x820])?;
+        row.push(Piece { number, kind })?;
+    }
+    Ok(Part::Row(row))
 }
 
 /// The recipe of lists in these areas, with no jump.
@@ -46,28 +51,33 @@ fn all_kinds(alloc: Global) -> Result<Part, AllocError> {
         row(alloc, 4, fixed(0xF0F4, 0))?,
     )?;
     let start = pair(alloc, row(alloc, 0, place())?, draws)?;
-    pair(alloc, start, pair(alloc, words, shape(alloc, 5)?)?)
+    pair(alloc, start, pair(alloc, words, shapes(alloc, &[5])?)?)
 }
 
-/// Up to five times a place and a call: 15 words.
-fn turns(alloc: Global) -> Result<Part, AllocError> {
-    let turn = pair(alloc, row(alloc, 0, place())?, shape(alloc, 1)?)?;
+/// Up to five times a place, of this number, and a call: 15 words.
+fn turns(alloc: Global, number: u16) -> Result<Part, AllocError> {
+    let start = row(alloc, number, place())?;
+    let turn = pair(alloc, start, shapes(alloc, &[number.saturating_add(1)])?)?;
     repeat(alloc, 0, 5, turn)
 }
 
 /// A call, and behind it a place or three calls: 4 words.
 fn branches(alloc: Global) -> Result<Part, AllocError> {
-    let calls = pair(alloc, shape(alloc, 2)?, shape(alloc, 3)?)?;
-    let calls = pair(alloc, calls, shape(alloc, 4)?)?;
-    let either = either(alloc, row(alloc, 1, place())?, calls)?;
-    pair(alloc, shape(alloc, 0)?, either)
+    let start = row(alloc, 1, place())?;
+    let either = either(alloc, start, shapes(alloc, &[2, 3, 4])?)?;
+    pair(alloc, shapes(alloc, &[0])?, either)
 }
 
-/// Stops the test unless the longest list of a recipe passes its area at this piece.
-fn expect_past(rt: &impl Abort, recipe: Result<Option<Recipe>, AllocError>, ends: &Ends) {
+/// Stops the test unless the longest list of a recipe passes its area at this piece, and tells of which row it is.
+fn expect_past<P: Debug>(
+    rt: &impl Abort,
+    recipe: Result<Option<Recipe>, AllocError>,
+    past: Option<u16>,
+    at: &P,
+) {
     let recipe = recipe.expect(rt, "memory for the recipe");
     let recipe = recipe.expect(rt, "a recipe");
-    expect_same(rt, &too_long(&recipe), &ends.1, &ends.0);
+    expect_same(rt, &too_long(&recipe), &past, at);
 }
 
 #[test]
@@ -86,9 +96,9 @@ fn counts_words(rt: HostRuntime) {
         (&[(0, 0x007), (0x100, 0x108), (0x110, 0x1FF)], Some(5)),
         (&[(0, 0x0FF), (0x100, 0x109)], None),
     ];
-    for ends in rows {
+    for (areas, past) in rows {
         let body = all_kinds(rt.alloc()).expect(&rt, "memory for the body");
-        expect_past(&rt, straight(rt.alloc(), ends.0, body, 6), ends);
+        expect_past(&rt, straight(rt.alloc(), areas, body, 6), *past, areas);
     }
 }
 
@@ -104,9 +114,9 @@ fn counts_turns(rt: HostRuntime) {
         (&[(0x101, 0x10F)], Some(2)),
         (&[(0x101, 0x110)], None),
     ];
-    for ends in rows {
-        let body = turns(rt.alloc()).expect(&rt, "memory for the body");
-        expect_past(&rt, straight(rt.alloc(), ends.0, body, 2), ends);
+    for (areas, past) in rows {
+        let body = turns(rt.alloc(), 0).expect(&rt, "memory for the body");
+        expect_past(&rt, straight(rt.alloc(), areas, body, 2), *past, areas);
     }
 }
 
@@ -119,59 +129,49 @@ fn counts_branches(rt: HostRuntime) {
         (&[(0, 3)], Some(5)),
         (&[(0, 4)], None),
     ];
-    for ends in rows {
+    for (areas, past) in rows {
         let body = branches(rt.alloc()).expect(&rt, "memory for the body");
-        expect_past(&rt, straight(rt.alloc(), ends.0, body, 5), ends);
+        expect_past(&rt, straight(rt.alloc(), areas, body, 5), *past, areas);
     }
 }
 
-/// The recipe of a list of 9 words and a JMPL, and a part of 15 words, a JMPL, 4 words and a HALT behind two jumps.
-fn jumping(alloc: Global, areas: &[(u16, u16)]) -> Result<Option<Recipe>, AllocError> {
+/// A jump of this number to an area, and what stands there.
+fn jump(number: u16, first: u16, last: u16, body: Part) -> Jump {
+    let area = Area { first, last };
+    Jump { number, area, body }
+}
+
+/// The recipe of a list at 000 of 9 words, one at 100 of 15, and one at 200 of one, each with a JMPL or a HALT, whose areas end so.
+fn jumping(alloc: Global, last: (u16, u16, u16)) -> Result<Option<Recipe>, AllocError> {
     let mut lists = Vec::new(alloc);
+    lists.push(Area {
+        first: 0,
+        last: last.0,
+    })?;
     let mut jumps = Vec::new(alloc);
-    for (index, &(first, last)) in areas.iter().enumerate() {
-        let area = Area { first, last };
-        match index {
-            0 => lists.push(area)?,
-            1 => jumps.push(Jump {
-                number: 6,
-                area,
-                body: numbered_turns(alloc)?,
-            })?,
-            _ => jumps.push(Jump {
-                number: 9,
-                area,
-                body: shape(alloc, 10)?,
-            })?,
-        }
-    }
+    jumps.push(jump(6, 0x100, last.1, turns(alloc, 7)?))?;
+    jumps.push(jump(9, 0x200, last.2, shapes(alloc, &[10])?))?;
     Ok(Recipe::new(lists, all_kinds(alloc)?, jumps, 11))
-}
-
-/// `turns`, numbered behind a jump.
-fn numbered_turns(alloc: Global) -> Result<Part, AllocError> {
-    let turn = pair(alloc, row(alloc, 7, place())?, shape(alloc, 8)?)?;
-    repeat(alloc, 0, 5, turn)
 }
 
 #[test]
 fn counts_jumps(rt: HostRuntime) {
-    let rows: &[Ends] = &[
-        (&[(0, 0x007), (0x100, 0x1FF), (0x200, 0x2FF)], Some(5)),
-        (&[(0, 0x008), (0x100, 0x1FF), (0x200, 0x2FF)], Some(6)),
-        (&[(0, 0x009), (0x100, 0x10D), (0x200, 0x200)], Some(8)),
-        (&[(0, 0x009), (0x100, 0x10E), (0x200, 0x2FF)], Some(9)),
-        (&[(0, 0x009), (0x100, 0x10F), (0x200, 0x200)], Some(11)),
-        (&[(0, 0x009), (0x100, 0x10F), (0x200, 0x201)], None),
+    let rows: &[((u16, u16, u16), Option<u16>)] = &[
+        ((0x007, 0x1FF, 0x2FF), Some(5)),
+        ((0x008, 0x1FF, 0x2FF), Some(6)),
+        ((0x009, 0x10D, 0x200), Some(8)),
+        ((0x009, 0x10E, 0x2FF), Some(9)),
+        ((0x009, 0x10F, 0x200), Some(11)),
+        ((0x009, 0x10F, 0x201), None),
     ];
-    for ends in rows {
-        expect_past(&rt, jumping(rt.alloc(), ends.0), ends);
+    for (last, past) in rows {
+        expect_past(&rt, jumping(rt.alloc(), *last), *past, last);
     }
 }
 
 /// A call in repeats, one in another.
 fn nested(alloc: Global, levels: u16, least: u16, most: u16) -> Result<Part, AllocError> {
-    let mut part = shape(alloc, 0)?;
+    let mut part = shapes(alloc, &[0])?;
     for _ in 0..levels {
         part = repeat(alloc, least, most, part)?;
     }
@@ -193,7 +193,7 @@ fn limits_repeats(rt: HostRuntime) {
     }
     let empty = repeat(alloc, 0, 1, Part::Row(Vec::new(alloc))).expect(&rt, "memory for the body");
     expect_limits(&rt, alloc, empty, 0, false);
-    let call = shape(alloc, 0).expect(&rt, "memory for a row");
+    let call = shapes(alloc, &[0]).expect(&rt, "memory for a row");
     let some = either(alloc, Part::Row(Vec::new(alloc)), call).expect(&rt, "memory for branches");
     let some = repeat(alloc, 0, 1, some).expect(&rt, "memory for the body");
     expect_limits(&rt, alloc, some, 1, true);
@@ -201,14 +201,10 @@ fn limits_repeats(rt: HostRuntime) {
 
 #[test]
 fn counts_nested_repeats(rt: HostRuntime) {
-    let rows: &[(u16, Ends)] = &[
-        (1, (&[(0, 1023)], None)),
-        (2, (&[(0, 1023)], Some(0))),
-        (16, (&[(0, 1023)], Some(0))),
-    ];
-    for (levels, ends) in rows {
-        let body = nested(rt.alloc(), *levels, 1, 1023).expect(&rt, "memory for the body");
-        expect_past(&rt, straight(rt.alloc(), ends.0, body, 1), ends);
+    for (levels, past) in [(1, None), (2, Some(0)), (16, Some(0))] {
+        let body = nested(rt.alloc(), levels, 1, 1023).expect(&rt, "memory for the body");
+        let recipe = straight(rt.alloc(), &[(0, 0x3FF)], body, 1);
+        expect_past(&rt, recipe, past, &levels);
     }
 }
 
