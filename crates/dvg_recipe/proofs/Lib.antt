@@ -12,3 +12,4 @@ pub mod Doing
 pub mod Members
 pub mod Leads
 pub mod Onward
+pub mod Longest

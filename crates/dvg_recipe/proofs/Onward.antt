@@ -2,7 +2,7 @@
 use Rattle.std.proofs.Common.{Box, Global, Vec, ◌-◌}
 use Rattle.dvg_recipe.proofs.Common.{◌≡◌, ◌⊎◌, ◌≤◌, ◌<◌, ◌+◌, ℕ, zero, suc, List, [], ◌∷◌, length, take, get_or, take-suc, take_all, refl, sym, subst, ⊎_elim, arith, Contains, Contains-append_cases}
 use Rattle.dvg_check.proofs.Common.{Window, Entry, Item, ◌≢◌}
-use Rattle.dvg_recipe.specs.Limits.{PartFits, RowFits, JumpsFit, MOST_LEVELS}
+use Rattle.dvg_recipe.specs.Limits.{PartFits, RowFits, JumpsFit, MOST_LEVELS, MOST_NESTED}
 use Rattle.dvg_recipe.specs.Recipes.{Part, Row, Then', Either', Repeat', Piece, Jump, Area, AddsRow, AddsJump, Spells, SpellsJumps, Times, BeginsAt}
 use Rattle.dvg_recipe.specs.Private.Hulls.{Hull, AreUnder, LeadOn}
 use Rattle.dvg_recipe.specs.Private.Judging.{Adds, Both, Turns, IsTaken, IsJump, IsFront, IsGoodFront, Carries, IsWithin, IsFirst, AreListStarts, IsCounted}
@@ -15,16 +15,16 @@ pub within_as : (part other : Part) → part ≡ other → IsWithin part → IsW
 within_as part other is h = subst IsWithin is h
 
 pub within_then : (p : Box (Unit {0}) Global) (a : Part) (q : Box (Unit {0}) Global) (b : Part) → IsWithin (Then' p a q b) → IsWithin a × IsWithin b
-within_then p a q b (levels, h) = ((levels - 1, h.1), (levels - 1, h.2))
+within_then p a q b (levels, nested, h) = ((levels - 1, nested, h.1), (levels - 1, nested, h.2))
 
 pub within_either : (p : Box (Unit {0}) Global) (a : Part) (q : Box (Unit {0}) Global) (b : Part) → IsWithin (Either' p a q b) → IsWithin a × IsWithin b
-within_either p a q b (levels, h) = ((levels - 1, h.1), (levels - 1, h.2))
+within_either p a q b (levels, nested, h) = ((levels - 1, nested, h.1), (levels - 1, nested, h.2))
 
 pub within_repeat : (least most : ℕ) (p : Box (Unit {0}) Global) (body : Part) → IsWithin (Repeat' least most p body) → (least ≤ most) × IsWithin body
-within_repeat least most p body (levels, h) = (h.1, (levels - 1, h.4))
+within_repeat least most p body (levels, nested, h) = (h.2, (levels - 1, nested - 1, h.6))
 
 pub within_row : (row : Vec Piece Global) → IsWithin (Row row) → RowFits row.items
-within_row row (levels, h) = h
+within_row row (levels, nested, h) = h
 
 module _ (w : Window) (list : List Entry) (budget : ℕ) where
   pub part_as : (part other : Part) (xs ys : List Hull) → part ≡ other → Carries w list budget (Spells part) xs ys → Carries w list budget (Spells other) xs ys
@@ -113,7 +113,7 @@ counts_next here i n d words depth more deeper is lt le deep new old h there =
 
 -- ---- the parts of a recipe
 
-pub jumps_within : (jumps : List Jump) (word n m : ℕ) → JumpsFit jumps word n m → (jump : Jump) → Contains jumps jump → PartFits MOST_LEVELS jump.body
+pub jumps_within : (jumps : List Jump) (word n m : ℕ) → JumpsFit jumps word n m → (jump : Jump) → Contains jumps jump → PartFits MOST_LEVELS MOST_NESTED jump.body
 jumps_within [] word n m h jump (k, lt, is) = absurd (omega (arith, lt))
-jumps_within (first ∷ jumps) word n m (k, fits, numbered, rest) jump (zero, lt, is) = subst (λ (j : Jump). PartFits MOST_LEVELS j.body) is fits.body
+jumps_within (first ∷ jumps) word n m (k, fits, numbered, rest) jump (zero, lt, is) = subst (λ (j : Jump). PartFits MOST_LEVELS MOST_NESTED j.body) is fits.body
 jumps_within (first ∷ jumps) word n m (k, fits, numbered, rest) jump (suc i, lt, is) = jumps_within jumps (suc first.area.last) k m rest jump (i, omega (arith, lt), is)

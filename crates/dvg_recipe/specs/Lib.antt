@@ -1,4 +1,5 @@
 pub mod Recipes
 pub mod Limits
+pub mod Lengths
 pub mod Private
 pub mod Means

@@ -9,7 +9,7 @@ use Rattle.dvg_words.specs.declared.instruction.Cell.TheVariants.{Holds}
 use Rattle.dvg_words.specs.declared.map.TheConstants.{ADDRESS_END, RAM_WORDS}
 use Rattle.dvg_words.specs.Decoding.{cell_of_words}
 use Rattle.dvg_recipe.specs.Recipes.{Recipe, Area, Span, DrawRange, Piece, PieceKind, Place, Call, Draw, Fixed, Part, Row, Then', Either', Repeat', Jump}
-pub use Rattle.dvg_recipe.specs.declared.limits.TheConstants.{MOST_LISTS, MOST_PIECES, MOST_TURNS, MOST_LEVELS}
+pub use Rattle.dvg_recipe.specs.declared.limits.TheConstants.{MOST_LISTS, MOST_PIECES, MOST_TURNS, MOST_LEVELS, MOST_NESTED}
 
 -- ---- pieces
 
@@ -64,12 +64,22 @@ PieceFits (Fixed first second) = IsStraight (cell_of_words Board (Some first) (S
 pub record RowFits (row : List Piece) : Type 0 where
   pub each : (piece : Piece) → Contains row piece → PieceFits piece.kind
 
--- each piece and each repeat is within its limits, and there are at most so many levels above a row (profile)
-abbrev pub PartFits : ℕ → Part → Type 0
-PartFits levels (Row row) = RowFits row.items
-PartFits levels (Then' p a q b) = (0 < levels) × PartFits (levels - 1) a × PartFits (levels - 1) b
-PartFits levels (Either' p a q b) = (0 < levels) × PartFits (levels - 1) a × PartFits (levels - 1) b
-PartFits levels (Repeat' least most p body) = (0 < levels) × (least ≤ most) × (0 < most) × (most ≤ MOST_TURNS) × PartFits (levels - 1) body
+-- the part has a piece
+abbrev pub HasPiece : Part → Type 0
+HasPiece (Row row) = 0 < length row.items
+HasPiece (Then' p a q b) = HasPiece a ⊎ HasPiece b
+HasPiece (Either' p a q b) = HasPiece a ⊎ HasPiece b
+HasPiece (Repeat' least most p body) = HasPiece body
+
+-- each piece is within its limits, there are at most so many levels above a row, and at most so many repeats one in another, each of
+-- which has turns that are few, and a piece to repeat (profile)
+abbrev pub PartFits : ℕ → ℕ → Part → Type 0
+PartFits levels nested (Row row) = RowFits row.items
+PartFits levels nested (Then' p a q b) = (0 < levels) × PartFits (levels - 1) nested a × PartFits (levels - 1) nested b
+PartFits levels nested (Either' p a q b) = (0 < levels) × PartFits (levels - 1) nested a × PartFits (levels - 1) nested b
+PartFits levels nested (Repeat' least most p body) =
+    (0 < levels) × (0 < nested) × (least ≤ most) × (0 < most) × (most ≤ MOST_TURNS) × HasPiece body
+    × PartFits (levels - 1) (nested - 1) body
 
 -- the pieces are numbered from a number on, up to another
 abbrev pub RowNumbered : List Piece → ℕ → ℕ → Type 0
@@ -101,7 +111,7 @@ pub record JumpFits (jump : Jump) (word number : ℕ) : Type 0 where
   pub area : AreaFits word jump.area
   pub numbered : jump.number ≡ number
   pub few : number < MOST_PIECES
-  pub body : PartFits MOST_LEVELS jump.body
+  pub body : PartFits MOST_LEVELS MOST_NESTED jump.body
 
 -- each jump's area stands behind the one before, and its pieces are numbered behind those before; the last is the number behind them
 abbrev pub JumpsFit : List Jump → ℕ → ℕ → ℕ → Type 0
@@ -115,7 +125,7 @@ pub record IsRecipe (recipe : Recipe) : Type 0 where
   pub few : length recipe.lists ≤ MOST_LISTS
   pub word : ℕ
   pub lists : AreasFit recipe.lists 0 word
-  pub body : PartFits MOST_LEVELS recipe.body
+  pub body : PartFits MOST_LEVELS MOST_NESTED recipe.body
   pub number : ℕ
   pub numbered : Numbered recipe.body 0 number
   pub jumps : JumpsFit recipe.jumps word number recipe.halt

@@ -11,6 +11,9 @@ mod hull;
 mod hulls;
 mod indices;
 mod judge;
+#[cfg(test)]
+mod length_tests;
+mod lengths;
 mod limits;
 mod piece;
 mod recipe;
@@ -21,6 +24,7 @@ mod tests;
 mod tried;
 
 pub use belonging::{Leaving, NotMember, belongs};
-pub use limits::{MOST_LEVELS, MOST_LISTS, MOST_PIECES, MOST_TURNS};
+pub use lengths::too_long;
+pub use limits::{MOST_LEVELS, MOST_LISTS, MOST_NESTED, MOST_PIECES, MOST_TURNS};
 pub use piece::{DrawRange, Piece, PieceKind, PlaceRange, Span};
 pub use recipe::{Area, Jump, Part, Recipe};

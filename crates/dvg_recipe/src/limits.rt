@@ -4,7 +4,7 @@ ghost use Rattle.std.specs.Prelude.{◌≡◌, ◌↔◌, ◌≤◌, ◌<◌, �
 ghost use Rattle.dvg_words.specs.declared.map.TheConstants.{ADDRESS_END};
 ghost use Rattle.dvg_words.specs.declared.machine.Machine.TheVariants.{Board};
 ghost use Rattle.dvg_words.specs.Decoding.{cell_of_words};
-ghost use Rattle.dvg_recipe.specs.Limits.{IsSpanBetween, IsSvecSize, SizesFit, LscaleFits, DrawRangeFits, IsStraight, AreAddresses, PieceFits, RowFits, PartFits, RowNumbered, Numbered, AreaFits, AreasFit, JumpFits, JumpsFit, IsRecipe};
+ghost use Rattle.dvg_recipe.specs.Limits.{IsSpanBetween, IsSvecSize, SizesFit, LscaleFits, DrawRangeFits, IsStraight, AreAddresses, PieceFits, RowFits, HasPiece, PartFits, RowNumbered, Numbered, AreaFits, AreasFit, JumpFits, JumpsFit, IsRecipe};
 ghost use Rattle.dvg_recipe.specs.Recipes.{Piece, Place};
 
 use crate::piece::{DrawRange, Piece, PieceKind, PlaceRange, Span};
@@ -23,6 +23,9 @@ pub const MOST_TURNS: u16 = 1023;
 
 /// The most levels of a part above a row (profile). 16 blocks, one in another, with 4,096 lines in all have fewer in balanced pairs.
 pub const MOST_LEVELS: u16 = 256;
+
+/// The most repeats of a recipe, one in another (profile).
+pub const MOST_NESTED: u16 = 16;
 
 fn is_span_between(range: Span, low: i16, high: i16) -> bool
     ensures { IsTrue result ↔ IsSpanBetween low high range }
@@ -119,24 +122,41 @@ fn row_fits(row: &[Piece]) -> bool
     true
 }
 
-/// Whether each piece and each repeat of a part is within its limits, with at most so many levels above a row.
-pub fn part_fits(part: &Part, levels: u16) -> bool
-    ensures { IsTrue result ↔ PartFits levels part.now }
+/// Whether a part has a piece.
+fn has_piece(part: &Part) -> bool
+    ensures { IsTrue result ↔ HasPiece part.now }
+{
+    match part {
+        Part::Row(row) => !row.is_empty(),
+        Part::Then(first, second) => has_piece(first) || has_piece(second),
+        Part::Either(one, other) => has_piece(one) || has_piece(other),
+        Part::Repeat { body, .. } => has_piece(body),
+    }
+}
+
+/// Whether each piece and each repeat of a part is within its limits, with at most so many levels above a row, and at most so many
+/// repeats one in another.
+pub fn part_fits(part: &Part, levels: u16, nested: u16) -> bool
+    ensures { IsTrue result ↔ PartFits levels nested part.now }
 {
     match part {
         Part::Row(row) => row_fits(row),
         Part::Then(first, second) => {
-            0 < levels && part_fits(first, levels - 1) && part_fits(second, levels - 1)
+            0 < levels
+                && part_fits(first, levels - 1, nested)
+                && part_fits(second, levels - 1, nested)
         }
         Part::Either(one, other) => {
-            0 < levels && part_fits(one, levels - 1) && part_fits(other, levels - 1)
+            0 < levels && part_fits(one, levels - 1, nested) && part_fits(other, levels - 1, nested)
         }
         Part::Repeat { least, most, body } => {
             0 < levels
+                && 0 < nested
                 && *least <= *most
                 && 0 < *most
                 && *most <= MOST_TURNS
-                && part_fits(body, levels - 1)
+                && has_piece(body)
+                && part_fits(body, levels - 1, nested - 1)
         }
     }
 }
@@ -204,7 +224,7 @@ fn jump_fits(jump: &Jump, word: u16, number: u16) -> bool
     area_fits(word, &jump.area)
         && jump.number == number
         && number < MOST_PIECES
-        && part_fits(&jump.body, MOST_LEVELS)
+        && part_fits(&jump.body, MOST_LEVELS, MOST_NESTED)
 }
 
 /// The number behind those of jumps, if they go up from this one, and each area stands behind the one before, the first behind a word
@@ -234,7 +254,7 @@ pub fn is_recipe(lists: &[Area], body: &Part, jumps: &[Jump], halt: u16) -> bool
     if lists.is_empty()
         || lists.len() > MOST_LISTS
         || halt >= MOST_PIECES
-        || !part_fits(body, MOST_LEVELS)
+        || !part_fits(body, MOST_LEVELS, MOST_NESTED)
     {
         return false;
     }

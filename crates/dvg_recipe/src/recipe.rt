@@ -2,7 +2,7 @@
 
 ghost use Rattle.std.specs.Prelude.{◌≡◌, Contains, IfSome, IfNone};
 ghost use Rattle.dvg_recipe.specs.declared.recipe.Jump.{Jump};
-ghost use Rattle.dvg_recipe.specs.Limits.{IsRecipe, PartFits, MOST_LEVELS};
+ghost use Rattle.dvg_recipe.specs.Limits.{IsRecipe, PartFits, MOST_LEVELS, MOST_NESTED};
 
 use crate::limits::is_recipe;
 use crate::piece::Piece;
@@ -95,7 +95,7 @@ impl Recipe {
     /// What stands in a list up to the first jump.
     pub fn body(&self) -> &Part
         ensures value { result.now ≡ self.now.body }
-        ensures fits { PartFits MOST_LEVELS self.now.body }
+        ensures fits { PartFits MOST_LEVELS MOST_NESTED self.now.body }
     {
         &self.body
     }
@@ -103,7 +103,7 @@ impl Recipe {
     /// The jumps, with what stands behind each.
     pub fn jumps(&self) -> &[Jump]
         ensures value { result.now ≡ self.now.jumps }
-        ensures fits { (jump : Jump) → Contains self.now.jumps jump → PartFits MOST_LEVELS jump.body }
+        ensures fits { (jump : Jump) → Contains self.now.jumps jump → PartFits MOST_LEVELS MOST_NESTED jump.body }
     {
         &self.jumps
     }

@@ -9,10 +9,10 @@ use std::fmt::Debug;
 use std::process::Abort;
 
 /// Words at a word address.
-type Words<'a> = (usize, &'a [u16]);
+pub type Words<'a> = (usize, &'a [u16]);
 
 /// A frame's number of words, those of its words that are not 0, and where it leaves the recipe, with the pieces that could stand there.
-type Row<'a> = (usize, &'a [Words<'a>], Option<(u16, &'a [u16])>);
+pub type Row<'a> = (usize, &'a [Words<'a>], Option<(u16, &'a [u16])>);
 
 const ROWS: &[Row] = &[
     (
@@ -167,34 +167,34 @@ fn frame_bytes(parts: &[Words]) -> [u8; 2048] {
 }
 
 /// Stops the test unless two values are the same, and tells at which row they are not.
-fn expect_same<T: PartialEq + Debug, P: Debug>(rt: &impl Abort, got: &T, want: &T, at: &P) {
+pub fn expect_same<T: PartialEq + Debug, P: Debug>(rt: &impl Abort, got: &T, want: &T, at: &P) {
     assert_eq!(rt; got, want, "at {at:?}");
 }
 
-fn span(low: i16, high: i16) -> Span {
+pub fn span(low: i16, high: i16) -> Span {
     Span { low, high }
 }
 
-fn row(alloc: Global, number: u16, kind: PieceKind) -> Result<Part, AllocError> {
+pub fn row(alloc: Global, number: u16, kind: PieceKind) -> Result<Part, AllocError> {
     let mut row = Vec::new(alloc);
     row.push(Piece { number, kind })?;
     Ok(Part::Row(row))
 }
 
-fn pair(alloc: Global, first: Part, second: Part) -> Result<Part, AllocError> {
+pub fn pair(alloc: Global, first: Part, second: Part) -> Result<Part, AllocError> {
     Ok(Part::Then(Box::new(alloc, first)?, Box::new(alloc, second)?))
 }
 
-fn either(alloc: Global, one: Part, other: Part) -> Result<Part, AllocError> {
+pub fn either(alloc: Global, one: Part, other: Part) -> Result<Part, AllocError> {
     Ok(Part::Either(Box::new(alloc, one)?, Box::new(alloc, other)?))
 }
 
-fn repeat(alloc: Global, least: u16, most: u16, body: Part) -> Result<Part, AllocError> {
+pub fn repeat(alloc: Global, least: u16, most: u16, body: Part) -> Result<Part, AllocError> {
     let body = Box::new(alloc, body)?;
     Ok(Part::Repeat { least, most, body })
 }
 
-fn place() -> PieceKind {
+pub fn place() -> PieceKind {
     let mut scales = [false; 16];
     scales[0] = true;
     scales[2] = true;
@@ -205,11 +205,11 @@ fn place() -> PieceKind {
     })
 }
 
-fn call(alloc: Global, targets: &[u16]) -> Result<PieceKind, AllocError> {
+pub fn call(alloc: Global, targets: &[u16]) -> Result<PieceKind, AllocError> {
     Ok(PieceKind::Call(Vec::from_slice(alloc, targets)?))
 }
 
-fn draw(format: Format, lscale: u8, sizes: (Span, Span), bright: Span) -> PieceKind {
+pub fn draw(format: Format, lscale: u8, sizes: (Span, Span), bright: Span) -> PieceKind {
     PieceKind::Draw(DrawRange {
         format,
         lscale,
@@ -219,7 +219,7 @@ fn draw(format: Format, lscale: u8, sizes: (Span, Span), bright: Span) -> PieceK
     })
 }
 
-fn fixed(first: u16, second: u16) -> PieceKind {
+pub fn fixed(first: u16, second: u16) -> PieceKind {
     PieceKind::Fixed { first, second }
 }
 
@@ -273,7 +273,7 @@ fn recipe(alloc: Global, second: u16) -> Result<Option<Recipe>, AllocError> {
 }
 
 /// Stops the test unless each frame belongs to the recipe, or leaves it, as its row says.
-fn expect_rows(rt: &impl Abort, alloc: Global, recipe: &Recipe, rows: &[Row]) {
+pub fn expect_rows(rt: &impl Abort, alloc: Global, recipe: &Recipe, rows: &[Row]) {
     for (words, parts, leaves) in rows {
         let bytes = frame_bytes(parts);
         let frame = FrameImage::from_bytes(&bytes[..2 * (*words % 1025)]);

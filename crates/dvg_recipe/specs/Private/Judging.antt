@@ -60,7 +60,7 @@ IfFine old new T = new ≡ None → (old ≡ None) × T
 
 -- the part is one of a recipe's
 abbrev pub IsWithin : Part → Type 0
-IsWithin part = (levels : ℕ) × PartFits levels part
+IsWithin part = (levels nested : ℕ) × PartFits levels nested part
 
 -- so is that of each of the jumps
 pub record AreWithin (jumps : List Jump) : Type 0 where
