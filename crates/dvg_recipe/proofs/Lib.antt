@@ -5,3 +5,9 @@ pub mod Turns
 pub mod Fronts
 pub mod Frames
 pub mod Fitting
+pub mod Past
+pub mod Judging
+pub mod Sounds
+pub mod Doing
+pub mod Members
+pub mod Leads

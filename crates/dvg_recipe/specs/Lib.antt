@@ -1,3 +1,4 @@
 pub mod Recipes
 pub mod Limits
 pub mod Private
+pub mod Means

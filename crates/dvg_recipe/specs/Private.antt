@@ -2,3 +2,5 @@
 pub mod Indices
 pub mod FrameItems
 pub mod Belonging
+pub mod Hulls
+pub mod Judging

@@ -5,11 +5,16 @@
 #![tactic(auto)]
 
 mod belonging;
+mod changes;
 mod frame_items;
+mod hull;
+mod hulls;
 mod indices;
+mod judge;
 mod limits;
 mod piece;
 mod recipe;
+mod rectangles;
 mod takes;
 #[cfg(test)]
 mod tests;

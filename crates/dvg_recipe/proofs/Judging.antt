@@ -1,0 +1,176 @@
+-- What leads from good fronts of frames to good fronts.
+use Rattle.dvg_recipe.proofs.Common.{◌≡◌, ◌⊎◌, ◌≤◌, ◌<◌, ◌+◌, ℕ, zero, suc, List, [], ◌∷◌, ◌++◌, length, take, get_or, take-suc, take_all, Some, refl, sym, subst, inl, inr, ⊎_elim, arith, nat_tests, cases_lt, Contains, LeadsTo, next_address}
+use Rattle.dvg_check.proofs.Common.{Window, Entry, Known, Item, Instr, Rtsl, Jmpl, Holds, Cell, FrameKeeps, FramePlaceKeeps, CellKeeps, IsForward, frame_word, frame_context, Context, seen_at, Frame, ◌≢◌}
+unfoldable use Rattle.dvg_check.proofs.Common.{cell_at}
+use Rattle.dvg_items.specs.Known.{known_before}
+use Rattle.dvg_check.specs.declared.fault.FrameWhy.TheVariants as frame
+use Rattle.dvg_check.specs.declared.fault.FrameWhy.{FrameWhy}
+use Rattle.dvg_items.specs.declared.seen.Seen.{Seen}
+use Rattle.dvg_words.specs.declared.machine.Machine.TheVariants.{Board}
+use Rattle.dvg_recipe.specs.Recipes.{Part, Row, Then', Either', Repeat', Piece, Jump, Area, Takes, AddsPiece, AddsRow, AddsJump, Spells, SpellsJumps, Times, BeginsAt}
+use Rattle.dvg_recipe.specs.Private.Hulls.{Hull, Covers, AreUnder, HasFormat, KeepsOthers, GoesOn, LeadOn}
+use Rattle.dvg_recipe.specs.Private.Judging.{Adds, Both, Turns, IsTaken, IsJump, IsFront, Extends, IsGoodFront, Carries}
+use Rattle.dvg_recipe.proofs.Past.{format_there}
+
+-- ---- rules
+
+kept_all : (w : Window) (budget : ℕ) (v : Seen) → v.item.instr ≢ Rtsl → IsForward v.item.at v.item.instr → KeepsOthers w budget v → (why : FrameWhy) → FrameKeeps w budget v why
+kept_all w budget v a b h frame.Unmapped = tt
+kept_all w budget v a b h frame.Odd = tt
+kept_all w budget v a b h frame.ReturnInFrame = a
+kept_all w budget v a b h frame.BackJump = b
+kept_all w budget v a b h frame.BeamUnknown = h.place
+kept_all w budget v a b h frame.ScaleUnknown = h.scale
+kept_all w budget v a b h frame.OffScreen = h.shown
+kept_all w budget v a b h frame.NoEntry = h.named
+kept_all w budget v a b h frame.Budget = h.few
+
+no_return : (i : Item) (p : ℕ) → next_address Frame i ≡ Some p → i.instr ≢ Rtsl
+no_return i p next = grind (arith, nat_tests)
+
+forward : (i : Item) (p : ℕ) → next_address Frame i ≡ Some p → IsForward i.at i.instr
+forward i p next = grind (arith, nat_tests)
+
+-- ---- fronts
+
+pub front_item : (words : List ℕ) (before after : List Item) (i : Item) → after ≡ i ∷ before → IsFront words after → IsFront words before
+front_item words before after i is f = let g = subst (IsFront words) is f in (i.at, g.1.0)
+
+pub extends_same : Extends (λ before after. after ≡ before)
+extends_same = record { front = λ words before after is f. subst (IsFront words) is f }
+
+pub extends_both : (R S : Adds) → Extends R → Extends S → Extends (Both R S)
+extends_both R S h k = record { front = λ words before after b f. h.front words before b.0 b.1 (k.front words b.0 after b.2 f) }
+
+pub extends_piece : (piece : Piece) → Extends (AddsPiece piece)
+extends_piece piece = record { front = λ words before after a f. front_item words before after a.item a.one_more f }
+
+pub extends_jump : (to : ℕ) → Extends (AddsJump to)
+extends_jump to = record { front = λ words before after a f. front_item words before after a.item a.one_more f }
+
+pub extends_row : (row : List Piece) → Extends (AddsRow row)
+extends_row [] = extends_same
+extends_row (piece ∷ row) = extends_both (AddsPiece piece) (AddsRow row) (extends_piece piece) (extends_row row)
+
+pub extends_times : (R : Adds) → Extends R → (n : ℕ) → Extends (Times n R)
+extends_times R h zero = extends_same
+extends_times R h (suc n) = extends_both R (Times n R) h (extends_times R h n)
+
+pub extends_part : (part : Part) → Extends (Spells part)
+extends_part (Row row) = extends_row row.items
+extends_part (Then' p a q b) = extends_both (Spells a) (Spells b) (extends_part a) (extends_part b)
+extends_part (Either' p a q b) = record { front = λ words before after s f. ⊎_elim (λ x. (extends_part a).front words before after x f) (λ y. (extends_part b).front words before after y f) s }
+extends_part (Repeat' least most p body) = record { front = λ words before after t f. (extends_times (Spells body) (extends_part body) t.0).front words before after t.3 f }
+
+pub extends_jumps : (jumps : List Jump) → Extends (SpellsJumps jumps)
+extends_jumps [] = extends_same
+extends_jumps (jump ∷ jumps) = record {
+  front = λ words before after s f.
+      (extends_jump jump.area.first).front words before s.0 s.2 ((extends_part jump.body).front words s.0 s.1 s.3 ((extends_jumps jumps).front words s.1 after s.4 f));
+}
+
+module _ (w : Window) (list : List Entry) (budget : ℕ) where
+  -- ---- one item
+
+  pub good_item : (P : Item → Type 0) (here next : List Hull) (words : List ℕ) (before : List Item) (i : Item) → LeadOn w list budget P here next → P i → IsFront words (i ∷ before) → IsGoodFront w list budget here words before → IsGoodFront w list budget next words (i ∷ before)
+  good_item P here next words before i on takes f good =
+      let c = frame_context Board list in
+      let g = on.each (known_before c before) i good.covered takes (format_there (frame_word Board words) i.at i.format i.instr f.1.1) in
+      let rules : (why : FrameWhy) → FrameKeeps w budget (seen_at c before i) why = kept_all w budget (seen_at c before i) (no_return i f.0 f.1.2) (forward i f.0 f.1.2) g.keeps in
+      record {
+        covered = g.covered;
+        kept = (good.kept, λ why. subst (λ (cell : Cell). CellKeeps frame.Unmapped frame.Odd (λ j. FrameKeeps w budget (seen_at c before j)) i.at cell why) (sym f.1.1) (rules why));
+      }
+
+  -- ---- one after the other
+
+  pub carries_same : (xs : List Hull) → Carries w list budget (λ before after. after ≡ before) xs xs
+  carries_same xs = record { each = λ words before after is f good. subst (IsGoodFront w list budget xs words) (sym is) good }
+
+  pub carries_both : (R S : Adds) (xs ys zs : List Hull) → Extends S → Carries w list budget R xs ys → Carries w list budget S ys zs → Carries w list budget (Both R S) xs zs
+  carries_both R S xs ys zs e h k = record { each = λ words before after b f good. k.each words b.0 after b.2 f (h.each words before b.0 b.1 (e.front words b.0 after b.2 f) good) }
+
+  good_under : (ys zs : List Hull) (words : List ℕ) (items : List Item) → AreUnder ys zs → IsGoodFront w list budget ys words items → IsGoodFront w list budget zs words items
+  good_under ys zs words items u good = record { covered = u.each _ good.covered; kept = good.kept }
+
+  pub carries_under : (R : Adds) (xs ys zs : List Hull) → AreUnder ys zs → Carries w list budget R xs ys → Carries w list budget R xs zs
+  carries_under R xs ys zs u h = record { each = λ words before after r f good. good_under ys zs words after u (h.each words before after r f good) }
+
+  pub carries_from : (R : Adds) (xs ys zs : List Hull) → AreUnder xs ys → Carries w list budget R ys zs → Carries w list budget R xs zs
+  carries_from R xs ys zs u h = record { each = λ words before after r f good. h.each words before after r f (good_under xs ys words before u good) }
+
+  pub carries_either : (R S : Adds) (xs ys zs : List Hull) → Carries w list budget R xs zs → Carries w list budget S xs zs → Carries w list budget (λ before after. R before after ⊎ S before after) xs zs
+  carries_either R S xs ys zs h k = record { each = λ words before after s f good. ⊎_elim (λ r. h.each words before after r f good) (λ t. k.each words before after t f good) s }
+
+  pub carries_as : (R S : Adds) (xs ys : List Hull) → ((before after : List Item) → S before after → R before after) → Carries w list budget R xs ys → Carries w list budget S xs ys
+  carries_as R S xs ys g h = record { each = λ words before after s f good. h.each words before after (g before after s) f good }
+
+  -- ---- rows
+
+  pub carries_piece : (piece : Piece) (xs ys : List Hull) → LeadOn w list budget (IsTaken piece.kind) xs ys → Carries w list budget (AddsPiece piece) xs ys
+  carries_piece piece xs ys on = record { each = λ words before after a f good. subst (IsGoodFront w list budget ys words) (sym a.one_more) (good_item (IsTaken piece.kind) xs ys words before a.item on a.taken (subst (IsFront words) a.one_more f) good) }
+
+  pub carries_jump : (to : ℕ) (xs ys : List Hull) → LeadOn w list budget IsJump xs ys → Carries w list budget (AddsJump to) xs ys
+  carries_jump to xs ys on = record { each = λ words before after a f good. subst (IsGoodFront w list budget ys words) (sym a.one_more) (good_item IsJump xs ys words before a.item on (to, a.jumps) (subst (IsFront words) a.one_more f) good) }
+
+  row_split : (row : List Piece) (piece : Piece) (before after : List Item) → AddsRow (row ++ piece ∷ []) before after → Both (AddsRow row) (AddsPiece piece) before after
+  row_split [] piece before after (k, adds, same) = (before, refl, subst (λ l. AddsPiece piece before l) (sym same) adds)
+  row_split (first ∷ row) piece before after (m, adds, rest) = let r = row_split row piece m after rest in (r.0, (m, adds, r.1), r.2)
+
+  pub carries_row_next : (row : List Piece) (i n : ℕ) (d : Piece) (xs ys zs : List Hull) → n ≡ suc i → i < length row → Carries w list budget (AddsRow (take i row)) xs ys → Carries w list budget (AddsPiece (get_or row i d)) ys zs → Carries w list budget (AddsRow (take n row)) xs zs
+  carries_row_next row i n d xs ys zs is lt h k =
+      let more = carries_as (Both (AddsRow (take i row)) (AddsPiece (get_or row i d))) (AddsRow (take i row ++ get_or row i d ∷ [])) xs zs (row_split (take i row) (get_or row i d)) (carries_both _ _ xs ys zs (extends_piece (get_or row i d)) h k) in
+      subst (λ m. Carries w list budget (AddsRow (take m row)) xs zs) (sym is) (subst (λ (l : List Piece). Carries w list budget (AddsRow l) xs zs) (sym (take-suc row i d lt)) more)
+
+  pub carries_row_whole : (row : List Piece) (xs ys : List Hull) (i : ℕ) → length row ≤ i → Carries w list budget (AddsRow (take i row)) xs ys → Carries w list budget (AddsRow row) xs ys
+  carries_row_whole row xs ys i le h = subst (λ (l : List Piece). Carries w list budget (AddsRow l) xs ys) (take_all i row le) h
+
+  -- ---- jumps
+
+  abbrev pub JumpPart : Jump → Adds
+  JumpPart jump = Both (AddsJump jump.area.first) (Spells jump.body)
+
+  jumps_split : (jumps : List Jump) (jump : Jump) (before after : List Item) → SpellsJumps (jumps ++ jump ∷ []) before after → Both (SpellsJumps jumps) (JumpPart jump) before after
+  jumps_split [] jump before after (there, between, adds, spelled, same) = (before, refl, (there, adds, subst (λ l. Spells jump.body there l) (sym same) spelled))
+  jumps_split (first ∷ jumps) jump before after (there, between, adds, spelled, rest) = let r = jumps_split jumps jump between after rest in (r.0, (there, between, adds, spelled, r.1), r.2)
+
+  pub carries_jumps_next : (jumps : List Jump) (i n : ℕ) (d : Jump) (xs ys zs all : List Hull) → n ≡ suc i → i < length jumps → Carries w list budget (SpellsJumps (take i jumps)) xs ys → Carries w list budget (AddsJump (get_or jumps i d).area.first) ys zs → Carries w list budget (Spells (get_or jumps i d).body) zs all → Carries w list budget (SpellsJumps (take n jumps)) xs all
+  carries_jumps_next jumps i n d xs ys zs all is lt h k l =
+      let jump = get_or jumps i d in
+      let part = carries_both (AddsJump jump.area.first) (Spells jump.body) ys zs all (extends_part jump.body) k l in
+      let more = carries_as (Both (SpellsJumps (take i jumps)) (JumpPart jump)) (SpellsJumps (take i jumps ++ jump ∷ [])) xs all (jumps_split (take i jumps) jump) (carries_both _ (JumpPart jump) xs ys all (extends_both _ _ (extends_jump jump.area.first) (extends_part jump.body)) h part) in
+      subst (λ m. Carries w list budget (SpellsJumps (take m jumps)) xs all) (sym is) (subst (λ (l : List Jump). Carries w list budget (SpellsJumps l) xs all) (sym (take-suc jumps i d lt)) more)
+
+  pub carries_jumps_whole : (jumps : List Jump) (xs ys : List Hull) (i : ℕ) → length jumps ≤ i → Carries w list budget (SpellsJumps (take i jumps)) xs ys → Carries w list budget (SpellsJumps jumps) xs ys
+  carries_jumps_whole jumps xs ys i le h = subst (λ (l : List Jump). Carries w list budget (SpellsJumps l) xs ys) (take_all i jumps le) h
+
+  -- ---- turns
+
+  module _ (R : Adds) where
+    times_last : (n : ℕ) (before after : List Item) → Times (suc n) R before after → Both (Times n R) R before after
+    times_last zero before after (k, first, same) = (before, refl, subst (λ l. R before l) (sym same) first)
+    times_last (suc n) before after (k, first, rest) = let r = times_last n k after rest in (r.0, (k, first, r.1), r.2)
+
+    pub turn_next : (n m : ℕ) (xs ys zs : List Hull) → m ≡ suc n → Extends R → Carries w list budget (Times n R) xs ys → Carries w list budget R ys zs → Carries w list budget (Times m R) xs zs
+    turn_next n m xs ys zs is e h k = subst (λ l. Carries w list budget (Times l R) xs zs) (sym is) (carries_as (Both (Times n R) R) (Times (suc n) R) xs zs (times_last n) (carries_both (Times n R) R xs ys zs e h k))
+
+    pub turns_none : (least : ℕ) (xs ys : List Hull) → 0 < least → Carries w list budget (Turns least 0 R) xs ys
+    turns_none least xs ys lt = record { each = λ words before after t f good. absurd (omega (arith, lt, t.1, t.2)) }
+
+    none : (n : ℕ) (before after : List Item) → n ≤ 0 → Times n R before after → after ≡ before
+    none zero before after le same = same
+    none (suc n) before after le t = absurd (omega (arith, le))
+
+    pub turns_first : (least : ℕ) (xs ys : List Hull) → AreUnder xs ys → Carries w list budget (Turns least 0 R) xs ys
+    turns_first least xs ys u = record { each = λ words before after t f good. subst (IsGoodFront w list budget ys words) (sym (none t.0 before after t.2 t.3)) (good_under xs ys words before u good) }
+
+    pub turns_more : (least n m : ℕ) (xs here next more : List Hull) → m ≡ suc n → Carries w list budget (Turns least n R) xs next → Carries w list budget (Times m R) xs here → AreUnder next more → AreUnder here more → Carries w list budget (Turns least m R) xs more
+    turns_more least n m xs here next more is h k u v = record {
+      each = λ words before after t f good. ⊎_elim
+          (λ less. good_under next more words after u (h.each words before after (t.0, t.1, omega (arith, is, less), t.3) f good))
+          (λ same. good_under here more words after v (k.each words before after (subst (λ l. Times l R before after) (omega (arith, same, t.2)) t.3) f good))
+          (cases_lt t.0 m);
+    }
+
+    pub turns_few : (least n m : ℕ) (xs next : List Hull) → m ≡ suc n → m < least → Carries w list budget (Turns least n R) xs next → Carries w list budget (Turns least m R) xs next
+    turns_few least n m xs next is few h = record { each = λ words before after t f good. absurd (omega (arith, few, t.1, t.2)) }

@@ -1,0 +1,150 @@
+-- What a change does to all that a hull has.
+unfoldable use Rattle.dvg_check.proofs.Common.{cell_at, instruction_of}
+use Rattle.dvg_recipe.proofs.Common.{nat_tests, ◌≡◌, ◌≤◌, ◌+◌, ℕ, List, Option, arith, refl, sym, subst, ap, ◌∙◌, Contains}
+use Rattle.dvg_check.proofs.Common.{ints, InWindow, shift, Window, Point, Entry, End, Rel, Abs, Known, Item, Effect, LitExtent, Between, Nothing, Anywhere, PlaceKnown, ScaleKnown, LitInWindow, place_past, Instr, Holds, Labs, Halt, Jsrl, Rtsl, Jmpl, Draws, Format, Short, Long, Source, nat_le, cell_of_format}
+use Rattle.dvg_cert.specs.declared.entry.End.TheVariants.{Lost as LostEnd}
+use Rattle.dvg_words.specs.declared.machine.Machine.TheVariants.{Board}
+use Rattle.dvg_items.specs.declared.known.Effect.TheVariants.{Sets, Loses, Moves}
+use Rattle.dvg_items.specs.Seen.{seen_with}
+use Rattle.dvg_items.specs.Known.{known_past}
+use Rattle.std.specs.Prelude.{max}
+use Rattle.dvg_items.proofs.Common.{clamps}
+use Rattle.dvg_items.specs.Bounds.{ITEM_REACH}
+use Rattle.dvg_items.proofs.Reached.{reached_more, reached_shift}
+use Rattle.dvg_cert.specs.declared.limits.TheConstants.{MOST_WORDS}
+use Rattle.dvg_recipe.specs.Private.Hulls.{Rectangle, Places, Lost, Within, Hull, Motion, To, Away, By, Light, Dark, Shown, Unbounded, Change, IsInRectangle, IsAmong, IsInHull, Covers, AreUnder, IsMotion, IsLight, IsChange, moved, places_past, hull_past, around, joined_places, joined, IsNearRectangle, AreNearPlaces, IsNearMotion, IsSoundHull, IsSoundChange, HasFormat, IsShown, LightsIn, HullKeeps, KeepsOthers, GoesOn, LeadOn}
+
+-- ---- rectangles
+
+shift_in : (r by : Rectangle) (p d : Point) → IsInRectangle r p → IsInRectangle by d → IsInRectangle (moved r by) (shift p d)
+shift_in r by p d h k = record { left = omega (arith, ints, h.left, k.left); right = omega (arith, ints, h.right, k.right); bottom = omega (arith, ints, h.bottom, k.bottom); top = omega (arith, ints, h.top, k.top) }
+
+in_window : (w : Window) (r : Rectangle) (p : Point) → IsShown w r → IsInRectangle r p → InWindow w p
+in_window w r p h k = record { left = omega (arith, ints, h.0.left, k.left); right = omega (arith, ints, h.1.right, k.right); bottom = omega (arith, ints, h.0.bottom, k.bottom); top = omega (arith, ints, h.1.top, k.top) }
+
+-- ---- places
+
+places_on : (m : Motion) (places : Places) (e : Effect) (place : End) → IsAmong places place → IsMotion m e → IsAmong (places_past m places) (place_past e place)
+places_on (To r) places (Sets p) place h k = k
+places_on (To r) places Loses place h k = absurd k
+places_on (To r) places (Moves d) place h k = absurd k
+places_on Away places e place h k = tt
+places_on (By d) Lost e place h k = tt
+places_on (By d) (Within r) (Sets p) place h k = absurd k
+places_on (By d) (Within r) Loses place h k = absurd k
+places_on (By d) (Within r) (Moves v) (Rel x y) h k = absurd h
+places_on (By d) (Within r) (Moves v) (Abs x y) h k = shift_in r d (record { x = x; y = y }) v h k
+places_on (By d) (Within r) (Moves v) LostEnd h k = absurd h
+
+-- ---- what is lit
+
+record IsLit (w : Window) (extent : LitExtent) (place : End) : Type 0 where
+  known : PlaceKnown extent place
+  scale : ScaleKnown extent
+  shown : LitInWindow w extent place
+
+lit_on : (w : Window) (places : Places) (light : Light) (extent : LitExtent) (place : End) → IsAmong places place → IsLight light extent → LightsIn w places light → IsLit w extent place
+lit_on w places light Nothing (Rel x y) h k l = record { known = tt; scale = tt; shown = tt }
+lit_on w places light Nothing (Abs x y) h k l = record { known = tt; scale = tt; shown = tt }
+lit_on w places light Nothing LostEnd h k l = record { known = tt; scale = tt; shown = tt }
+lit_on w places Dark (Between a b) place h k l = absurd k
+lit_on w places Dark Anywhere place h k l = absurd k
+lit_on w Lost (Shown from to) extent place h k l = absurd l
+lit_on w places (Shown from to) Anywhere place h k l = absurd k
+lit_on w (Within r) (Shown from to) (Between a b) (Rel x y) h k l = absurd h
+lit_on w (Within r) (Shown from to) (Between a b) (Abs x y) h k l =
+    let p : Point = record { x = x; y = y } in
+    record { known = grind (arith); scale = tt; shown = (in_window w (moved r from) (shift p a) l.0 (shift_in r from p a h k.0), (in_window w (moved r to) (shift p b) l.1 (shift_in r to p b h k.1), tt)) }
+lit_on w (Within r) (Shown from to) (Between a b) LostEnd h k l = absurd h
+lit_on w places Unbounded (Between a b) place h k l = absurd l
+lit_on w places Unbounded Anywhere place h k l = absurd l
+
+-- ---- hulls
+
+module _ (w : Window) (budget : ℕ) (h : Hull) (c : Change) (named : Option Entry) (k : Known) (i : Item) (inside : IsInHull h k) (is : IsChange named k.scale c i) where
+  pub keeps_others : HullKeeps w budget h c → KeepsOthers w budget (seen_with Board named k i)
+  keeps_others keeps =
+      let lit = lit_on w h.places c.light _ k.place inside.place is.light keeps.lights in
+      record { place = lit.known; scale = lit.scale; shown = lit.shown; named = is.named_one keeps.named; few = omega (arith, inside.words, is.words, keeps.few) }
+
+  pub inside_past : IsInHull (hull_past c h) (known_past Board i named k)
+  inside_past = record { scale = is.scale_after; place = places_on c.motion h.places _ k.place inside.place is.motion; words = omega (arith, inside.words, is.words); depth = omega (arith, inside.depth, is.depth) }
+
+-- ---- formats
+
+pub format_there : (get : Source) (p : ℕ) (format : Format) (i : Instr) → cell_at get p ≡ Holds format i → HasFormat format i
+unfolding cell_at instruction_of
+format_there get p Short i e = grind (arith, nat_le, nat_tests, cell_of_format)
+format_there get p Long i e = grind (arith, nat_le, nat_tests, cell_of_format)
+
+-- ---- two hulls in one
+
+around_one : (r s : Rectangle) (p : Point) → IsInRectangle r p → IsInRectangle (around r s) p
+around_one r s p h = record { left = omega (arith, ints, clamps, h.left); right = omega (arith, ints, clamps, h.right); bottom = omega (arith, ints, clamps, h.bottom); top = omega (arith, ints, clamps, h.top) }
+
+around_other : (r s : Rectangle) (p : Point) → IsInRectangle s p → IsInRectangle (around r s) p
+around_other r s p h = record { left = omega (arith, ints, clamps, h.left); right = omega (arith, ints, clamps, h.right); bottom = omega (arith, ints, clamps, h.bottom); top = omega (arith, ints, clamps, h.top) }
+
+places_one : (a b : Places) (place : End) → IsAmong a place → IsAmong (joined_places a b) place
+places_one Lost b place h = tt
+places_one (Within r) Lost place h = tt
+places_one (Within r) (Within s) (Rel x y) h = absurd h
+places_one (Within r) (Within s) (Abs x y) h = around_one r s (record { x = x; y = y }) h
+places_one (Within r) (Within s) LostEnd h = absurd h
+
+places_other : (a b : Places) (place : End) → IsAmong b place → IsAmong (joined_places a b) place
+places_other Lost b place h = tt
+places_other (Within r) Lost place h = tt
+places_other (Within r) (Within s) (Rel x y) h = absurd h
+places_other (Within r) (Within s) (Abs x y) h = around_other r s (record { x = x; y = y }) h
+places_other (Within r) (Within s) LostEnd h = absurd h
+
+pub hull_one : (a b : Hull) (k : Known) → IsInHull a k → IsInHull (joined a b) k
+hull_one a b k h = record { scale = h.scale; place = places_one a.places b.places k.place h.place; words = omega (arith, h.words); depth = omega (arith, h.depth) }
+
+pub hull_other : (a b : Hull) (k : Known) → a.scale ≡ b.scale → IsInHull b k → IsInHull (joined a b) k
+hull_other a b k same h = record { scale = h.scale ∙ sym same; place = places_other a.places b.places k.place h.place; words = omega (arith, h.words); depth = omega (arith, h.depth) }
+
+-- ---- limits
+
+more_near : (m n : ℕ) (r : Rectangle) → m ≤ n → IsNearRectangle m r → IsNearRectangle n r
+more_near m n r le h = (reached_more ITEM_REACH m n r.low le h.0, reached_more ITEM_REACH m n r.high le h.1)
+
+pub more_near_places : (m n : ℕ) (places : Places) → m ≤ n → AreNearPlaces m places → AreNearPlaces n places
+more_near_places m n Lost le h = tt
+more_near_places m n (Within r) le h = more_near m n r le h
+
+around_near : (n : ℕ) (r s : Rectangle) → IsNearRectangle n r → IsNearRectangle n s → IsNearRectangle n (around r s)
+around_near n r s h k = (
+  record { left = omega (arith, ints, clamps, h.0.left, k.0.left); right = omega (arith, ints, clamps, h.0.right, k.0.right); down = omega (arith, ints, clamps, h.0.down, k.0.down); up = omega (arith, ints, clamps, h.0.up, k.0.up) },
+  record { left = omega (arith, ints, clamps, h.1.left, k.1.left); right = omega (arith, ints, clamps, h.1.right, k.1.right); down = omega (arith, ints, clamps, h.1.down, k.1.down); up = omega (arith, ints, clamps, h.1.up, k.1.up) },
+)
+
+places_near : (n : ℕ) (a b : Places) → AreNearPlaces n a → AreNearPlaces n b → AreNearPlaces n (joined_places a b)
+places_near n Lost b h k = tt
+places_near n (Within r) Lost h k = tt
+places_near n (Within r) (Within s) h k = around_near n r s h k
+
+pub joined_sound : (a b : Hull) → IsSoundHull a → IsSoundHull b → IsSoundHull (joined a b)
+joined_sound a b h k =
+    let n : ℕ = max a.words b.words in
+    record {
+      scale = h.scale;
+      places = places_near n a.places b.places (more_near_places a.words n a.places (omega arith) h.places) (more_near_places b.words n b.places (omega arith) k.places);
+      words = omega (arith, h.words, k.words);
+      depth = omega (arith, h.depth, k.depth);
+    }
+
+moved_near : (m n all : ℕ) (r by : Rectangle) → m + n ≤ all → IsNearRectangle m r → IsNearRectangle n by → IsNearRectangle all (moved r by)
+moved_near m n all r by le h k =
+    more_near (m + n) all (moved r by) le (reached_shift ITEM_REACH m n (m + n) r.low by.low refl h.0 k.0, reached_shift ITEM_REACH m n (m + n) r.high by.high refl h.1 k.1)
+
+past_near : (m all : ℕ) (motion : Motion) (places : Places) → m + 1 ≤ all → AreNearPlaces m places → IsNearMotion motion → AreNearPlaces all (places_past motion places)
+past_near m all (To r) places le h k = more_near 1 all r (omega (arith, le)) k
+past_near m all Away places le h k = tt
+past_near m all (By d) Lost le h k = tt
+past_near m all (By d) (Within r) le h k = moved_near m 1 all r d le h k
+
+pub past_sound : (h : Hull) (c : Change) → IsSoundHull h → IsSoundChange c → c.words + h.words ≤ MOST_WORDS → IsSoundHull (hull_past c h)
+past_sound h c hull change few =
+    record { scale = change.scale; places = past_near h.words (c.words + h.words) c.motion h.places (omega (arith, change.some)) hull.places change.motion; words = few; depth = omega (arith, hull.depth, change.depth) }

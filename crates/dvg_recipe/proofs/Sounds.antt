@@ -1,0 +1,91 @@
+-- Sets of hulls.
+use Rattle.dvg_recipe.proofs.Common.{◌≡◌, ◌<◌, ◌+◌, ◌⊎◌, ◌∙◌, ℕ, suc, zero, List, [], ◌∷◌, ◌++◌, length, take, get_or, take-suc, take_all, refl, sym, subst, ap, inl, inr, ⊎_elim, arith, cases_lt, Contains, Contains-append_cases, Contains-append_left, Contains-append_right}
+use Rattle.std.proofs.lemmas.List.{length-set, get_or-set_same, get_or-set_other}
+use Rattle.std.proofs.Common.{set, ◌≤◌, slice_index_or}
+use Rattle.dvg_check.proofs.Common.{Known, ◌≢◌}
+use Rattle.dvg_recipe.specs.Private.Hulls.{Hull, Covers, AreUnder, IsInHull, AreSoundHulls, IsSoundHull, HasScaleAt, joined}
+use Rattle.dvg_recipe.proofs.Past.{hull_one, hull_other, joined_sound}
+
+pub under_same : (xs : List Hull) → AreUnder xs xs
+under_same xs = record { each = λ k h. h }
+
+pub under_on : (xs ys zs : List Hull) → AreUnder xs ys → AreUnder ys zs → AreUnder xs zs
+under_on xs ys zs h k = record { each = λ known c. k.each known (h.each known c) }
+
+pub listed_alone : (x s : Hull) → Contains (x ∷ []) s → x ≡ s
+listed_alone x s (zero, lt, is) = is
+listed_alone x s (suc k, lt, is) = absurd (omega (arith, lt))
+
+pub none_covered : (k : Known) → Covers [] k → ⊥
+none_covered k c = absurd (omega (arith, c.listed.1))
+
+-- all hulls are sound, one more with them
+pub sound_push : (xs : List Hull) (x : Hull) → AreSoundHulls xs → IsSoundHull x → AreSoundHulls (xs ++ x ∷ [])
+sound_push xs x h new = record { each = λ s there. ⊎_elim (h.each s) (λ alone. subst IsSoundHull (listed_alone x s alone) new) (Contains-append_cases xs (x ∷ []) s there) }
+
+same_or_not : (k i : ℕ) → (k ≡ i) ⊎ (k ≢ i)
+same_or_not k i = ⊎_elim (λ h. inr (λ e. omega (arith, h, e))) (λ h. ⊎_elim (λ le. inr (λ e. omega (arith, le, e))) (λ ge. inl (omega (arith, h, ge))) (cases_lt i k)) (cases_lt k i)
+
+module _ (xs : List Hull) (i : ℕ) (x : Hull) (lt : i < length xs) where
+  same_length : length (set xs i x) ≡ length xs
+  same_length = length-set xs i x
+
+  at_set : (d : Hull) → get_or (set xs i x) i d ≡ x
+  at_set d = get_or-set_same xs i x d lt
+
+  set_has : Contains (set xs i x) x
+  set_has = (i, omega (arith, lt, same_length), at_set x)
+
+  set_listed : (t : Hull) → Contains (set xs i x) t → Contains xs t ⊎ (t ≡ x)
+  set_listed t (k, less, is) =
+      ⊎_elim (λ same. inr (sym is ∙ ap (λ n. get_or (set xs i x) n t) same ∙ at_set t))
+      (λ other. inl (k, omega (arith, less, same_length), sym (get_or-set_other xs i k x t other) ∙ is)) (same_or_not k i)
+
+  pub set_sound : AreSoundHulls xs → IsSoundHull x → AreSoundHulls (set xs i x)
+  set_sound h new = record { each = λ t there. ⊎_elim (h.each t) (λ is. subst IsSoundHull (sym is) new) (set_listed t there) }
+
+  pub set_added : (h : Hull) → ((k : Known) → IsInHull h k → IsInHull x k) → AreUnder (h ∷ []) (set xs i x)
+  set_added h wider = record { each = λ k c. record { hull = x; listed = set_has; inside = wider k (subst (λ (y : Hull). IsInHull y k) (sym (listed_alone h c.hull c.listed)) c.inside) } }
+
+  pub set_kept : ((d : Hull) (k : Known) → IsInHull (get_or xs i d) k → IsInHull x k) → AreUnder xs (set xs i x)
+  set_kept wider = record { each = λ k c. kept k c.hull c.inside c.listed }
+    where
+      kept : (k : Known) (t : Hull) → IsInHull t k → Contains xs t → Covers (set xs i x) k
+      kept k t inside (n, less, is) =
+          ⊎_elim (λ same. record { hull = x; listed = set_has; inside = wider t k (subst (λ (y : Hull). IsInHull y k) (sym is ∙ ap (λ m. get_or xs m t) same) inside) })
+          (λ other. record { hull = t; listed = (n, omega (arith, less, same_length), get_or-set_other xs i n x t other ∙ is); inside = inside }) (same_or_not n i)
+
+pub push_kept : (xs : List Hull) (x : Hull) → AreUnder xs (xs ++ x ∷ [])
+push_kept xs x = record { each = λ k c. record { hull = c.hull; listed = Contains-append_left xs (x ∷ []) c.hull c.listed; inside = c.inside } }
+
+pub push_added : (xs : List Hull) (x : Hull) → AreUnder (x ∷ []) (xs ++ x ∷ [])
+push_added xs x = record { each = λ k c. record { hull = c.hull; listed = Contains-append_right xs (x ∷ []) c.hull c.listed; inside = c.inside } }
+
+-- ---- one hull after another
+
+pub under_next : (xs zs : List Hull) (i n : ℕ) (d : Hull) → n ≡ suc i → i < length xs → AreUnder (take i xs) zs → AreUnder (get_or xs i d ∷ []) zs → AreUnder (take n xs) zs
+under_next xs zs i n d is lt h new = record {
+  each = λ k c. ⊎_elim (λ old. h.each k (record { hull = c.hull; listed = old; inside = c.inside })) (λ alone. new.each k (record { hull = c.hull; listed = alone; inside = c.inside }))
+      (Contains-append_cases (take i xs) (get_or xs i d ∷ []) c.hull (subst (λ (l : List Hull). Contains l c.hull) (take-suc xs i d lt) (subst (λ m. Contains (take m xs) c.hull) is c.listed)));
+}
+
+pub under_whole : (xs zs : List Hull) (i : ℕ) → length xs ≤ i → AreUnder (take i xs) zs → AreUnder xs zs
+under_whole xs zs i le h = subst (λ (l : List Hull). AreUnder l zs) (take_all i xs le) h
+
+pub under_none : (xs zs : List Hull) → AreUnder (take 0 xs) zs
+under_none xs zs = record { each = λ k c. absurd (none_covered k c) }
+
+-- ---- a hull in place of one of its scale
+
+module _ (xs : List Hull) (i : ℕ) (x y h : Hull) (lt : i < length xs) (at : (d : Hull) → get_or xs i d ≡ y) (is : x ≡ joined y h) where
+  pub join_kept : AreUnder xs (set xs i x)
+  join_kept = set_kept xs i x lt (λ d k inside. subst (λ (z : Hull). IsInHull z k) (sym is) (hull_one y h k (subst (λ (z : Hull). IsInHull z k) (at d) inside)))
+
+  pub join_added : y.scale ≡ h.scale → AreUnder (h ∷ []) (set xs i x)
+  join_added same = set_added xs i x lt h (λ k inside. subst (λ (z : Hull). IsInHull z k) (sym is) (hull_other y h k same inside))
+
+  pub join_sound : AreSoundHulls xs → IsSoundHull h → AreSoundHulls (set xs i x)
+  join_sound all new = set_sound xs i x lt all (subst IsSoundHull (sym is) (joined_sound y h (all.each y (i, lt, at y)) new))
+
+pub scale_at : (xs ys : List Hull) (i : ℕ) (y h : Hull) → xs ≡ ys → HasScaleAt xs h.scale i y → HasScaleAt ys h.scale i y
+scale_at xs ys i y h same has = subst (λ (l : List Hull). HasScaleAt l h.scale i y) same has

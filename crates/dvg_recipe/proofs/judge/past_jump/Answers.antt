@@ -1,0 +1,30 @@
+use Rattle.dvg_recipe.proofs.Common.{◌<◌, ◌+◌, ◌∷◌, [], length, ap, arith, Contains-get_or}
+use Rattle.dvg_recipe.specs.Private.Judging.{IsJump}
+use Rattle.dvg_recipe.specs.Private.Hulls.{Change}
+use Rattle.dvg_recipe.proofs.Doing.{stills_sound, stills_are}
+use Rattle.dvg_recipe.proofs.Leads.{lead_next, lead_done}
+use Rattle.dvg_recipe.proofs.judge.past_jump.Goals as goal
+
+pub put_all-requires-clause-hull : goal.put_all-requires-clause-hull
+put_all-requires-clause-hull c =
+    let lt : c.loop-hull.hull-index < length c.args.here.now = omega (arith, c.loop-hull-test.true) in
+    c.requires.here.each _ (Contains-get_or c.args.here.now c.loop-hull.hull-index _ lt)
+
+pub put_all-requires-clause-changes : goal.put_all-requires-clause-changes
+put_all-requires-clause-changes c =
+    let lt : c.loop-hull.hull-index < length c.args.here.now = omega (arith, c.loop-hull-test.true) in
+    let h = c.requires.here.each _ (Contains-get_or c.args.here.now c.loop-hull.hull-index _ lt) in
+    stills_sound _ (c.still.result ∷ []) (ap (λ (x : Change). x ∷ []) c.still.ensures) h.scale
+
+pub loop-hull-preserved : goal.loop-hull-preserved
+loop-hull-preserved c =
+    let e = c.in_ok-put_all.ensures in
+    let lt : c.loop-hull.hull-index < length c.args.here.now = omega (arith, c.loop-hull-test.true) in (
+      λ list fine. lead_next c.args.asked.now.window list c.args.asked.now.budget IsJump c.args.here.now c.loop-hull.hull-index (c.loop-hull.hull-index + 1) _ (c.still.result ∷ []) c.loop-hull.next.hulls.items c.put_all.new.self.hulls.items (omega arith) lt
+          (c.loop-hull.invariant.0 list (e.fine fine)) e.kept (stills_are list _ (c.still.result ∷ []) (ap (λ (x : Change). x ∷ []) c.still.ensures)) (e.put fine),
+      e.sound,
+    )
+
+pub returns-clause-leads : goal.returns-clause-leads
+returns-clause-leads c =
+    lead_done c.args.asked.now.window c.args.asked.now.budget IsJump c.args.here.now c.loop-hull.hull-index c.loop-hull.next c.done.result (omega (arith, c.loop-hull-test.false)) c.done.ensures.fine c.done.ensures.hulls (λ list fine. c.loop-hull.invariant.0 list fine)

@@ -1,0 +1,64 @@
+//! Sets of hulls: at most one for each scale.
+
+ghost use Rattle.std.specs.Prelude.{◌≡◌, [], ◌∷◌, IfOk, IfSome};
+ghost use Rattle.dvg_recipe.specs.Private.Hulls.{AreUnder, IsSoundHull, AreSoundHulls, HasScaleAt, joined};
+
+use crate::hull::Hull;
+use crate::rectangles::joined_places;
+use dvg_cert::Key;
+use std::alloc::AllocError;
+
+/// The least hull that has two others of one scale.
+fn joined(one: &Hull, other: &Hull) -> Hull
+    ensures { result ≡ joined one.now other.now }
+{
+    Hull {
+        scale: one.scale,
+        places: joined_places(&one.places, &other.places),
+        words: one.words.max(other.words),
+        depth: one.depth.max(other.depth),
+    }
+}
+
+/// The hull of a scale, and its index.
+fn held(hulls: &[Hull], scale: Key) -> Option<(usize, Hull)>
+    ensures { IfSome result (λ h. HasScaleAt hulls.now scale h.0 h.1) }
+{
+    for (index, hull) in hulls.iter().enumerate() {
+        if hull.scale == scale {
+            return Some((index, *hull));
+        }
+    }
+    None
+}
+
+/// Adds what a hull has.
+pub fn add(hulls: &mut Vec<Hull>, hull: &Hull) -> Result<(), AllocError>
+    requires sound { AreSoundHulls hulls.old.items }
+    requires hull { IsSoundHull hull.now }
+    ensures kept { IfOk result (λ _. AreUnder hulls.old.items hulls.new.items) }
+    ensures added { IfOk result (λ _. AreUnder (hull.now ∷ []) hulls.new.items) }
+    ensures sound { IfOk result (λ _. AreSoundHulls hulls.new.items) }
+{
+    match held(hulls, hull.scale) {
+        Some((index, old)) => {
+            hulls[index] = joined(&old, hull);
+        }
+        None => hulls.push(*hull)?,
+    }
+    Ok(())
+}
+
+/// Adds what other hulls have.
+pub fn add_all(hulls: &mut Vec<Hull>, more: &[Hull]) -> Result<(), AllocError>
+    requires sound { AreSoundHulls hulls.old.items }
+    requires more { AreSoundHulls more.now }
+    ensures kept { IfOk result (λ _. AreUnder hulls.old.items hulls.new.items) }
+    ensures added { IfOk result (λ _. AreUnder more.now hulls.new.items) }
+    ensures sound { IfOk result (λ _. AreSoundHulls hulls.new.items) }
+{
+    for hull in more {
+        add(hulls, hull)?;
+    }
+    Ok(())
+}
