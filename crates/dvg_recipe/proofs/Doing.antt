@@ -17,7 +17,8 @@ use Rattle.dvg_check.proofs.Common.{Holds, IsWithin, cell_of_words, nat_tests}
 unfoldable use Rattle.dvg_check.proofs.Common.{instruction_of}
 use Rattle.dvg_items.proofs.Leading.{item_same}
 use Rattle.dvg_words.specs.Values.{DrawFits}
-use Rattle.std.specs.Prelude.{◌^◌}
+use Rattle.std.specs.Prelude.{◌^◌, nat_abs}
+use Rattle.dvg_words.specs.Decoding.{InstrFits}
 use Rattle.dvg_recipe.proofs.Common.{◌<◌, ◌++◌, ◌⊎◌, ⊎_elim, ap, cases_lt, length, take, take-suc, IfSome, Contains-append_cases, Contains-append_left, Contains-append_right}
 use Rattle.dvg_items.specs.Known.{callee_at, effect_of, stop_effect}
 use Rattle.dvg_items.specs.Lit.{extent_of, draw_extent, box_extent}
@@ -295,9 +296,22 @@ lscale_few : (format : Format) (lscale : ℕ) → LscaleFits format lscale → l
 lscale_few Short lscale h = omega (arith, h.1)
 lscale_few Long lscale h = h
 
-pub corner_fits : (r : DrawRange) (dx dy : ℤ) (bright : ℕ) → DrawRangeFits r → IsInSpan r.dx dx → IsInSpan r.dy dy → IsInSpan r.bright (pos bright) → DrawFits (record { dx = dx; dy = dy; lscale = r.lscale; bright = bright })
-corner_fits r dx dy bright h x y b = let a = size_in r.format r.dx dx h.dx x in let c = size_in r.format r.dy dy h.dy y in
-    record { dx_low = a.low; dx_high = a.high; dy_low = c.low; dy_high = c.high; lscale = lscale_few r.format r.lscale h.lscale; bright = omega (arith, ints, h.bright.greatest, b.high) }
+abs_few : (z : ℤ) → pos 0 ≤ℤ z → z ≤ℤ pos 15 → nat_abs z ≤ 15
+abs_few (pos n) least most = omega (arith, ints, most)
+abs_few (negsuc n) least most = absurd (omega (arith, ints, least))
+
+pub corner_fits : (r : DrawRange) (dx dy bright : ℤ) → DrawRangeFits r → IsInSpan r.dx dx → IsInSpan r.dy dy → IsInSpan r.bright bright → DrawFits (record { dx = dx; dy = dy; lscale = r.lscale; bright = nat_abs bright })
+corner_fits r dx dy bright h x y b =
+    let a = size_in r.format r.dx dx h.dx x in
+    let c = size_in r.format r.dy dy h.dy y in
+    record {
+      dx_low = a.low;
+      dx_high = a.high;
+      dy_low = c.low;
+      dy_high = c.high;
+      lscale = lscale_few r.format r.lscale h.lscale;
+      bright = abs_few bright (omega (arith, ints, h.bright.least, b.low)) (omega (arith, ints, h.bright.greatest, b.high));
+    }
 
 -- the draw is the corner of a range
 pub record IsCorner (r : DrawRange) (x y b : ℤ) (d : DrawFields) : Type 0 where
@@ -331,10 +345,15 @@ draws_are r low high scale c is l h list = subst (λ (x : Change). AreChanges li
 
 -- ---- the instruction of two words
 
--- the scale of a LABS has four bits
-pub labs_scale : (first second : ℕ) (format : Format) (x y s : ℕ) → second < 65536 → cell_of_words Board (Some first) (Some second) ≡ Holds format (Labs x y s) → s ≤ 15
+-- the fields of an instruction fit their bits
+pub words_fit : (first second : ℕ) (format : Format) (instr : Instr) → first < 65536 → second < 65536 → cell_of_words Board (Some first) (Some second) ≡ Holds format instr → InstrFits instr
 unfolding instruction_of
-labs_scale first second format x y s few is = grind (arith, nat_le, nat_tests, is)
+words_fit first second format (Draws d) one two is = grind (arith, ints, nat_le, nat_tests, is, one, two)
+words_fit first second format (Labs x y s) one two is = grind (arith, nat_le, nat_tests, is, one, two)
+words_fit first second format Halt one two is = tt
+words_fit first second format (Jsrl to) one two is = grind (arith, nat_le, nat_tests, is, one, two)
+words_fit first second format Rtsl one two is = tt
+words_fit first second format (Jmpl to) one two is = grind (arith, nat_le, nat_tests, is, one, two)
 
 -- words that say nothing let a piece allow nothing
 pub none_are : (list : List Entry) (scale : Key) (first second : ℕ) (changes : List Change) → ((format : Format) (instr : Instr) → cell_of_words Board (Some first) (Some second) ≡ Holds format instr → ⊥) → AreChanges list scale (IsTaken (Fixed first second)) changes
