@@ -11,8 +11,14 @@ use Rattle.dvg_cert.specs.declared.entry.End.TheVariants.{Lost as LostEnd}
 use Rattle.dvg_items.specs.Seen.{HasCallee}
 use Rattle.dvg_cert.specs.Entry.{IsKey, IsEnd, IsBox, IsNumber}
 use Rattle.dvg_items.specs.Bounds.{IsNear, IsClaim}
-use Rattle.dvg_recipe.specs.Limits.{PieceFits}
-use Rattle.dvg_recipe.specs.Recipes.{TakesCall}
+use Rattle.dvg_recipe.specs.Limits.{PieceFits, SizesFit, IsSvecSize, IsSpanBetween, LscaleFits, DrawRangeFits}
+use Rattle.dvg_recipe.specs.Recipes.{TakesCall, TakesDraw, DrawRange, Draw, Fixed, Span as Range}
+use Rattle.dvg_check.proofs.Common.{Holds, IsWithin, cell_of_words, nat_tests}
+unfoldable use Rattle.dvg_check.proofs.Common.{instruction_of}
+use Rattle.dvg_items.proofs.Leading.{item_same}
+use Rattle.dvg_words.specs.Values.{DrawFits}
+use Rattle.std.specs.Prelude.{◌^◌, nat_abs}
+use Rattle.dvg_words.specs.Decoding.{InstrFits}
 use Rattle.dvg_recipe.proofs.Common.{◌<◌, ◌++◌, ◌⊎◌, ⊎_elim, ap, cases_lt, length, take, take-suc, IfSome, Contains-append_cases, Contains-append_left, Contains-append_right}
 use Rattle.dvg_items.specs.Known.{callee_at, effect_of, stop_effect}
 use Rattle.dvg_items.specs.Lit.{extent_of, draw_extent, box_extent}
@@ -129,7 +135,7 @@ module _ (list : List Entry) (scale : Key) (changes : List Change) where
 
 -- ---- limits
 
-origin_near : IsNearRectangle 1 (at_point origin)
+pub origin_near : IsNearRectangle 1 (at_point origin)
 origin_near = (
   record { left = omega (arith, ints); right = omega (arith, ints); down = omega (arith, ints); up = omega (arith, ints) },
   record { left = omega (arith, ints); right = omega (arith, ints); down = omega (arith, ints); up = omega (arith, ints) },
@@ -195,6 +201,15 @@ scales_next scales r n m xs more x is grown same h s lt there = subst (λ (l : L
     (λ last. Contains-append_right xs (x ∷ []) (place_change r s) (zero, omega arith, same ∙ ap (place_change r) (omega (arith, is, lt, last))))
     (cases_lt s n))
 
+-- a scale that is not in the set adds none
+pub scales_skip : (scales : List Bool) (r : Rectangle) (n m k : ℕ) (xs : List Change) → m ≡ suc n → k ≡ n → get_or scales k false ≡ false
+    → ((s : ℕ) → s < n → get_or scales s false ≡ true → Contains xs (place_change r s)) → (s : ℕ) → s < m → get_or scales s false ≡ true → Contains xs (place_change r s)
+scales_skip scales r n m k xs next same not h s lt there =
+    ⊎_elim (λ less. h s less there) (λ last. absurd (clash (get_or scales s false) there (subst (λ j. get_or scales j false ≡ false) (omega (arith, same, next, lt, last)) not))) (cases_lt s n)
+  where
+    clash : (b : Bool) → b ≡ true → b ≡ false → ⊥
+    clash b holds not_so = grind (arith, nat_tests)
+
 -- the changes of calls to the addresses before one more
 pub calls_next : (targets : List ℕ) (f : ℕ → Change) (i n d : ℕ) (xs more : List Change) (x : Change) → n ≡ suc i → i < length targets → more ≡ xs ++ x ∷ [] → x ≡ f (get_or targets i d)
     → ((to : ℕ) → Contains (take i targets) to → Contains xs (f to)) → (to : ℕ) → Contains (take n targets) to → Contains more (f to)
@@ -218,3 +233,132 @@ module _ (list : List Entry) (scale : Key) (changes : List Change) where
       each at format (Labs x y s) taken is = absurd taken
       each at format Rtsl taken is = absurd taken
       each at format (Jmpl to) taken is = absurd taken
+
+-- ---- one change of all
+
+-- no further than a draw is near
+pub within_near : (p : Point) → IsWithin (2 ^ 31) p → IsNear 1 p
+within_near p h = record { left = omega (arith, ints, h.left); right = omega (arith, ints, h.right); down = omega (arith, ints, h.down); up = omega (arith, ints, h.up) }
+
+pub one_sound : (c : Change) → IsSoundChange c → AreSoundChanges (c ∷ [])
+one_sound c h = record { each = λ x there. subst IsSoundChange (alone c x there) h }
+
+-- an item that says what another says does the same
+pub holds_changes : (list : List Entry) (scale : Key) (c : Change) (format : Format) (instr : Instr) → ((at : ℕ) → HasFormat format instr → IsChange (callee_at list (target Frame instr) scale) scale c (record { at = at; format = format; instr = instr }))
+    → AreChanges list scale (λ i. Holds format instr ≡ Holds i.format i.instr) (c ∷ [])
+holds_changes list scale c format instr does = record {
+  each = λ i same. subst (λ (j : Item). HasFormat j.format j.instr → IsAnyChange list scale (c ∷ []) j) (item_same (record { at = i.at; format = format; instr = instr }) i refl same)
+      (λ has. record { change = c; listed = (zero, omega arith, refl); is = does i.at has });
+}
+
+module _ (list : List Entry) (scale : Key) (c : Change) (format : Format) where
+  pub draw_alone : (d : DrawFields) → c ≡ draw_change format d d scale → AreChanges list scale (λ i. Holds format (Draws d) ≡ Holds i.format i.instr) (c ∷ [])
+  draw_alone d is = subst (λ (x : Change). AreChanges list scale (λ i. Holds format (Draws d) ≡ Holds i.format i.instr) (x ∷ [])) (sym is) (holds_changes list scale (draw_change format d d scale) format (Draws d)
+      (λ at has. draw_is d d d scale at format (record { lscale_low = refl; lscale_high = refl; dx_low = omega (arith, ints); dx_high = omega (arith, ints); dy_low = omega (arith, ints); dy_high = omega (arith, ints); bright = omega arith })))
+
+  pub place_alone : (x y s : ℕ) → c ≡ place_change (at_point (labs_place Board x y)) s → AreChanges list scale (λ i. Holds format (Labs x y s) ≡ Holds i.format i.instr) (c ∷ [])
+  place_alone x y s is = subst (λ (x' : Change). AreChanges list scale (λ i. Holds format (Labs x y s) ≡ Holds i.format i.instr) (x' ∷ [])) (sym is) (holds_changes list scale (place_change (at_point (labs_place Board x y)) s) format (Labs x y s)
+      (λ at has. record { motion = at_itself (labs_place Board x y); light = tt; scale_after = refl; words = grind (arith, has); depth = omega arith; named_one = λ t. tt }))
+
+  pub call_alone : (to : ℕ) → c ≡ call_change (callee_at list (Some to) scale) scale → AreChanges list scale (λ i. Holds format (Jsrl to) ≡ Holds i.format i.instr) (c ∷ [])
+  call_alone to is = subst (λ (x : Change). AreChanges list scale (λ i. Holds format (Jsrl to) ≡ Holds i.format i.instr) (x ∷ [])) (sym is) (holds_changes list scale (call_change (callee_at list (Some to) scale) scale) format (Jsrl to)
+      (λ at has. call_is (callee_at list (Some to) scale) to scale at format has))
+
+  pub jump_alone : (to : ℕ) → c ≡ still scale → AreChanges list scale (λ i. Holds format (Jmpl to) ≡ Holds i.format i.instr) (c ∷ [])
+  jump_alone to is = subst (λ (x : Change). AreChanges list scale (λ i. Holds format (Jmpl to) ≡ Holds i.format i.instr) (x ∷ [])) (sym is) (holds_changes list scale (still scale) format (Jmpl to) (λ at has. still_is to scale at format has))
+
+  pub halt_alone : c ≡ still scale → AreChanges list scale (λ i. Holds format Halt ≡ Holds i.format i.instr) (c ∷ [])
+  halt_alone is = subst (λ (x : Change). AreChanges list scale (λ i. Holds format Halt ≡ Holds i.format i.instr) (x ∷ [])) (sym is) (holds_changes list scale (still scale) format Halt
+      (λ at has. record { motion = at_itself origin; light = tt; scale_after = refl; words = grind (arith, has); depth = omega arith; named_one = λ t. tt }))
+
+  pub return_alone : c ≡ still scale → AreChanges list scale (λ i. Holds format Rtsl ≡ Holds i.format i.instr) (c ∷ [])
+  return_alone is = subst (λ (x : Change). AreChanges list scale (λ i. Holds format Rtsl ≡ Holds i.format i.instr) (x ∷ [])) (sym is) (holds_changes list scale (still scale) format Rtsl
+      (λ at has. record { motion = at_itself origin; light = tt; scale_after = refl; words = grind (arith, has); depth = omega arith; named_one = λ t. tt }))
+
+-- ---- the draws of a range
+
+pub sizes_ends : (format : Format) (range : Range) → SizesFit format range → IsInSpan range range.low × IsInSpan range range.high
+sizes_ends Short range h = (record { low = omega (arith, ints); high = h.0 }, record { low = h.0; high = omega (arith, ints) })
+sizes_ends Long range h = (record { low = omega (arith, ints); high = h.ordered }, record { low = h.ordered; high = omega (arith, ints) })
+
+svec_near : (z : ℤ) → IsSvecSize z → IsSpanBetween (negsuc 1022) (pos 1023) (record { low = z; high = z })
+svec_near z h = grind (arith, ints)
+
+record IsSize (z : ℤ) : Type 0 where
+  low : negsuc 1022 ≤ℤ z
+  high : z ≤ℤ pos 1023
+
+size_in : (format : Format) (range : Range) (z : ℤ) → SizesFit format range → IsInSpan range z → IsSize z
+size_in Short range z h k = let a = svec_near range.low h.1 in let b = svec_near range.high h.2 in record { low = omega (arith, ints, a.least, k.low); high = omega (arith, ints, b.greatest, k.high) }
+size_in Long range z h k = record { low = omega (arith, ints, h.least, k.low); high = omega (arith, ints, h.greatest, k.high) }
+
+lscale_few : (format : Format) (lscale : ℕ) → LscaleFits format lscale → lscale ≤ 9
+lscale_few Short lscale h = omega (arith, h.1)
+lscale_few Long lscale h = h
+
+abs_few : (z : ℤ) → pos 0 ≤ℤ z → z ≤ℤ pos 15 → nat_abs z ≤ 15
+abs_few (pos n) least most = omega (arith, ints, most)
+abs_few (negsuc n) least most = absurd (omega (arith, ints, least))
+
+pub corner_fits : (r : DrawRange) (dx dy bright : ℤ) → DrawRangeFits r → IsInSpan r.dx dx → IsInSpan r.dy dy → IsInSpan r.bright bright → DrawFits (record { dx = dx; dy = dy; lscale = r.lscale; bright = nat_abs bright })
+corner_fits r dx dy bright h x y b =
+    let a = size_in r.format r.dx dx h.dx x in
+    let c = size_in r.format r.dy dy h.dy y in
+    record {
+      dx_low = a.low;
+      dx_high = a.high;
+      dy_low = c.low;
+      dy_high = c.high;
+      lscale = lscale_few r.format r.lscale h.lscale;
+      bright = abs_few bright (omega (arith, ints, h.bright.least, b.low)) (omega (arith, ints, h.bright.greatest, b.high));
+    }
+
+-- the draw is the corner of a range
+pub record IsCorner (r : DrawRange) (x y b : ℤ) (d : DrawFields) : Type 0 where
+  pub lscale : d.lscale ≡ r.lscale
+  pub dx : d.dx ≡ x
+  pub dy : d.dy ≡ y
+  pub bright : pos d.bright ≡ b
+
+pub draws_are : (r : DrawRange) (low high : DrawFields) (scale : Key) (c : Change) → c ≡ draw_change r.format low high scale → IsCorner r r.dx.low r.dy.low r.bright.low low → IsCorner r r.dx.high r.dy.high r.bright.high high
+    → (list : List Entry) → AreChanges list scale (IsTaken (Draw r)) (c ∷ [])
+draws_are r low high scale c is l h list = subst (λ (x : Change). AreChanges list scale (IsTaken (Draw r)) (x ∷ [])) (sym is) (record { each = λ i taken has. each i.at i.format i.instr taken has })
+  where
+    between : (d : DrawFields) → TakesDraw r (Draws d) → IsDrawBetween low high d
+    between d t = record {
+      lscale_low = t.0 ∙ sym l.lscale;
+      lscale_high = t.0 ∙ sym h.lscale;
+      dx_low = omega (arith, ints, l.dx, t.1.low);
+      dx_high = omega (arith, ints, h.dx, t.1.high);
+      dy_low = omega (arith, ints, l.dy, t.2.low);
+      dy_high = omega (arith, ints, h.dy, t.2.high);
+      bright = omega (arith, ints, h.bright, t.3.high);
+    }
+
+    each : (at : ℕ) (format : Format) (instr : Instr) → IsTaken (Draw r) (record { at = at; format = format; instr = instr }) → HasFormat format instr → IsAnyChange list scale (draw_change r.format low high scale ∷ []) (record { at = at; format = format; instr = instr })
+    each at format (Draws d) t has = record { change = draw_change r.format low high scale; listed = (zero, omega arith, refl); is = subst (λ (f : Format). IsChange None scale (draw_change r.format low high scale) (record { at = at; format = f; instr = Draws d })) (sym t.0) (draw_is low high d scale at r.format (between d t.1)) }
+    each at format Halt t has = absurd t.1
+    each at format (Labs x y s) t has = absurd t.1
+    each at format (Jsrl to) t has = absurd t.1
+    each at format Rtsl t has = absurd t.1
+    each at format (Jmpl to) t has = absurd t.1
+
+-- ---- the instruction of two words
+
+-- the fields of an instruction fit their bits
+pub words_fit : (first second : ℕ) (format : Format) (instr : Instr) → first < 65536 → second < 65536 → cell_of_words Board (Some first) (Some second) ≡ Holds format instr → InstrFits instr
+unfolding instruction_of
+words_fit first second format (Draws d) one two is = grind (arith, ints, nat_le, nat_tests, is, one, two)
+words_fit first second format (Labs x y s) one two is = grind (arith, nat_le, nat_tests, is, one, two)
+words_fit first second format Halt one two is = tt
+words_fit first second format (Jsrl to) one two is = grind (arith, nat_le, nat_tests, is, one, two)
+words_fit first second format Rtsl one two is = tt
+words_fit first second format (Jmpl to) one two is = grind (arith, nat_le, nat_tests, is, one, two)
+
+-- words that say nothing let a piece allow nothing
+pub none_are : (list : List Entry) (scale : Key) (first second : ℕ) (changes : List Change) → ((format : Format) (instr : Instr) → cell_of_words Board (Some first) (Some second) ≡ Holds format instr → ⊥) → AreChanges list scale (IsTaken (Fixed first second)) changes
+none_are list scale first second changes none = record { each = λ i taken has. absurd (none i.format i.instr taken) }
+
+pub fixed_are : (list : List Entry) (scale : Key) (first second : ℕ) (format : Format) (instr : Instr) (changes : List Change) → cell_of_words Board (Some first) (Some second) ≡ Holds format instr
+    → AreChanges list scale (λ i. Holds format instr ≡ Holds i.format i.instr) changes → AreChanges list scale (IsTaken (Fixed first second)) changes
+fixed_are list scale first second format instr changes is h = record { each = λ i taken has. h.each i (sym is ∙ taken) has }

@@ -1,16 +1,18 @@
 //! What the items of a piece may do at a scale.
 
-ghost use Rattle.std.specs.Prelude.{◌≡◌, ◌≤◌, ◌≤ℤ◌, ◌*ℤ◌, pos, true, false, Some, get_or, Contains, IfOk, IfSome, ℕ};
+ghost use Rattle.std.specs.Prelude.{◌≡◌, List, [], ◌∷◌, ◌≤◌, ◌≤ℤ◌, ◌*ℤ◌, pos, true, false, Some, get_or, Contains, IfOk, IfSome, ℕ};
 ghost use Rattle.dvg_words.specs.Beam.{displacement};
-ghost use Rattle.dvg_words.specs.Decoding.{InstrFits};
+ghost use Rattle.dvg_words.specs.Decoding.{InstrFits, word_count};
 ghost use Rattle.dvg_words.specs.declared.machine.Machine.TheVariants.{Board};
+ghost use Rattle.dvg_words.specs.declared.instruction.Cell.TheVariants.{Holds};
 ghost use Rattle.dvg_cert.specs.Entry.{IsKey, IsBox, IsEnd};
+ghost use Rattle.dvg_cert.specs.declared.entry.Entry.{Entry};
 ghost use Rattle.dvg_items.specs.Bounds.{IsClaim, IsSomeCertificate};
 ghost use Rattle.dvg_items.specs.Known.{callee_at};
 ghost use Rattle.dvg_recipe.specs.Limits.{DrawRangeFits, PieceFits};
-ghost use Rattle.dvg_recipe.specs.Recipes.{Place, Call};
+ghost use Rattle.dvg_recipe.specs.Recipes.{Place, Call, Draw as Draws, Fixed, IsInSpan};
 ghost use Rattle.dvg_recipe.specs.Private.Judging.{IsTaken};
-ghost use Rattle.dvg_recipe.specs.Private.Hulls.{IsDrawBetween, AreChanges, AreSoundChanges, IsSoundChange, at_point, places_of, place_change, still, stop_motion, box_light, call_change, moves, draw_light, draw_change};
+ghost use Rattle.dvg_recipe.specs.Private.Hulls.{IsNearRectangle, IsNearMotion, IsNearLight, AreChanges, AreSoundChanges, IsSoundChange, at_point, places_of, place_change, still, stop_motion, box_light, call_change, moves, draw_light, draw_change};
 
 use crate::hull::{Change, Light, Motion, Rectangle};
 use crate::piece::{DrawRange, PieceKind, PlaceRange};
@@ -123,9 +125,11 @@ fn call_change(named: Option<Entry>, scale: Key) -> Change
 }
 
 /// The moves of draws between two.
+#[tactic(auto, using(crate::proofs::Doing::within_near))]
 fn moves(low: &Draw, high: &Draw, gscale: u8) -> Rectangle
     requires { gscale ≤ 15 }
-    ensures { result ≡ moves low.now high.now gscale }
+    ensures value { result ≡ moves low.now high.now gscale }
+    ensures near { IsNearRectangle 1 result }
 {
     Rectangle {
         low: draw_move(Machine::Board, low, gscale),
@@ -135,31 +139,49 @@ fn moves(low: &Draw, high: &Draw, gscale: u8) -> Rectangle
 
 /// What draws light, the brightest of this intensity.
 fn draw_light(bright: u8, lit: Light) -> Light
-    ensures { result ≡ draw_light bright lit }
+    requires { IsNearLight lit }
+    ensures value { result ≡ draw_light bright lit }
+    ensures near { IsNearLight result }
 {
     if bright == 0 { Light::Dark } else { lit }
 }
 
-/// Draws between two, at a scale.
-fn draw_change(format: Format, low: &Draw, high: &Draw, scale: Key) -> Change
-    requires { IsKey scale }
-    ensures { result ≡ draw_change format low.now high.now scale }
+/// Draws of a format that move and light so, at a scale.
+fn drawn(format: Format, motion: Motion, light: Light, scale: Key) -> Change
+    requires motion { IsNearMotion motion }
+    requires light { IsNearLight light }
+    requires scale { IsKey scale }
+    ensures value { result ≡ record { motion = motion; light = light; scale = scale; words = word_count format; depth = 0; named = true } }
+    ensures sound { IsSoundChange result }
 {
-    let (motion, lit) = match scale {
-        Key::At(gscale) => {
-            let by = moves(low, high, gscale);
-            let from = at_point(Point::ORIGIN);
-            (Motion::By(by), Light::Shown { from, to: by })
-        }
-        Key::Any => (Motion::Away, Light::Unbounded),
-    };
     Change {
         motion,
-        light: draw_light(high.bright, lit),
+        light,
         scale,
         words: u32::from(format.words()),
         depth: 0,
         named: true,
+    }
+}
+
+/// Draws between two, at a scale.
+#[tactic(auto, using(crate::proofs::Doing::origin_near))]
+fn draw_change(format: Format, low: &Draw, high: &Draw, scale: Key) -> Change
+    requires { IsKey scale }
+    ensures value { result ≡ draw_change format low.now high.now scale }
+    ensures sound { IsSoundChange result }
+{
+    match scale {
+        Key::At(gscale) => {
+            let by = moves(low, high, gscale);
+            let from = at_point(Point::ORIGIN);
+            let light = draw_light(high.bright, Light::Shown { from, to: by });
+            drawn(format, Motion::By(by), light, scale)
+        }
+        Key::Any => {
+            let light = draw_light(high.bright, Light::Unbounded);
+            drawn(format, Motion::Away, light, scale)
+        }
     }
 }
 
@@ -199,7 +221,106 @@ fn of_calls<E: Entries>(
     Ok(changes)
 }
 
-/// The changes of the items of a piece, at a scale.
+/// A draw of a range, of these sizes and this intensity.
+fn corner(range: &DrawRange, dx: i16, dy: i16, bright: i16) -> Draw
+    requires fits { DrawRangeFits range.now }
+    requires dx { IsInSpan range.now.dx dx }
+    requires dy { IsInSpan range.now.dy dy }
+    requires bright { IsInSpan range.now.bright bright }
+    ensures lscale { result.lscale ≡ range.now.lscale }
+    ensures dx { result.dx ≡ dx }
+    ensures dy { result.dy ≡ dy }
+    ensures bright { pos result.bright ≡ bright }
+{
+    Draw {
+        dx,
+        dy,
+        lscale: range.lscale,
+        bright: bright as u8,
+    }
+}
+
+/// What each draw of a range does, at a scale.
+fn draws_change(range: &DrawRange, scale: Key) -> Change
+    requires key { IsKey scale }
+    requires fits { PieceFits (Draws range.now) }
+    ensures are { (list : List Entry) → AreChanges list scale (IsTaken (Draws range.now)) (result ∷ []) }
+    ensures sound { IsSoundChange result }
+{
+    let low = corner(range, range.dx.low, range.dy.low, range.bright.low);
+    let high = corner(range, range.dx.high, range.dy.high, range.bright.high);
+    draw_change(range.format, &low, &high, scale)
+}
+
+/// What an instruction does at a scale, with the entry that it calls.
+fn instr_change<E: Entries>(entries: &E, format: Format, instr: &Instr, scale: Key) -> Change
+    requires entries { IsSomeCertificate (E.list entries.now) }
+    requires key { IsKey scale }
+    requires fits { InstrFits instr.now }
+    ensures are { AreChanges (E.list entries.now) scale (λ i. Holds format instr.now ≡ Holds i.format i.instr) (result ∷ []) }
+    ensures sound { IsSoundChange result }
+{
+    match *instr {
+        Instr::Draw(draw) => draw_change(format, &draw, &draw, scale),
+        Instr::Labs { x, y, gscale } => {
+            place_change(at_point(labs_place(Machine::Board, x, y)), gscale)
+        }
+        Instr::Jsrl { to } => call_change(callee(entries, Some(to), scale), scale),
+        Instr::Halt | Instr::Rtsl | Instr::Jmpl { .. } => still(scale),
+    }
+}
+
+/// What the instruction of two words does at a scale.
+fn words_change<E: Entries>(entries: &E, first: u16, second: u16, scale: Key) -> Change
+    requires entries { IsSomeCertificate (E.list entries.now) }
+    requires key { IsKey scale }
+    ensures are { AreChanges (E.list entries.now) scale (IsTaken (Fixed first second)) (result ∷ []) }
+    ensures sound { IsSoundChange result }
+{
+    match cell_of_words(first, second) {
+        Cell::Holds { format, instr } => instr_change(entries, format, &instr, scale),
+        Cell::Missing | Cell::Odd => still(scale),
+    }
+}
+
+/// A list of one change.
+fn one(alloc: Global, change: Change) -> Result<Vec<Change>, AllocError>
+    requires { IsSoundChange change }
+    ensures only { IfOk result (λ all. all.items ≡ change ∷ []) }
+    ensures sound { IfOk result (λ all. AreSoundChanges all.items) }
+{
+    let mut changes = Vec::new(alloc);
+    changes.push(change)?;
+    Ok(changes)
+}
+
+/// The change of all draws of a range, at a scale.
+fn of_draws(alloc: Global, range: &DrawRange, scale: Key) -> Result<Vec<Change>, AllocError>
+    requires key { IsKey scale }
+    requires fits { PieceFits (Draws range.now) }
+    ensures are { IfOk result (λ all. (list : List Entry) → AreChanges list scale (IsTaken (Draws range.now)) all.items) }
+    ensures sound { IfOk result (λ all. AreSoundChanges all.items) }
+{
+    one(alloc, draws_change(range, scale))
+}
+
+/// The change of the instruction of two words, at a scale.
+fn of_words<E: Entries>(
+    alloc: Global,
+    entries: &E,
+    first: u16,
+    second: u16,
+    scale: Key,
+) -> Result<Vec<Change>, AllocError>
+    requires entries { IsSomeCertificate (E.list entries.now) }
+    requires key { IsKey scale }
+    ensures are { IfOk result (λ all. AreChanges (E.list entries.now) scale (IsTaken (Fixed first second)) all.items) }
+    ensures sound { IfOk result (λ all. AreSoundChanges all.items) }
+{
+    one(alloc, words_change(entries, first, second, scale))
+}
+
+/// What the items that a piece allows may do, at a scale.
 pub fn changes_of<E: Entries>(
     alloc: Global,
     entries: &E,
@@ -214,6 +335,8 @@ pub fn changes_of<E: Entries>(
 {
     match kind {
         PieceKind::Place(range) => of_place(alloc, range),
-        _ => Ok(Vec::new(alloc)),
+        PieceKind::Call(targets) => of_calls(alloc, entries, targets, scale),
+        PieceKind::Draw(range) => of_draws(alloc, range, scale),
+        PieceKind::Fixed { first, second } => of_words(alloc, entries, *first, *second, scale),
     }
 }
