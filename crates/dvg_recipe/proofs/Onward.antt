@@ -40,7 +40,7 @@ module _ (w : Window) (list : List Entry) (budget : ℕ) where
   then_both a b xs ys zs h k = carries_both w list budget (Spells a) (Spells b) xs ys zs (extends_part b) h k
 
   pub either_one : (R S : Adds) (xs ys zs all : List Hull) → AreUnder ys all → AreUnder zs all → Carries w list budget R xs ys → Carries w list budget S xs zs → Carries w list budget (λ before after. R before after ⊎ S before after) xs all
-  either_one R S xs ys zs all u v h k = carries_either w list budget R S xs all (carries_under w list budget R xs ys all u h) (carries_under w list budget S xs zs all v k)
+  either_one R S xs ys zs all u v h k = carries_either w list budget R S xs xs all (carries_under w list budget R xs ys all u h) (carries_under w list budget S xs zs all v k)
 
   module _ (body : Part) where
     pub one_turn : (n m : ℕ) (xs ys zs : List Hull) → m ≡ suc n → Carries w list budget (Times n (Spells body)) xs ys → Carries w list budget (Spells body) ys zs → Carries w list budget (Times m (Spells body)) xs zs

@@ -271,7 +271,7 @@ fn instr_change<E: Entries>(entries: &E, format: Format, instr: &Instr, scale: K
 }
 
 /// What the instruction of two words does at a scale.
-fn words_change<E: Entries>(entries: &E, first: u16, second: u16, scale: Key) -> Change
+pub fn words_change<E: Entries>(entries: &E, first: u16, second: u16, scale: Key) -> Change
     requires entries { IsSomeCertificate (E.list entries.now) }
     requires key { IsKey scale }
     ensures are { AreChanges (E.list entries.now) scale (IsTaken (Fixed first second)) (result ∷ []) }
