@@ -1,30 +1,26 @@
 -- The changes are those of the instructions that a piece allows.
-use Rattle.dvg_recipe.proofs.Common.{◌≡◌, ◌≤◌, ◌+◌, ℕ, zero, suc, List, [], ◌∷◌, Option, Some, None, Contains, IsTrue, get_or, refl, sym, subst, arith, ◌∙◌}
-use Rattle.dvg_check.proofs.Common.{ints, ℤ, pos, negsuc, ◌≤ℤ◌, ◌*◌, Bool, nat_le, Point, Item, Instr, Draws, Labs, Halt, Jsrl, Rtsl, Jmpl, Format, Short, Long, Entry, End, Rel, Abs, Key, At, Any, LitBox, Empty, Span, DrawFields, Frame, target, origin, axis_move, effective_scale}
-unfoldable use Rattle.dvg_check.proofs.Common.{displacement}
-use Rattle.std.specs.Prelude.{true, false, if◌then◌else◌, ◌*ℤ◌}
+use Rattle.dvg_recipe.proofs.Common.{◌≡◌, ◌≤◌, ℕ, zero, suc, List, [], ◌∷◌, Option, Some, None, Contains, IsTrue, get_or, refl, sym, subst, arith, ◌∙◌}
+use Rattle.dvg_check.proofs.Common.{ints, ℤ, pos, negsuc, ◌≤ℤ◌, ◌*◌, Bool, nat_le, Point, Item, Instr, Draws, Labs, Halt, Jsrl, Rtsl, Jmpl, Format, Short, Long, Entry, End, Rel, Abs, Key, At, Any, LitBox, Empty, Span, DrawFields, Frame, target, origin, axis_move, effective_scale, IsWithin, Holds, cell_of_words, nat_tests}
+unfoldable use Rattle.dvg_check.proofs.Common.{displacement, instruction_of}
+use Rattle.std.specs.Prelude.{true, false, if◌then◌else◌, ◌*ℤ◌, ◌^◌, nat_abs}
 use Rattle.std.proofs.Math.IntN.{pos-*ℤ-pos, negsuc-*ℤ-pos}
 use Rattle.std.proofs.Math.Nat.{mul-le-mul_right}
-use Rattle.dvg_words.specs.Beam.{rounded, rounded_move, factor, labs_place, signed_field}
+use Rattle.dvg_words.specs.Beam.{rounded, rounded_move, factor, labs_place}
 use Rattle.dvg_words.specs.declared.machine.Machine.TheVariants.{Board}
 use Rattle.dvg_cert.specs.declared.entry.End.TheVariants.{Lost as LostEnd}
+use Rattle.dvg_words.specs.Values.{DrawFits}
+use Rattle.dvg_words.specs.Decoding.{InstrFits}
 use Rattle.dvg_items.specs.Seen.{HasCallee}
+use Rattle.dvg_items.proofs.Leading.{item_same}
 use Rattle.dvg_cert.specs.Entry.{IsKey, IsEnd, IsBox, IsNumber}
 use Rattle.dvg_items.specs.Bounds.{IsNear, IsClaim}
 use Rattle.dvg_recipe.specs.Limits.{PieceFits, SizesFit, IsSvecSize, IsSpanBetween, LscaleFits, DrawRangeFits}
-use Rattle.dvg_recipe.specs.Recipes.{TakesCall, TakesDraw, DrawRange, Draw, Fixed, Span as Range}
-use Rattle.dvg_check.proofs.Common.{Holds, IsWithin, cell_of_words, nat_tests}
-unfoldable use Rattle.dvg_check.proofs.Common.{instruction_of}
-use Rattle.dvg_items.proofs.Leading.{item_same}
-use Rattle.dvg_words.specs.Values.{DrawFits}
-use Rattle.std.specs.Prelude.{◌^◌, nat_abs}
-use Rattle.dvg_words.specs.Decoding.{InstrFits}
-use Rattle.dvg_recipe.proofs.Common.{◌<◌, ◌++◌, ◌⊎◌, ⊎_elim, ap, cases_lt, length, take, take-suc, IfSome, Contains-append_cases, Contains-append_left, Contains-append_right}
-use Rattle.dvg_items.specs.Known.{callee_at, effect_of, stop_effect}
-use Rattle.dvg_items.specs.Lit.{extent_of, draw_extent, box_extent}
-use Rattle.dvg_recipe.specs.Recipes.{PlaceRange, TakesPlace, PieceKind, Place, Call, Takes, IsInSpan}
+use Rattle.dvg_recipe.proofs.Common.{◌<◌, ◌++◌, ⊎_elim, ap, cases_lt, length, take, take-suc, IfSome, Contains-append_cases, Contains-append_left, Contains-append_right}
+use Rattle.dvg_items.specs.Known.{callee_at, stop_effect}
+use Rattle.dvg_items.specs.Lit.{draw_extent, box_extent}
+use Rattle.dvg_recipe.specs.Recipes.{PlaceRange, DrawRange, Span as Range, TakesPlace, TakesCall, TakesDraw, Place, Draw, IsInSpan}
 use Rattle.dvg_recipe.specs.Private.Judging.{IsTaken, IsJump}
-use Rattle.dvg_recipe.specs.Private.Hulls.{Rectangle, Change, Light, Shown, Dark, IsInRectangle, IsMotion, IsLight, IsChange, IsAnyChange, AreChanges, HasFormat, IsNearRectangle, IsNearMotion, IsNearLight, IsSoundChange, AreSoundChanges, at_point, places_of, place_change, still, stop_motion, box_light, call_change, moves, draw_light, draw_change, IsDrawBetween}
+use Rattle.dvg_recipe.specs.Private.Hulls.{Rectangle, Change, Shown, IsInRectangle, IsMotion, IsLight, IsChange, IsAnyChange, AreChanges, HasFormat, IsNearRectangle, IsNearMotion, IsNearLight, IsSoundChange, AreSoundChanges, at_point, places_of, place_change, still, stop_motion, box_light, call_change, moves, draw_light, draw_change, IsDrawBetween}
 
 -- ---- moves grow with sizes
 
@@ -240,11 +236,8 @@ module _ (list : List Entry) (scale : Key) (changes : List Change) where
 pub within_near : (p : Point) → IsWithin (2 ^ 31) p → IsNear 1 p
 within_near p h = record { left = omega (arith, ints, h.left); right = omega (arith, ints, h.right); down = omega (arith, ints, h.down); up = omega (arith, ints, h.up) }
 
-pub one_sound : (c : Change) → IsSoundChange c → AreSoundChanges (c ∷ [])
-one_sound c h = record { each = λ x there. subst IsSoundChange (alone c x there) h }
-
 -- an item that says what another says does the same
-pub holds_changes : (list : List Entry) (scale : Key) (c : Change) (format : Format) (instr : Instr) → ((at : ℕ) → HasFormat format instr → IsChange (callee_at list (target Frame instr) scale) scale c (record { at = at; format = format; instr = instr }))
+holds_changes : (list : List Entry) (scale : Key) (c : Change) (format : Format) (instr : Instr) → ((at : ℕ) → HasFormat format instr → IsChange (callee_at list (target Frame instr) scale) scale c (record { at = at; format = format; instr = instr }))
     → AreChanges list scale (λ i. Holds format instr ≡ Holds i.format i.instr) (c ∷ [])
 holds_changes list scale c format instr does = record {
   each = λ i same. subst (λ (j : Item). HasFormat j.format j.instr → IsAnyChange list scale (c ∷ []) j) (item_same (record { at = i.at; format = format; instr = instr }) i refl same)
@@ -252,38 +245,17 @@ holds_changes list scale c format instr does = record {
 }
 
 module _ (list : List Entry) (scale : Key) (c : Change) (format : Format) where
+  -- a draw does what draws between itself and itself do
   pub draw_alone : (d : DrawFields) → c ≡ draw_change format d d scale → AreChanges list scale (λ i. Holds format (Draws d) ≡ Holds i.format i.instr) (c ∷ [])
   draw_alone d is = subst (λ (x : Change). AreChanges list scale (λ i. Holds format (Draws d) ≡ Holds i.format i.instr) (x ∷ [])) (sym is) (holds_changes list scale (draw_change format d d scale) format (Draws d)
       (λ at has. draw_is d d d scale at format (record { lscale_low = refl; lscale_high = refl; dx_low = omega (arith, ints); dx_high = omega (arith, ints); dy_low = omega (arith, ints); dy_high = omega (arith, ints); bright = omega arith })))
 
-  pub place_alone : (x y s : ℕ) → c ≡ place_change (at_point (labs_place Board x y)) s → AreChanges list scale (λ i. Holds format (Labs x y s) ≡ Holds i.format i.instr) (c ∷ [])
-  place_alone x y s is = subst (λ (x' : Change). AreChanges list scale (λ i. Holds format (Labs x y s) ≡ Holds i.format i.instr) (x' ∷ [])) (sym is) (holds_changes list scale (place_change (at_point (labs_place Board x y)) s) format (Labs x y s)
-      (λ at has. record { motion = at_itself (labs_place Board x y); light = tt; scale_after = refl; words = grind (arith, has); depth = omega arith; named_one = λ t. tt }))
-
-  pub call_alone : (to : ℕ) → c ≡ call_change (callee_at list (Some to) scale) scale → AreChanges list scale (λ i. Holds format (Jsrl to) ≡ Holds i.format i.instr) (c ∷ [])
-  call_alone to is = subst (λ (x : Change). AreChanges list scale (λ i. Holds format (Jsrl to) ≡ Holds i.format i.instr) (x ∷ [])) (sym is) (holds_changes list scale (call_change (callee_at list (Some to) scale) scale) format (Jsrl to)
-      (λ at has. call_is (callee_at list (Some to) scale) to scale at format has))
-
-  pub jump_alone : (to : ℕ) → c ≡ still scale → AreChanges list scale (λ i. Holds format (Jmpl to) ≡ Holds i.format i.instr) (c ∷ [])
-  jump_alone to is = subst (λ (x : Change). AreChanges list scale (λ i. Holds format (Jmpl to) ≡ Holds i.format i.instr) (x ∷ [])) (sym is) (holds_changes list scale (still scale) format (Jmpl to) (λ at has. still_is to scale at format has))
-
-  pub halt_alone : c ≡ still scale → AreChanges list scale (λ i. Holds format Halt ≡ Holds i.format i.instr) (c ∷ [])
-  halt_alone is = subst (λ (x : Change). AreChanges list scale (λ i. Holds format Halt ≡ Holds i.format i.instr) (x ∷ [])) (sym is) (holds_changes list scale (still scale) format Halt
-      (λ at has. record { motion = at_itself origin; light = tt; scale_after = refl; words = grind (arith, has); depth = omega arith; named_one = λ t. tt }))
-
-  pub return_alone : c ≡ still scale → AreChanges list scale (λ i. Holds format Rtsl ≡ Holds i.format i.instr) (c ∷ [])
-  return_alone is = subst (λ (x : Change). AreChanges list scale (λ i. Holds format Rtsl ≡ Holds i.format i.instr) (x ∷ [])) (sym is) (holds_changes list scale (still scale) format Rtsl
-      (λ at has. record { motion = at_itself origin; light = tt; scale_after = refl; words = grind (arith, has); depth = omega arith; named_one = λ t. tt }))
-
 -- ---- the draws of a range
-
-pub sizes_ends : (format : Format) (range : Range) → SizesFit format range → IsInSpan range range.low × IsInSpan range range.high
-sizes_ends Short range h = (record { low = omega (arith, ints); high = h.0 }, record { low = h.0; high = omega (arith, ints) })
-sizes_ends Long range h = (record { low = omega (arith, ints); high = h.ordered }, record { low = h.ordered; high = omega (arith, ints) })
 
 svec_near : (z : ℤ) → IsSvecSize z → IsSpanBetween (negsuc 1022) (pos 1023) (record { low = z; high = z })
 svec_near z h = grind (arith, ints)
 
+-- a size that a draw can have
 record IsSize (z : ℤ) : Type 0 where
   low : negsuc 1022 ≤ℤ z
   high : z ≤ℤ pos 1023
@@ -300,6 +272,7 @@ abs_few : (z : ℤ) → pos 0 ≤ℤ z → z ≤ℤ pos 15 → nat_abs z ≤ 15
 abs_few (pos n) least most = omega (arith, ints, most)
 abs_few (negsuc n) least most = absurd (omega (arith, ints, least))
 
+-- a draw of the range has fields that fit their bits
 pub corner_fits : (r : DrawRange) (dx dy bright : ℤ) → DrawRangeFits r → IsInSpan r.dx dx → IsInSpan r.dy dy → IsInSpan r.bright bright → DrawFits (record { dx = dx; dy = dy; lscale = r.lscale; bright = nat_abs bright })
 corner_fits r dx dy bright h x y b =
     let a = size_in r.format r.dx dx h.dx x in
@@ -320,6 +293,7 @@ pub record IsCorner (r : DrawRange) (x y b : ℤ) (d : DrawFields) : Type 0 wher
   pub dy : d.dy ≡ y
   pub bright : pos d.bright ≡ b
 
+-- what lies between two corners does what draws between them do
 pub draws_are : (r : DrawRange) (low high : DrawFields) (scale : Key) (c : Change) → c ≡ draw_change r.format low high scale → IsCorner r r.dx.low r.dy.low r.bright.low low → IsCorner r r.dx.high r.dy.high r.bright.high high
     → (list : List Entry) → AreChanges list scale (IsTaken (Draw r)) (c ∷ [])
 draws_are r low high scale c is l h list = subst (λ (x : Change). AreChanges list scale (IsTaken (Draw r)) (x ∷ [])) (sym is) (record { each = λ i taken has. each i.at i.format i.instr taken has })
@@ -354,11 +328,3 @@ words_fit first second format Halt one two is = tt
 words_fit first second format (Jsrl to) one two is = grind (arith, nat_le, nat_tests, is, one, two)
 words_fit first second format Rtsl one two is = tt
 words_fit first second format (Jmpl to) one two is = grind (arith, nat_le, nat_tests, is, one, two)
-
--- words that say nothing let a piece allow nothing
-pub none_are : (list : List Entry) (scale : Key) (first second : ℕ) (changes : List Change) → ((format : Format) (instr : Instr) → cell_of_words Board (Some first) (Some second) ≡ Holds format instr → ⊥) → AreChanges list scale (IsTaken (Fixed first second)) changes
-none_are list scale first second changes none = record { each = λ i taken has. absurd (none i.format i.instr taken) }
-
-pub fixed_are : (list : List Entry) (scale : Key) (first second : ℕ) (format : Format) (instr : Instr) (changes : List Change) → cell_of_words Board (Some first) (Some second) ≡ Holds format instr
-    → AreChanges list scale (λ i. Holds format instr ≡ Holds i.format i.instr) changes → AreChanges list scale (IsTaken (Fixed first second)) changes
-fixed_are list scale first second format instr changes is h = record { each = λ i taken has. h.each i (sym is ∙ taken) has }

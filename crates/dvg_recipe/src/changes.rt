@@ -1,11 +1,10 @@
 //! What the items of a piece may do at a scale.
 
-ghost use Rattle.std.specs.Prelude.{◌≡◌, List, [], ◌∷◌, ◌≤◌, ◌≤ℤ◌, ◌*ℤ◌, pos, true, false, Some, get_or, Contains, IfOk, IfSome, ℕ};
-ghost use Rattle.dvg_words.specs.Beam.{displacement};
+ghost use Rattle.std.specs.Prelude.{◌≡◌, List, [], ◌∷◌, ◌≤◌, ◌*ℤ◌, pos, true, false, Some, get_or, Contains, IfOk, IfSome, ℕ};
 ghost use Rattle.dvg_words.specs.Decoding.{InstrFits, word_count};
 ghost use Rattle.dvg_words.specs.declared.machine.Machine.TheVariants.{Board};
 ghost use Rattle.dvg_words.specs.declared.instruction.Cell.TheVariants.{Holds};
-ghost use Rattle.dvg_cert.specs.Entry.{IsKey, IsBox, IsEnd};
+ghost use Rattle.dvg_cert.specs.Entry.{IsKey};
 ghost use Rattle.dvg_cert.specs.declared.entry.Entry.{Entry};
 ghost use Rattle.dvg_items.specs.Bounds.{IsClaim, IsSomeCertificate};
 ghost use Rattle.dvg_items.specs.Known.{callee_at};

@@ -1,4 +1,4 @@
-use Rattle.dvg_recipe.proofs.Common.{◌≡◌, ◌+◌, ◌∙◌, ap, arith}
+use Rattle.dvg_recipe.proofs.Common.{◌+◌, ◌∙◌, ap, arith}
 use Rattle.dvg_recipe.specs.Private.Hulls.{Rectangle, places_of, place_change}
 use Rattle.dvg_recipe.proofs.Doing.{scales_next, scales_skip, push_sound, place_sound}
 use Rattle.dvg_recipe.proofs.changes.of_place.Goals as goal
