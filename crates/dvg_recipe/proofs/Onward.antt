@@ -78,22 +78,24 @@ module _ (w : Window) (list : List Entry) (budget : ℕ) where
   pub starts_none : (areas : List Area) (here : List Hull) → AreListStarts w list budget (take 0 areas) here
   starts_none areas here = record { each = λ words items b f. absurd (omega (arith, b.1.1)) }
 
-  pub starts_more : (areas : List Area) (i n : ℕ) (d : Area) (here more : List Hull) → n ≡ suc i → i < length areas → AreListStarts w list budget (take i areas) here → AreUnder here more
-      → ((words : List ℕ) (items : List Item) → BeginsAt (get_or areas i d).first items → IsFront words items → IsGoodFront w list budget more words items) → AreListStarts w list budget (take n areas) more
-  starts_more areas i n d here more is lt h under new = record {
-    each = λ words items b f. ⊎_elim
-        (λ old. good_under w list budget here more words items under (h.each words items (b.0, old, b.2) f))
-        (λ last. new words items (subst (λ (a : Area). BeginsAt a.first items) (sym (only_area (get_or areas i d) b.0 last)) b.2) f)
+  pub starts_more : (areas : List Area) (i n : ℕ) (d : Area) (here there more : List Hull) → n ≡ suc i → i < length areas → AreListStarts w list budget (take i areas) here → AreUnder here more → AreListStarts w list budget (get_or areas i d ∷ []) there → AreUnder there more → AreListStarts w list budget (take n areas) more
+  starts_more areas i n d here there more is lt h under new over = record {
+    each = λ words items b f. ⊎_elim (λ old. good_under w list budget here more words items under (h.each words items (b.0, old, b.2) f)) (λ last. good_under w list budget there more words items over (new.each words items (b.0, last, b.2) f))
         (Contains-append_cases (take i areas) (get_or areas i d ∷ []) b.0 (subst (λ (l : List Area). Contains l b.0) (take-suc areas i d lt) (subst (λ m. Contains (take m areas) b.0) is b.1)));
   }
 
-  pub start_here : (first : ℕ) (h : Hull) (more : List Hull) → first ≡ 0 → IsFirst h → AreUnder (h ∷ []) more → (words : List ℕ) (items : List Item) → BeginsAt first items → IsFront words items → IsGoodFront w list budget more words items
-  start_here first h more is known under words items b f = good_under w list budget (h ∷ []) more words items under (subst (IsGoodFront w list budget (h ∷ []) words) (sym (begins_here first items is b)) (good_start h words known))
+  pub starts_here : (area : Area) (h : Hull) (more : List Hull) → area.first ≡ 0 → IsFirst h → AreUnder (h ∷ []) more → AreListStarts w list budget (area ∷ []) more
+  starts_here area h more is known under = record {
+    each = λ words items b f.
+        good_under w list budget (h ∷ []) more words items under
+        (subst (IsGoodFront w list budget (h ∷ []) words) (sym (begins_here area.first items is (subst (λ (a : Area). BeginsAt a.first items) (sym (only_area area b.0 b.1)) b.2))) (good_start h words known));
+  }
 
-  pub start_there : (first : ℕ) (h : Hull) (hulls there more : List Hull) → hulls ≡ h ∷ [] → first ≢ 0 → IsFirst h → LeadOn w list budget IsJump hulls there → AreUnder there more → (words : List ℕ) (items : List Item) → BeginsAt first items → IsFront words items → IsGoodFront w list budget more words items
-  start_there first h hulls there more is not known on under words items b f =
-      good_under w list budget there more words items under
-      ((carries_jump w list budget first hulls there on).each words [] items (begins_there first items not b) f (subst (λ (l : List Hull). IsGoodFront w list budget l words []) (sym is) (good_start h words known)))
+  pub starts_there : (area : Area) (h : Hull) (there : List Hull) → area.first ≢ 0 → IsFirst h → LeadOn w list budget IsJump (h ∷ []) there → AreListStarts w list budget (area ∷ []) there
+  starts_there area h there not known on = record {
+    each = λ words items b f.
+        (carries_jump w list budget area.first (h ∷ []) there on).each words [] items (begins_there area.first items not (subst (λ (a : Area). BeginsAt a.first items) (sym (only_area area b.0 b.1)) b.2)) f (good_start h words known);
+  }
 
   pub starts_whole : (areas : List Area) (here : List Hull) (i : ℕ) → length areas ≤ i → AreListStarts w list budget (take i areas) here → AreListStarts w list budget areas here
   starts_whole areas here i le h = subst (λ (l : List Area). AreListStarts w list budget l here) (take_all i areas le) h

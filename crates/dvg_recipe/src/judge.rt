@@ -172,7 +172,7 @@ impl Next {
 
     /// The hulls behind a piece of this number. The first fault is noted.
     fn done(self, fault: &mut Option<RecipeFault>, piece: Option<u16>) -> Vec<Hull>
-        ensures fine { fault.new ≡ None → (self.broken ≡ None) × (fault.old ≡ None) }
+        ensures fine { IfFine fault.old fault.new (self.broken ≡ None) }
         ensures hulls { result.items ≡ self.hulls.items }
     {
         if let (None, Some(why)) = (*fault, self.broken) {
@@ -192,8 +192,7 @@ fn past_jump(
 ) -> Result<Vec<Hull>, AllocError>
     requires budget { asked.now.budget ≤ MOST_WORDS }
     requires here { AreSoundHulls here.now }
-    ensures fine { IfOk result (λ _. fault.new ≡ None → fault.old ≡ None) }
-    ensures leads { IfOk result (λ next. fault.new ≡ None → (list : List Entry) → LeadOn asked.now.window list asked.now.budget IsJump here.now next.items) }
+    ensures leads { IfOk result (λ next. IfFine fault.old fault.new ((list : List Entry) → LeadOn asked.now.window list asked.now.budget IsJump here.now next.items)) }
     ensures sound { IfOk result (λ next. AreSoundHulls next.items) }
 {
     let mut next = Next::new(alloc);
@@ -216,8 +215,7 @@ fn past_piece<E: Entries>(
     requires budget { asked.now.budget ≤ MOST_WORDS }
     requires fits { PieceFits piece.now.kind }
     requires here { AreSoundHulls here.now }
-    ensures fine { IfOk result (λ _. fault.new ≡ None → fault.old ≡ None) }
-    ensures leads { IfOk result (λ next. fault.new ≡ None → LeadOn asked.now.window (E.list entries.now) asked.now.budget (IsTaken piece.now.kind) here.now next.items) }
+    ensures leads { IfOk result (λ next. IfFine fault.old fault.new (LeadOn asked.now.window (E.list entries.now) asked.now.budget (IsTaken piece.now.kind) here.now next.items)) }
     ensures sound { IfOk result (λ next. AreSoundHulls next.items) }
 {
     let mut next = Next::new(alloc);
@@ -356,6 +354,25 @@ fn first_hull() -> Hull
     }
 }
 
+/// The hulls where a list that begins in an area begins. The first fault is noted.
+fn starts_in(
+    alloc: Global,
+    asked: &Asked,
+    fault: &mut Option<RecipeFault>,
+    area: &Area,
+) -> Result<Vec<Hull>, AllocError>
+    requires budget { asked.now.budget ≤ MOST_WORDS }
+    ensures starts { IfOk result (λ here. IfFine fault.old fault.new ((list : List Entry) → AreListStarts asked.now.window list asked.now.budget (area.now ∷ []) here.items)) }
+    ensures sound { IfOk result (λ here. AreSoundHulls here.items) }
+{
+    if area.first == 0 {
+        let mut here = Vec::new(alloc);
+        add(&mut here, &first_hull())?;
+        return Ok(here);
+    }
+    past_jump(alloc, asked, fault, None, &[first_hull()])
+}
+
 /// The hulls where lists begin. The first fault is noted.
 pub fn starts(
     alloc: Global,
@@ -364,43 +381,37 @@ pub fn starts(
     lists: &[Area],
 ) -> Result<Vec<Hull>, AllocError>
     requires budget { asked.now.budget ≤ MOST_WORDS }
-    ensures fine { IfOk result (λ _. fault.new ≡ None → fault.old ≡ None) }
-    ensures starts { IfOk result (λ here. fault.new ≡ None → (list : List Entry) → AreListStarts asked.now.window list asked.now.budget lists.now here.items) }
+    ensures starts { IfOk result (λ here. IfFine fault.old fault.new ((list : List Entry) → AreListStarts asked.now.window list asked.now.budget lists.now here.items)) }
     ensures sound { IfOk result (λ here. AreSoundHulls here.items) }
 {
-    let first = first_hull();
     let mut here = Vec::new(alloc);
     for area in lists {
-        if area.first == 0 {
-            add(&mut here, &first)?;
-        } else {
-            let there = past_jump(alloc, asked, fault, None, &[first])?;
-            add_all(&mut here, &there)?;
-        }
+        let more = starts_in(alloc, asked, fault, area)?;
+        add_all(&mut here, &more)?;
     }
     Ok(here)
 }
 
-/// The greatest counts of the lists whose HALT, of this number, stands behind these hulls. The first fault is noted.
-fn counts(asked: &Asked, fault: &mut Option<RecipeFault>, halt: u16, here: &[Hull]) -> Accepted
-    requires budget { asked.now.budget ≤ MOST_WORDS }
-    requires here { AreSoundHulls here.now }
-    ensures fine { fault.new ≡ None → fault.old ≡ None }
-    ensures few { fault.new ≡ None → result.words ≤ asked.now.budget }
-    ensures counted { (h : Hull) → Contains here.now h → IsCounted result.words result.depth h }
+/// The greatest of counts and of those of lists whose HALT stands behind a hull.
+fn counted(yes: &Accepted, hull: &Hull) -> Accepted
+    requires { IsSoundHull hull.now }
+    ensures counted { IsCounted result.words result.depth hull.now }
+    ensures more { (yes.now.words ≤ result.words) × (yes.now.depth ≤ result.depth) }
+{
+    Accepted {
+        words: yes.words.max(hull.words + 1),
+        depth: yes.depth.max(hull.depth),
+    }
+}
+
+/// The greatest counts of the lists whose HALT stands behind these hulls.
+fn counts(here: &[Hull]) -> Accepted
+    requires { AreSoundHulls here.now }
+    ensures { (h : Hull) → Contains here.now h → IsCounted result.words result.depth h }
 {
     let mut yes = Accepted { words: 0, depth: 0 };
     for hull in here {
-        yes = Accepted {
-            words: yes.words.max(hull.words + 1),
-            depth: yes.depth.max(hull.depth),
-        };
-    }
-    if yes.words > asked.budget && fault.is_none() {
-        *fault = Some(RecipeFault {
-            piece: Some(halt),
-            why: FrameWhy::Budget,
-        });
+        yes = counted(&yes, hull);
     }
     yes
 }
@@ -427,9 +438,13 @@ pub fn judge_over<E: Entries>(
     let here = starts(alloc, asked, &mut fault, recipe.lists())?;
     let here = past_part(recipe.body(), alloc, entries, asked, &mut fault, here)?;
     let here = past_jumps(alloc, entries, asked, &mut fault, recipe.jumps(), here)?;
-    let yes = counts(asked, &mut fault, recipe.halt(), &here);
+    let yes = counts(&here);
     match fault {
-        None => Ok(yes),
         Some(fault) => Err(RecipeRefusal::Breaks(fault)),
+        None if yes.words > asked.budget => Err(RecipeRefusal::Breaks(RecipeFault {
+            piece: Some(recipe.halt()),
+            why: FrameWhy::Budget,
+        })),
+        None => Ok(yes),
     }
 }

@@ -11,6 +11,6 @@ invariant-past_repeat-loop g l =
 abbrev pub invariant-past_repeat-loop-2 : goal.invariant-past_repeat-loop-2
 invariant-past_repeat-loop-2 g l =
     IfFine l.fn.fault l.fault
-        (Carries l.asked.window (g.E.Entries.list l.entries) l.asked.budget (Times l.counter (Spells l.body)) l.fn.here.items l.here.items
-        × Carries l.asked.window (g.E.Entries.list l.entries) l.asked.budget (Turns l.least l.counter (Spells l.body)) l.fn.here.items l.next.items)
+    (Carries l.asked.window (g.E.Entries.list l.entries) l.asked.budget (Times l.counter (Spells l.body)) l.fn.here.items l.here.items
+    × Carries l.asked.window (g.E.Entries.list l.entries) l.asked.budget (Turns l.least l.counter (Spells l.body)) l.fn.here.items l.next.items)
     × AreSoundHulls l.here.items × AreSoundHulls l.next.items

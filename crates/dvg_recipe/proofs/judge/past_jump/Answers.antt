@@ -27,4 +27,4 @@ loop-hull-preserved c =
 
 pub returns-clause-leads : goal.returns-clause-leads
 returns-clause-leads c =
-    λ fine list. subst (LeadOn c.args.asked.now.window list c.args.asked.now.budget IsJump c.args.here.now) (sym c.done.ensures.hulls) (lead_whole c.args.asked.now.window list c.args.asked.now.budget IsJump c.args.here.now c.loop-hull.next.hulls.items c.loop-hull.hull-index (omega (arith, c.loop-hull-test.false)) (c.loop-hull.invariant.0 list (c.done.ensures.fine fine).0))
+    λ fine. ((c.done.ensures.fine fine).0, λ list. subst (LeadOn c.args.asked.now.window list c.args.asked.now.budget IsJump c.args.here.now) (sym c.done.ensures.hulls) (lead_whole c.args.asked.now.window list c.args.asked.now.budget IsJump c.args.here.now c.loop-hull.next.hulls.items c.loop-hull.hull-index (omega (arith, c.loop-hull-test.false)) (c.loop-hull.invariant.0 list (c.done.ensures.fine fine).1)))
