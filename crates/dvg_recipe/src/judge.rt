@@ -19,6 +19,7 @@ use crate::hulls::{add, add_all};
 use crate::piece::Piece;
 use crate::recipe::{Area, Jump, Part, Recipe};
 use crate::rectangles::{is_shown, moved, places_past};
+use crate::verdict::RecipeRefusal;
 use dvg_cert::{Entries, Key, MOST_WORDS};
 use dvg_check::{Accepted, FrameWhy};
 use dvg_words::{Machine, RomImage, Window};
@@ -37,20 +38,6 @@ pub struct RecipeFault {
     /// The number of the piece. `None` if it is the jump to a list, at word 000.
     pub piece: Option<u16>,
     pub why: FrameWhy,
-}
-
-/// Why a recipe is not accepted.
-#[derive(Clone, Copy, Debug)]
-pub enum RecipeRefusal {
-    Breaks(RecipeFault),
-    /// There was no memory.
-    Memory,
-}
-
-impl From<AllocError> for RecipeRefusal {
-    fn from(_error: AllocError) -> RecipeRefusal {
-        RecipeRefusal::Memory
-    }
 }
 
 /// The hulls behind the items of a piece, and the rule of the lowest number that one of them breaks.
@@ -440,8 +427,8 @@ pub fn judge_over<E: Entries>(
     let here = past_jumps(alloc, entries, asked, &mut fault, recipe.jumps(), here)?;
     let yes = counts(&here);
     match fault {
-        Some(fault) => Err(RecipeRefusal::Breaks(fault)),
-        None if yes.words > asked.budget => Err(RecipeRefusal::Breaks(RecipeFault {
+        Some(fault) => Err(RecipeRefusal::Frame(fault)),
+        None if yes.words > asked.budget => Err(RecipeRefusal::Frame(RecipeFault {
             piece: Some(recipe.halt()),
             why: FrameWhy::Budget,
         })),

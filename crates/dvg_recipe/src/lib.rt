@@ -18,13 +18,18 @@ mod limits;
 mod piece;
 mod recipe;
 mod rectangles;
+mod roots;
 mod takes;
 #[cfg(test)]
 mod tests;
 mod tried;
+mod verdict;
 
 pub use belonging::{Leaving, NotMember, belongs};
+pub use judge::RecipeFault;
 pub use lengths::too_long;
 pub use limits::{MOST_LEVELS, MOST_LISTS, MOST_NESTED, MOST_PIECES, MOST_TURNS};
 pub use piece::{DrawRange, Piece, PieceKind, PlaceRange, Span};
 pub use recipe::{Area, Jump, Part, Recipe};
+pub use roots::Unmade;
+pub use verdict::{RecipeRefusal, RecipeYes, judge_recipe};

@@ -16,8 +16,8 @@ loop-jump-preserved g c =
     let budget = c.args.asked.now.budget in
     let lt : c.loop-jump.jump-index < length c.args.jumps.now = omega (arith, c.loop-jump-test.true) in (
       λ fine. let part = c.in_ok-here.ensures.carries fine in
-      let on = c.in_ok-there.ensures.leads part.0 in
-      let before = c.loop-jump.invariant.0 on.0 in
-      (before.0, jumps_next w list budget c.args.jumps.now c.loop-jump.jump-index (c.loop-jump.jump-index + 1) _ c.args.here.items c.loop-jump.here.items c.in_ok-there.there.items c.in_ok-here.here.items (omega arith) lt before.1 (on.1 list) part.1),
+          let on = c.in_ok-there.ensures.leads part.0 in
+          let before = c.loop-jump.invariant.0 on.0 in
+          (before.0, jumps_next w list budget c.args.jumps.now c.loop-jump.jump-index (c.loop-jump.jump-index + 1) _ c.args.here.items c.loop-jump.here.items c.in_ok-there.there.items c.in_ok-here.here.items (omega arith) lt before.1 (on.1 list) part.1),
       c.in_ok-here.ensures.sound,
     )

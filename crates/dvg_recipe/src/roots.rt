@@ -1,0 +1,217 @@
+//! The calls of a recipe, each at each scale that may be known before it: the roots of the certificate that is made for it.
+
+ghost use Rattle.std.specs.Prelude.{◌≡◌, ◌<◌, Contains};
+ghost use Rattle.dvg_words.specs.declared.map.TheConstants.{ADDRESS_END};
+ghost use Rattle.dvg_cert.specs.Entry.{IsKey};
+ghost use Rattle.dvg_recipe.specs.Limits.{PieceFits, RowFits};
+ghost use Rattle.dvg_recipe.specs.Private.Judging.{IsWithin, AreWithin};
+
+use crate::piece::{Piece, PieceKind, PlaceRange};
+use crate::recipe::{Jump, Part, Recipe};
+use crate::takes::cell_of_words;
+use dvg_cert::Key;
+use dvg_check::Keys;
+use dvg_make::{EntryFault, EntryMaker};
+use dvg_words::{Cell, Instr, RomImage};
+use indexmap::IndexMap;
+use std::alloc::{AllocError, Global};
+
+/// A call whose entry can't be made.
+#[derive(Clone, Copy, Debug)]
+pub struct Unmade {
+    /// The number of the piece.
+    pub piece: u16,
+    /// The word address that is called, and the scale that is known there.
+    pub to: u16,
+    pub scale: Key,
+    pub why: EntryFault,
+}
+
+/// Why the roots of a recipe are not known.
+#[derive(Clone, Copy, Debug)]
+pub enum RootsFault {
+    Unmade(Unmade),
+    Memory,
+}
+
+impl From<AllocError> for RootsFault {
+    fn from(_error: AllocError) -> RootsFault {
+        RootsFault::Memory
+    }
+}
+
+/// The roots so far.
+#[derive(Drop)]
+pub struct Roots<'a> {
+    maker: EntryMaker<'a>,
+    asked: Vec<(u16, Key)>,
+    /// The scales behind the calls of a piece, for each scale before it at which they are made.
+    behind: IndexMap<(u16, Key), Keys>,
+}
+
+/// The scales of a set.
+fn keys_of(scales: &[bool; 16]) -> Keys {
+    let mut keys = Keys::NONE;
+    for scale in 0..16u8 {
+        if scales[usize::from(scale)] {
+            keys = keys.with(Keys::one(Key::At(scale)));
+        }
+    }
+    keys
+}
+
+impl<'a> Roots<'a> {
+    /// No root so far.
+    pub fn new(alloc: Global, rom: &'a RomImage<'a>) -> Roots<'a> {
+        Roots {
+            maker: EntryMaker::new(alloc, rom),
+            asked: Vec::new(alloc),
+            behind: IndexMap::new(alloc),
+        }
+    }
+
+    /// Adds a root.
+    fn note(&mut self, to: u16, scale: Key) -> Result<(), AllocError> {
+        self.asked.push((to, scale))?;
+        Ok(())
+    }
+
+    /// Keeps the scales behind the calls of a piece.
+    fn keep(&mut self, piece: u16, scale: Key, next: Keys) -> Result<(), AllocError> {
+        self.behind.insert((piece, scale), next)?;
+        Ok(())
+    }
+
+    /// Makes the entries of the shapes at these word addresses, called at a scale: the scales at their ends.
+    fn make_all(&mut self, piece: u16, targets: &[u16], scale: Key) -> Result<Keys, RootsFault>
+        requires near { (to : ℕ) → Contains targets.now to → to < ADDRESS_END }
+        requires key { IsKey scale }
+    {
+        let mut next = Keys::NONE;
+        for &to in targets {
+            match self.maker.entry(to, scale) {
+                Ok(entry) => next = next.with(Keys::one(entry.scale)),
+                Err(EntryFault::Memory) => return Err(RootsFault::Memory),
+                Err(why) => {
+                    return Err(RootsFault::Unmade(Unmade {
+                        piece,
+                        to,
+                        scale,
+                        why,
+                    }));
+                }
+            }
+            self.note(to, scale)?;
+        }
+        Ok(next)
+    }
+
+    /// The scales behind calls of a piece, at one scale before it.
+    fn past_calls(&mut self, piece: u16, targets: &[u16], scale: Key) -> Result<Keys, RootsFault>
+        requires near { (to : ℕ) → Contains targets.now to → to < ADDRESS_END }
+        requires key { IsKey scale }
+    {
+        if let Some(next) = self.behind.get(&(piece, scale)) {
+            return Ok(*next);
+        }
+        let next = self.make_all(piece, targets, scale)?;
+        self.keep(piece, scale, next)?;
+        Ok(next)
+    }
+
+    /// The scales behind the items of a piece, at one scale before it.
+    fn past_scale(&mut self, piece: &Piece, scale: Key) -> Result<Keys, RootsFault>
+        requires fits { PieceFits piece.now.kind }
+        requires key { IsKey scale }
+    {
+        match &piece.kind {
+            PieceKind::Place(range) => Ok(keys_of(&range.scales)),
+            PieceKind::Call(targets) => self.past_calls(piece.number, targets, scale),
+            PieceKind::Draw(_) => Ok(Keys::one(scale)),
+            PieceKind::Fixed { first, second } => match cell_of_words(*first, *second) {
+                Cell::Holds {
+                    instr: Instr::Labs { gscale, .. },
+                    ..
+                } => Ok(Keys::one(Key::At(gscale))),
+                Cell::Holds {
+                    instr: Instr::Jsrl { to },
+                    ..
+                } => self.past_calls(piece.number, &[to], scale),
+                _ => Ok(Keys::one(scale)),
+            },
+        }
+    }
+
+    /// The scales behind the items of a piece.
+    pub fn past_piece(&mut self, piece: &Piece, here: Keys) -> Result<Keys, RootsFault>
+        requires fits { PieceFits piece.now.kind }
+    {
+        let mut left = here;
+        let mut next = Keys::NONE;
+        while let Some(scale) = left.take_first() {
+            next = next.with(self.past_scale(piece, scale)?);
+        }
+        Ok(next)
+    }
+}
+
+/// The scales behind the items of a part.
+#[cycle(keys_past)]
+pub fn keys_past(part: &Part, roots: &mut Roots, here: Keys) -> Result<Keys, RootsFault>
+    requires fits { IsWithin part.now }
+{
+    match part {
+        Part::Row(row) => {
+            let mut here = here;
+            for piece in row {
+                here = roots.past_piece(piece, here)?;
+            }
+            Ok(here)
+        }
+        Part::Then(first, second) => {
+            let between = keys_past(first, roots, here)?;
+            keys_past(second, roots, between)
+        }
+        Part::Either(one, other) => {
+            let next = keys_past(one, roots, here)?;
+            Ok(next.with(keys_past(other, roots, here)?))
+        }
+        Part::Repeat { least, most, body } => repeat_past(body, roots, *least, *most, here),
+    }
+}
+
+/// The scales behind `least` to `most` turns of a part.
+#[cycle(keys_past)]
+fn repeat_past(
+    body: &Part,
+    roots: &mut Roots,
+    least: u16,
+    most: u16,
+    here: Keys,
+) -> Result<Keys, RootsFault>
+    requires fits { IsWithin body.now }
+{
+    let mut here = here;
+    let mut next = if least == 0 { here } else { Keys::NONE };
+    for turn in 1..=most {
+        here = keys_past(body, roots, here)?;
+        if turn >= least {
+            next = next.with(here);
+        }
+    }
+    Ok(next)
+}
+
+/// The roots of a recipe over a ROM, in the order in which they are met, the pieces in the order of reading with repeats written out.
+pub fn roots_of(
+    alloc: Global,
+    rom: &RomImage,
+    recipe: &Recipe,
+) -> Result<Vec<(u16, Key)>, RootsFault> {
+    let mut roots = Roots::new(alloc, rom);
+    let mut here = keys_past(recipe.body(), &mut roots, Keys::one(Key::Any))?;
+    for jump in recipe.jumps() {
+        here = keys_past(&jump.body, &mut roots, here)?;
+    }
+    Ok(roots.asked)
+}

@@ -1,0 +1,97 @@
+//! The verdict on all frames of a recipe, by the certificate that is made for their calls.
+
+ghost use Rattle.std.specs.Prelude.{◌≡◌, ◌≤◌, IfOk};
+ghost use Rattle.dvg_words.specs.declared.machine.Machine.TheVariants.{Board};
+ghost use Rattle.dvg_cert.specs.declared.limits.TheConstants.{MOST_WORDS};
+ghost use Rattle.dvg_recipe.specs.Means.{AllMean};
+ghost use Rattle.dvg_recipe.specs.Lengths.{FitsAreas};
+
+use crate::judge::{Asked, RecipeFault, judge_over};
+use crate::lengths::too_long;
+use crate::recipe::Recipe;
+use crate::roots::{RootsFault, Unmade, roots_of};
+use dvg_cert::HashIndex;
+use dvg_check::{JudgedShapes, Mode, ShapeFault};
+use dvg_make::make;
+use dvg_words::{RomImage, Window};
+use std::alloc::{AllocError, Global};
+
+/// What an accepted recipe's frames take at most.
+#[derive(Clone, Copy, Debug, PartialEq, Eq)]
+pub struct RecipeYes {
+    /// The number of entries of the certificate that is made for all calls of the recipe.
+    pub shapes: u32,
+    pub words: u32,
+    pub depth: u8,
+}
+
+/// Why a recipe is not accepted.
+#[derive(Clone, Copy, Debug)]
+pub enum RecipeRefusal {
+    /// 57: the longest list passes the end of its area at this piece.
+    TooLong { piece: u16 },
+    /// 60 to 62: the entry of a call can't be made.
+    Make(Unmade),
+    /// 25: a shape that the recipe calls lights outside the window.
+    Shape(ShapeFault),
+    /// 44 to 48: some frame breaks a rule.
+    Frame(RecipeFault),
+    /// There was no memory.
+    Memory,
+}
+
+impl From<AllocError> for RecipeRefusal {
+    fn from(_error: AllocError) -> RecipeRefusal {
+        RecipeRefusal::Memory
+    }
+}
+
+impl From<RootsFault> for RecipeRefusal {
+    fn from(fault: RootsFault) -> RecipeRefusal {
+        match fault {
+            RootsFault::Unmade(unmade) => RecipeRefusal::Make(unmade),
+            RootsFault::Memory => RecipeRefusal::Memory,
+        }
+    }
+}
+
+/// Judges all frames of a recipe over a vector ROM on the board, by the certificate that is made for all that they call.
+///
+/// `budget` is how many words a frame may take at most, up to 1,000,000, `window` where strokes may be lit. Where it answers words and
+/// depth, each frame of the recipe is safe, as [`check_parts_exact`](dvg_check::check_parts_exact) says, with counts of its own that
+/// are no greater. Else it answers the first of these: 57 if the longest list doesn't fit, 60 to 62 for the first call whose entry can't
+/// be made, 25 for the first made shape that lights outside the window, and 44 to 48 for the first piece at which some frame breaks a
+/// rule, the pieces in the order of reading with repeats written out, and of the rules there the one of the lowest number. That a recipe
+/// is refused only where one of its frames is, and that the words and the depth are those of one of its frames, is only tested. Takes
+/// memory for the certificate and its making.
+pub fn judge_recipe(
+    alloc: Global,
+    rom: &RomImage,
+    recipe: &Recipe,
+    budget: u32,
+    window: Window,
+) -> Result<RecipeYes, RecipeRefusal>
+    requires budget { budget ≤ MOST_WORDS }
+    requires board { rom.now.machine ≡ Board }
+    ensures means { IfOk result (λ yes. AllMean rom.now recipe.now window yes.words yes.depth) }
+    ensures fits { IfOk result (λ yes. FitsAreas recipe.now) }
+{
+    if let Some(piece) = too_long(recipe) {
+        return Err(RecipeRefusal::TooLong { piece });
+    }
+    let roots = roots_of(alloc, rom, recipe)?;
+    let Ok(cert) = make(alloc, rom, &roots) else {
+        // Each of these entries was made before.
+        return Err(RecipeRefusal::Memory);
+    };
+    let entries = HashIndex::new(alloc, &cert)?;
+    if let Err(fault) = JudgedShapes::judge(rom, &cert, &entries, window, Mode::Exact) {
+        return Err(RecipeRefusal::Shape(fault));
+    }
+    let yes = judge_over(alloc, rom, &entries, &Asked { budget, window }, recipe)?;
+    Ok(RecipeYes {
+        shapes: cert.entries().len() as u32,
+        words: yes.words,
+        depth: yes.depth,
+    })
+}
