@@ -403,6 +403,27 @@ fn counts(here: &[Hull]) -> Accepted
     yes
 }
 
+/// Counts, if there is no fault, and they are within the budget.
+fn accepted(
+    asked: &Asked,
+    halt: u16,
+    fault: Option<RecipeFault>,
+    yes: Accepted,
+) -> Result<Accepted, RecipeRefusal>
+    ensures { IfOk result (λ answer. (fault ≡ None) × (answer ≡ yes) × (yes.words ≤ asked.now.budget)) }
+{
+    if let Some(fault) = fault {
+        return Err(RecipeRefusal::Frame(fault));
+    }
+    if yes.words > asked.budget {
+        return Err(RecipeRefusal::Frame(RecipeFault {
+            piece: Some(halt),
+            why: FrameWhy::Budget,
+        }));
+    }
+    Ok(yes)
+}
+
 /// Judges all frames of a recipe at once over a ROM on the board, whose shapes are good by these entries: the greatest counts of its
 /// frames, or the first fault of one of them.
 pub fn judge_over<E: Entries>(
@@ -425,13 +446,5 @@ pub fn judge_over<E: Entries>(
     let here = starts(alloc, asked, &mut fault, recipe.lists())?;
     let here = past_part(recipe.body(), alloc, entries, asked, &mut fault, here)?;
     let here = past_jumps(alloc, entries, asked, &mut fault, recipe.jumps(), here)?;
-    let yes = counts(&here);
-    match fault {
-        Some(fault) => Err(RecipeRefusal::Frame(fault)),
-        None if yes.words > asked.budget => Err(RecipeRefusal::Frame(RecipeFault {
-            piece: Some(recipe.halt()),
-            why: FrameWhy::Budget,
-        })),
-        None => Ok(yes),
-    }
+    accepted(asked, recipe.halt(), fault, counts(&here))
 }

@@ -1,6 +1,6 @@
 //! The calls of a recipe, each at each scale that may be known before it: the roots of the certificate that is made for it.
 
-ghost use Rattle.std.specs.Prelude.{◌≡◌, ◌<◌, Contains};
+ghost use Rattle.std.specs.Prelude.{◌≡◌, ◌<◌, ℕ, Contains};
 ghost use Rattle.dvg_words.specs.declared.map.TheConstants.{ADDRESS_END};
 ghost use Rattle.dvg_cert.specs.Entry.{IsKey};
 ghost use Rattle.dvg_recipe.specs.Limits.{PieceFits, RowFits};

@@ -10,8 +10,8 @@ use crate::judge::{Asked, RecipeFault, judge_over};
 use crate::lengths::too_long;
 use crate::recipe::Recipe;
 use crate::roots::{RootsFault, Unmade, roots_of};
-use dvg_cert::HashIndex;
-use dvg_check::{JudgedShapes, Mode, ShapeFault};
+use dvg_cert::{Cert, HashIndex};
+use dvg_check::{Accepted, ShapeFault, check_shapes_exact};
 use dvg_make::make;
 use dvg_words::{RomImage, Window};
 use std::alloc::{AllocError, Global};
@@ -46,6 +46,12 @@ impl From<AllocError> for RecipeRefusal {
     }
 }
 
+impl From<ShapeFault> for RecipeRefusal {
+    fn from(fault: ShapeFault) -> RecipeRefusal {
+        RecipeRefusal::Shape(fault)
+    }
+}
+
 impl From<RootsFault> for RecipeRefusal {
     fn from(fault: RootsFault) -> RecipeRefusal {
         match fault {
@@ -53,6 +59,26 @@ impl From<RootsFault> for RecipeRefusal {
             RootsFault::Memory => RecipeRefusal::Memory,
         }
     }
+}
+
+/// Judges the shapes of a certificate, and by it all frames of a recipe.
+fn judge_by(
+    alloc: Global,
+    rom: &RomImage,
+    cert: &Cert,
+    asked: &Asked,
+    recipe: &Recipe,
+) -> Result<Accepted, RecipeRefusal>
+    requires budget { asked.now.budget ≤ MOST_WORDS }
+    requires map { rom.now.map ≡ cert.now.map }
+    requires board { rom.now.machine ≡ Board }
+    ensures { IfOk result (λ yes. AllMean rom.now recipe.now asked.now.window yes.words yes.depth) }
+{
+    // Its clause says that the list is that of a certificate.
+    let _entries = cert.entries();
+    let entries = HashIndex::new(alloc, cert)?;
+    check_shapes_exact(rom, cert, &entries, &asked.window)?;
+    judge_over(alloc, rom, &entries, asked, recipe)
 }
 
 /// Judges all frames of a recipe over a vector ROM on the board, by the certificate that is made for all that they call.
@@ -84,11 +110,7 @@ pub fn judge_recipe(
         // Each of these entries was made before.
         return Err(RecipeRefusal::Memory);
     };
-    let entries = HashIndex::new(alloc, &cert)?;
-    if let Err(fault) = JudgedShapes::judge(rom, &cert, &entries, window, Mode::Exact) {
-        return Err(RecipeRefusal::Shape(fault));
-    }
-    let yes = judge_over(alloc, rom, &entries, &Asked { budget, window }, recipe)?;
+    let yes = judge_by(alloc, rom, &cert, &Asked { budget, window }, recipe)?;
     Ok(RecipeYes {
         shapes: cert.entries().len() as u32,
         words: yes.words,
