@@ -2,14 +2,15 @@
 
 ghost use Rattle.std.specs.Prelude.{◌≡◌, ◌<◌, ℕ, Contains};
 ghost use Rattle.dvg_words.specs.declared.map.TheConstants.{ADDRESS_END};
+ghost use Rattle.dvg_words.specs.Decoding.{InstrFits};
 ghost use Rattle.dvg_cert.specs.Entry.{IsKey};
 ghost use Rattle.dvg_recipe.specs.Limits.{PieceFits, RowFits};
-ghost use Rattle.dvg_recipe.specs.Private.Judging.{IsWithin, AreWithin};
+ghost use Rattle.dvg_recipe.specs.Private.Judging.{IsWithin};
 
-use crate::piece::{Piece, PieceKind, PlaceRange};
-use crate::recipe::{Jump, Part, Recipe};
+use crate::piece::{Piece, PieceKind};
+use crate::recipe::{Part, Recipe};
 use crate::takes::cell_of_words;
-use dvg_cert::Key;
+use dvg_cert::{Key, is_key};
 use dvg_check::Keys;
 use dvg_make::{EntryFault, EntryMaker};
 use dvg_words::{Cell, Instr, RomImage};
@@ -42,7 +43,7 @@ impl From<AllocError> for RootsFault {
 
 /// The roots so far.
 #[derive(Drop)]
-pub struct Roots<'a> {
+struct Roots<'a> {
     maker: EntryMaker<'a>,
     asked: Vec<(u16, Key)>,
     /// The scales behind the calls of a piece, for each scale before it at which they are made.
@@ -60,9 +61,18 @@ fn keys_of(scales: &[bool; 16]) -> Keys {
     keys
 }
 
+/// The set of one scale.
+fn only(scale: Key) -> Keys {
+    if is_key(scale) {
+        Keys::one(scale)
+    } else {
+        Keys::NONE
+    }
+}
+
 impl<'a> Roots<'a> {
     /// No root so far.
-    pub fn new(alloc: Global, rom: &'a RomImage<'a>) -> Roots<'a> {
+    fn new(alloc: Global, rom: &'a RomImage<'a>) -> Roots<'a> {
         Roots {
             maker: EntryMaker::new(alloc, rom),
             asked: Vec::new(alloc),
@@ -90,7 +100,7 @@ impl<'a> Roots<'a> {
         let mut next = Keys::NONE;
         for &to in targets {
             match self.maker.entry(to, scale) {
-                Ok(entry) => next = next.with(Keys::one(entry.scale)),
+                Ok(entry) => next = next.with(only(entry.scale)),
                 Err(EntryFault::Memory) => return Err(RootsFault::Memory),
                 Err(why) => {
                     return Err(RootsFault::Unmade(Unmade {
@@ -119,6 +129,18 @@ impl<'a> Roots<'a> {
         Ok(next)
     }
 
+    /// The scales behind an instruction of a piece, at one scale before it.
+    fn past_instr(&mut self, piece: u16, instr: &Instr, scale: Key) -> Result<Keys, RootsFault>
+        requires fits { InstrFits instr.now }
+        requires key { IsKey scale }
+    {
+        match *instr {
+            Instr::Labs { gscale, .. } => Ok(Keys::one(Key::At(gscale))),
+            Instr::Jsrl { to } => self.past_calls(piece, &[to], scale),
+            _ => Ok(Keys::one(scale)),
+        }
+    }
+
     /// The scales behind the items of a piece, at one scale before it.
     fn past_scale(&mut self, piece: &Piece, scale: Key) -> Result<Keys, RootsFault>
         requires fits { PieceFits piece.now.kind }
@@ -129,21 +151,14 @@ impl<'a> Roots<'a> {
             PieceKind::Call(targets) => self.past_calls(piece.number, targets, scale),
             PieceKind::Draw(_) => Ok(Keys::one(scale)),
             PieceKind::Fixed { first, second } => match cell_of_words(*first, *second) {
-                Cell::Holds {
-                    instr: Instr::Labs { gscale, .. },
-                    ..
-                } => Ok(Keys::one(Key::At(gscale))),
-                Cell::Holds {
-                    instr: Instr::Jsrl { to },
-                    ..
-                } => self.past_calls(piece.number, &[to], scale),
-                _ => Ok(Keys::one(scale)),
+                Cell::Holds { instr, .. } => self.past_instr(piece.number, &instr, scale),
+                Cell::Missing | Cell::Odd => Ok(Keys::one(scale)),
             },
         }
     }
 
     /// The scales behind the items of a piece.
-    pub fn past_piece(&mut self, piece: &Piece, here: Keys) -> Result<Keys, RootsFault>
+    fn past_piece(&mut self, piece: &Piece, here: Keys) -> Result<Keys, RootsFault>
         requires fits { PieceFits piece.now.kind }
     {
         let mut left = here;
@@ -153,21 +168,26 @@ impl<'a> Roots<'a> {
         }
         Ok(next)
     }
+
+    /// The scales behind the items of a row.
+    fn past_row(&mut self, row: &[Piece], here: Keys) -> Result<Keys, RootsFault>
+        requires fits { RowFits row.now }
+    {
+        let mut here = here;
+        for piece in row {
+            here = self.past_piece(piece, here)?;
+        }
+        Ok(here)
+    }
 }
 
 /// The scales behind the items of a part.
 #[cycle(keys_past)]
-pub fn keys_past(part: &Part, roots: &mut Roots, here: Keys) -> Result<Keys, RootsFault>
+fn keys_past(part: &Part, roots: &mut Roots, here: Keys) -> Result<Keys, RootsFault>
     requires fits { IsWithin part.now }
 {
     match part {
-        Part::Row(row) => {
-            let mut here = here;
-            for piece in row {
-                here = roots.past_piece(piece, here)?;
-            }
-            Ok(here)
-        }
+        Part::Row(row) => roots.past_row(row, here),
         Part::Then(first, second) => {
             let between = keys_past(first, roots, here)?;
             keys_past(second, roots, between)

@@ -2,7 +2,7 @@
 
 ghost use Rattle.std.specs.Prelude.{◌≡◌, ◌↔◌, Some, IsTrue, pos, true, get_or, false};
 ghost use Rattle.dvg_words.specs.Beam.{signed_field};
-ghost use Rattle.dvg_words.specs.Decoding.{cell_of_words};
+ghost use Rattle.dvg_words.specs.Decoding.{CellFits, cell_of_words};
 ghost use Rattle.dvg_words.specs.declared.machine.Machine.TheVariants.{Board};
 ghost use Rattle.dvg_recipe.specs.Recipes.{IsInSpan, TakesPlace, TakesCall, TakesDraw, Takes};
 ghost use Rattle.dvg_words.specs.declared.instruction.Cell.TheVariants.{Holds};
@@ -83,7 +83,8 @@ fn is_format(format: Format, other: Format) -> bool
 
 /// What two words are on the board. A short instruction ignores the second.
 pub fn cell_of_words(first: u16, second: u16) -> Cell
-    ensures { result ≡ cell_of_words Board (Some first) (Some second) }
+    ensures value { result ≡ cell_of_words Board (Some first) (Some second) }
+    ensures fields { CellFits result }
 {
     let (format, second) = if is_long(first) {
         (Format::Long, second)
