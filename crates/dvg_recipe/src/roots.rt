@@ -5,10 +5,10 @@ ghost use Rattle.dvg_words.specs.declared.map.TheConstants.{ADDRESS_END};
 ghost use Rattle.dvg_words.specs.Decoding.{InstrFits};
 ghost use Rattle.dvg_cert.specs.Entry.{IsKey};
 ghost use Rattle.dvg_recipe.specs.Limits.{PieceFits, RowFits};
-ghost use Rattle.dvg_recipe.specs.Private.Judging.{IsWithin};
+ghost use Rattle.dvg_recipe.specs.Private.Judging.{IsWithin, AreWithin};
 
 use crate::piece::{Piece, PieceKind};
-use crate::recipe::{Part, Recipe};
+use crate::recipe::{Jump, Part, Recipe};
 use crate::takes::cell_of_words;
 use dvg_cert::{Key, is_key};
 use dvg_check::Keys;
@@ -30,7 +30,7 @@ pub struct Unmade {
 
 /// Why the roots of a recipe are not known.
 #[derive(Clone, Copy, Debug)]
-pub enum RootsFault {
+enum RootsFault {
     Unmade(Unmade),
     Memory,
 }
@@ -222,16 +222,41 @@ fn repeat_past(
     Ok(next)
 }
 
-/// The roots of a recipe over a ROM, in the order in which they are met, the pieces in the order of reading with repeats written out.
-pub fn roots_of(
-    alloc: Global,
-    rom: &RomImage,
-    recipe: &Recipe,
-) -> Result<Vec<(u16, Key)>, RootsFault> {
-    let mut roots = Roots::new(alloc, rom);
-    let mut here = keys_past(recipe.body(), &mut roots, Keys::one(Key::Any))?;
-    for jump in recipe.jumps() {
-        here = keys_past(&jump.body, &mut roots, here)?;
+/// The scales behind jumps and their parts.
+fn jumps_past(jumps: &[Jump], roots: &mut Roots, here: Keys) -> Result<Keys, RootsFault>
+    requires fits { AreWithin jumps.now }
+{
+    let mut here = here;
+    for jump in jumps {
+        here = keys_past(&jump.body, roots, here)?;
     }
-    Ok(roots.asked)
+    Ok(here)
+}
+
+/// The scales behind all items of a recipe.
+fn recipe_past(recipe: &Recipe, roots: &mut Roots) -> Result<Keys, RootsFault> {
+    let here = keys_past(recipe.body(), roots, Keys::one(Key::Any))?;
+    jumps_past(recipe.jumps(), roots, here)
+}
+
+/// The roots of a recipe, and the call at which they end if its entry can't be made.
+#[derive(Drop)]
+pub struct RecipeRoots {
+    pub asked: Vec<(u16, Key)>,
+    pub unmade: Option<Unmade>,
+}
+
+/// The roots of a recipe over a ROM, in the order in which they are met, the pieces in the order of reading with repeats written out.
+/// `None` if there was no memory.
+pub fn roots_of(alloc: Global, rom: &RomImage, recipe: &Recipe) -> Option<RecipeRoots> {
+    let mut roots = Roots::new(alloc, rom);
+    let unmade = match recipe_past(recipe, &mut roots) {
+        Ok(_) => None,
+        Err(RootsFault::Unmade(unmade)) => Some(unmade),
+        Err(RootsFault::Memory) => return None,
+    };
+    Some(RecipeRoots {
+        asked: roots.asked,
+        unmade,
+    })
 }

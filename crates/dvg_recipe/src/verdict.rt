@@ -9,7 +9,7 @@ ghost use Rattle.dvg_recipe.specs.Lengths.{FitsAreas};
 use crate::judge::{Asked, RecipeFault, judge_over};
 use crate::lengths::too_long;
 use crate::recipe::Recipe;
-use crate::roots::{RootsFault, Unmade, roots_of};
+use crate::roots::{Unmade, roots_of};
 use dvg_cert::{Cert, HashIndex};
 use dvg_check::{Accepted, ShapeFault, check_shapes_exact};
 use dvg_make::make;
@@ -49,15 +49,6 @@ impl From<AllocError> for RecipeRefusal {
 impl From<ShapeFault> for RecipeRefusal {
     fn from(fault: ShapeFault) -> RecipeRefusal {
         RecipeRefusal::Shape(fault)
-    }
-}
-
-impl From<RootsFault> for RecipeRefusal {
-    fn from(fault: RootsFault) -> RecipeRefusal {
-        match fault {
-            RootsFault::Unmade(unmade) => RecipeRefusal::Make(unmade),
-            RootsFault::Memory => RecipeRefusal::Memory,
-        }
     }
 }
 
@@ -105,8 +96,13 @@ pub fn judge_recipe(
     if let Some(piece) = too_long(recipe) {
         return Err(RecipeRefusal::TooLong { piece });
     }
-    let roots = roots_of(alloc, rom, recipe)?;
-    let Ok(cert) = make(alloc, rom, &roots) else {
+    let Some(roots) = roots_of(alloc, rom, recipe) else {
+        return Err(RecipeRefusal::Memory);
+    };
+    if let Some(unmade) = roots.unmade {
+        return Err(RecipeRefusal::Make(unmade));
+    }
+    let Ok(cert) = make(alloc, rom, &roots.asked) else {
         // Each of these entries was made before.
         return Err(RecipeRefusal::Memory);
     };

@@ -10,5 +10,5 @@ returns c =
     let items = c.args.items.now in
     recipe_those recipe items c.in_ok-here.here.items c.in_ok-here-2.here.items c.in_ok-here-3.here.items
     (those_of c.lists.result.now recipe.lists items c.in_ok-here.here.items c.lists.ensures c.in_ok-here.ensures)
-    (part_to c.body.result.now recipe.body items c.in_ok-here.here.items c.in_ok-here-2.here.items c.body.ensures c.in_ok-here-2.ensures)
-    (subst (λ (l : List Jump). IsPast (JumpsLead l items) c.in_ok-here-2.here.items c.in_ok-here-3.here.items) c.jumps.ensures c.in_ok-here-3.ensures)
+    (part_to c.body.result.now recipe.body items c.in_ok-here.here.items c.in_ok-here-2.here.items c.body.ensures.value c.in_ok-here-2.ensures)
+    (subst (λ (l : List Jump). IsPast (JumpsLead l items) c.in_ok-here-2.here.items c.in_ok-here-3.here.items) c.jumps.ensures.value c.in_ok-here-3.ensures)
