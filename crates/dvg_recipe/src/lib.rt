@@ -24,6 +24,8 @@ mod takes;
 mod tests;
 mod tried;
 mod verdict;
+#[cfg(test)]
+mod verdict_tests;
 
 pub use belonging::{Leaving, NotMember, belongs};
 pub use judge::RecipeFault;

@@ -151,7 +151,7 @@ const ROWS: &[Row] = &[
 ];
 
 /// The bytes of vector RAM with these words, and zeros elsewhere.
-fn frame_bytes(parts: &[Words]) -> [u8; 2048] {
+pub fn frame_bytes(parts: &[Words]) -> [u8; 2048] {
     let mut bytes = [0; 2048];
     for &(addr, words) in parts {
         let mut at = 2 * (addr % 0x400);

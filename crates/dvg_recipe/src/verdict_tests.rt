@@ -1,0 +1,1889 @@
+//! What [`judge_recipe`] answers on recipes, with the answers that a program in Python, written apart from this one, gave.
+
+use crate::tests::{
+    Words, call, draw, either, expect_same, fixed, frame_bytes, pair, repeat, row, span,
+};
+use crate::{
+    Area, Jump, Part, PieceKind, PlaceRange, Recipe, RecipeRefusal, RecipeYes, judge_recipe,
+};
+use Step::{Call, Either, Fixed, Place, Repeat, Svec, Then, Vctr};
+use dvg_cert::{Key, MOST_WORDS};
+use dvg_make::EntryFault;
+use dvg_words::{ASTEROIDS, CLIPPED, Format, Machine, RomImage, SCREEN, Window};
+use std::alloc::{AllocError, Global};
+use std::process::Abort;
+
+/// The least and the greatest of a range.
+type Ends = (i16, i16);
+
+/// A step by which a part is put together, over a stack of parts.
+#[derive(Clone, Copy, Debug)]
+enum Step<'a> {
+    /// Pushes a LABS to a place from X to X and from Y to Y, at these scales.
+    Place(Ends, Ends, &'a [u8]),
+    /// Pushes a JSRL to one of these word addresses.
+    Call(&'a [u16]),
+    /// Pushes a VCTR of a local scale, with sizes across and up, and intensities.
+    Vctr(u8, Ends, Ends, Ends),
+    /// Pushes an SVEC, the same.
+    Svec(u8, Ends, Ends, Ends),
+    /// Pushes the instruction of these words.
+    Fixed(u16, u16),
+    /// Puts the two parts on top one behind the other.
+    Then,
+    /// Makes branches of the two parts on top.
+    Either,
+    /// Repeats the part on top, at least and at most so many times.
+    Repeat(u16, u16),
+}
+
+/// Where strokes may be lit.
+#[derive(Clone, Copy, Debug)]
+enum Shown {
+    Screen,
+    Clipped,
+    /// From X to X and from Y to Y.
+    Part(u16, u16, u16, u16),
+}
+
+/// What is told of a recipe.
+#[derive(Clone, Copy, Debug, PartialEq, Eq)]
+enum Told {
+    /// Shapes, words and depth.
+    Yes(u32, u32, u8),
+    /// The piece at which the longest list passes the end of its area.
+    TooLong(u16),
+    /// The piece of a call, the word address and the scale that it asks for, and why their entry can't be made.
+    Unmade(u16, u16, Key, EntryFault),
+    /// The number of a rule of shapes, the shape, and the word at which it breaks it.
+    Shape(u8, u16, Key, u16),
+    /// The piece at which a frame breaks a rule, and the number of the rule. No piece is the jump to a list.
+    Frame(Option<u16>, u8),
+    Memory,
+}
+
+/// A recipe, how many words its frames may take, where they may light, and what is told of it.
+struct Row<'a> {
+    /// The first and the last word of each list's area.
+    lists: &'a [(u16, u16)],
+    /// What stands in a list: the parts that these steps leave, one behind the other.
+    body: &'a [Step<'a>],
+    /// The first and the last word of each jump's area, with what stands there.
+    jumps: &'a [((u16, u16), &'a [Step<'a>])],
+    budget: u32,
+    window: Shown,
+    told: Told,
+}
+
+/// A row of one list at 000, with no jump, and 20,000 words for the whole screen.
+const PLAIN: Row = Row {
+    lists: &[(0x000, 0x0FF)],
+    body: &[],
+    jumps: &[],
+    budget: 20_000,
+    window: Shown::Screen,
+    told: Told::Memory,
+};
+
+/// Parts, the last one on top, and the number of the piece that comes next.
+#[derive(Drop)]
+struct Stack {
+    alloc: Global,
+    parts: Vec<Part>,
+    next: u16,
+}
+
+/// The first part, and behind it the second: one row, if both are rows.
+fn joined(alloc: Global, first: Part, second: Part) -> Result<Part, AllocError> {
+    match (first, second) {
+        (Part::Row(mut row), Part::Row(more)) => {
+            for piece in more {
+                row.push(piece)?;
+            }
+            Ok(Part::Row(row))
+        }
+        (first, second) => pair(alloc, first, second),
+    }
+}
+
+/// The set of these scales.
+fn set_of(scales: &[u8]) -> [bool; 16] {
+    let mut set = [false; 16];
+    for &scale in scales {
+        set[usize::from(scale % 16)] = true;
+    }
+    set
+}
+
+impl Stack {
+    /// No part, and no piece so far.
+    fn new(alloc: Global) -> Stack {
+        let parts = Vec::new(alloc);
+        Stack {
+            alloc,
+            parts,
+            next: 0,
+        }
+    }
+
+    /// The number of the next piece.
+    fn number(&mut self) -> u16 {
+        let number = self.next;
+        self.next = number.saturating_add(1);
+        number
+    }
+
+    /// Takes the part on top. Without any it is an empty row.
+    fn take(&mut self) -> Part {
+        match self.parts.pop() {
+            Some(part) => part,
+            None => Part::Row(Vec::new(self.alloc)),
+        }
+    }
+
+    /// Pushes a row of one piece.
+    fn push(&mut self, kind: PieceKind) -> Result<(), AllocError> {
+        let number = self.number();
+        self.parts.push(row(self.alloc, number, kind)?)?;
+        Ok(())
+    }
+
+    /// Pushes draws of a format.
+    fn push_draw(
+        &mut self,
+        format: Format,
+        lscale: u8,
+        sizes: (Ends, Ends),
+        bright: Ends,
+    ) -> Result<(), AllocError> {
+        let (dx, dy) = sizes;
+        let sizes = (span(dx.0, dx.1), span(dy.0, dy.1));
+        self.push(draw(format, lscale, sizes, span(bright.0, bright.1)))
+    }
+
+    /// Pushes places.
+    fn push_place(&mut self, x: Ends, y: Ends, scales: &[u8]) -> Result<(), AllocError> {
+        self.push(PieceKind::Place(PlaceRange {
+            x: span(x.0, x.1),
+            y: span(y.0, y.1),
+            scales: set_of(scales),
+        }))
+    }
+
+    /// Puts the two parts on top one behind the other.
+    fn join(&mut self) -> Result<(), AllocError> {
+        let second = self.take();
+        let first = self.take();
+        self.parts.push(joined(self.alloc, first, second)?)?;
+        Ok(())
+    }
+
+    /// Makes branches of the two parts on top.
+    fn branch(&mut self) -> Result<(), AllocError> {
+        let other = self.take();
+        let one = self.take();
+        self.parts.push(either(self.alloc, one, other)?)?;
+        Ok(())
+    }
+
+    /// Repeats the part on top.
+    fn turn(&mut self, least: u16, most: u16) -> Result<(), AllocError> {
+        let body = self.take();
+        self.parts.push(repeat(self.alloc, least, most, body)?)?;
+        Ok(())
+    }
+
+    /// Takes a step.
+    fn step(&mut self, step: &Step) -> Result<(), AllocError> {
+        match *step {
+            Step::Place(x, y, scales) => self.push_place(x, y, scales),
+            Step::Call(targets) => self.push(call(self.alloc, targets)?),
+            Step::Vctr(lscale, dx, dy, bright) => {
+                self.push_draw(Format::Long, lscale, (dx, dy), bright)
+            }
+            Step::Svec(lscale, dx, dy, bright) => {
+                self.push_draw(Format::Short, lscale, (dx, dy), bright)
+            }
+            Step::Fixed(first, second) => self.push(fixed(first, second)),
+            Step::Then => self.join(),
+            Step::Either => self.branch(),
+            Step::Repeat(least, most) => self.turn(least, most),
+        }
+    }
+
+    /// The parts that these steps leave, one behind the other.
+    fn part(&mut self, steps: &[Step]) -> Result<Part, AllocError> {
+        for step in steps {
+            self.step(step)?;
+        }
+        let mut part = self.take();
+        while let Some(before) = self.parts.pop() {
+            part = joined(self.alloc, before, part)?;
+        }
+        Ok(part)
+    }
+
+    /// A jump to an area, and what stands there.
+    fn jump(&mut self, area: (u16, u16), steps: &[Step]) -> Result<Jump, AllocError> {
+        let (first, last) = area;
+        let number = self.number();
+        let body = self.part(steps)?;
+        Ok(Jump {
+            number,
+            area: Area { first, last },
+            body,
+        })
+    }
+}
+
+/// The recipe of a row.
+fn recipe_of(alloc: Global, row: &Row) -> Result<Option<Recipe>, AllocError> {
+    let mut lists = Vec::new(alloc);
+    for &(first, last) in row.lists {
+        lists.push(Area { first, last })?;
+    }
+    let mut stack = Stack::new(alloc);
+    let body = stack.part(row.body)?;
+    let mut jumps = Vec::new(alloc);
+    for (area, steps) in row.jumps {
+        jumps.push(stack.jump(*area, steps)?)?;
+    }
+    Ok(Recipe::new(lists, body, jumps, stack.next))
+}
+
+/// The window of a row. `None` if it is none.
+fn window_of(shown: &Shown) -> Option<Window> {
+    match *shown {
+        Shown::Screen => Some(SCREEN),
+        Shown::Clipped => Some(CLIPPED),
+        Shown::Part(x_min, x_max, y_min, y_max) => Window::new(x_min, x_max, y_min, y_max),
+    }
+}
+
+/// What an answer tells.
+fn as_told(answer: &Result<RecipeYes, RecipeRefusal>) -> Told {
+    match answer {
+        Ok(yes) => Told::Yes(yes.shapes, yes.words, yes.depth),
+        Err(RecipeRefusal::TooLong { piece }) => Told::TooLong(*piece),
+        Err(RecipeRefusal::Make(unmade)) => {
+            Told::Unmade(unmade.piece, unmade.to, unmade.scale, unmade.why)
+        }
+        Err(RecipeRefusal::Shape(fault)) => {
+            Told::Shape(fault.number(), fault.addr, fault.key, fault.word)
+        }
+        Err(RecipeRefusal::Frame(fault)) => Told::Frame(fault.piece, fault.why.number()),
+        Err(RecipeRefusal::Memory) => Told::Memory,
+    }
+}
+
+/// Stops the test unless each recipe over the ROM of these words at 800 to BFF is told of as its row says.
+fn expect_told(rt: &impl Abort, alloc: Global, words: &[Words], rows: &[Row]) {
+    let bytes = frame_bytes(words);
+    let rom = RomImage::from_bytes_on(Machine::Board, &bytes, ASTEROIDS).expect(rt, "a ROM");
+    for row in rows {
+        let recipe = recipe_of(alloc, row).expect(rt, "memory for the recipe");
+        let recipe = recipe.expect(rt, "a recipe");
+        let window = window_of(&row.window).expect(rt, "a window");
+        let budget = row.budget.min(MOST_WORDS);
+        let answer = judge_recipe(alloc, &rom, &recipe, budget, window);
+        expect_same(rt, &as_told(&answer), &row.told, &row.body);
+    }
+}
+
+/// Shapes of a vector ROM.
+const ROM: &[Words] = &[
+    // a dot
+    (0x800, &[0xF070, 0xD000]),
+    // a box, 16 places to the right and up
+    (
+        0x810,
+        &[
+            0x9000, 0x7010, 0x9010, 0x7000, 0x9000, 0x7410, 0x9410, 0x7000, 0xD000,
+        ],
+    ),
+    // a dark move, and a tail jump to the box
+    (0x820, &[0x9000, 0x000A, 0xE810]),
+    // these, one behind the other
+    (0x830, &[0xC800, 0xC820, 0xC810, 0xD000]),
+    // a place at scale 2
+    (0x840, &[0xA200, 0x2200, 0xD000]),
+    // a stroke at scale 1, past the right edge of the screen
+    (0x850, &[0xA014, 0x13E8, 0x8000, 0x7018, 0xD000]),
+    // a stroke in the middle
+    (0x860, &[0xA1F4, 0x01F4, 0x9008, 0x7008, 0xD000]),
+    // a HALT
+    (0x870, &[0xB000]),
+    // a dark move, and a HALT
+    (0x878, &[0x9000, 0x0000, 0xB000]),
+    // a call of itself
+    (0x880, &[0xC880, 0xD000]),
+    // calls, four deep
+    (0x890, &[0xC898, 0xD000]),
+    (0x898, &[0xC8A0, 0xD000]),
+    (0x8A0, &[0xC8A8, 0xD000]),
+    (0x8A8, &[0xC800, 0xD000]),
+    // a dark move to the left
+    (0x8B0, &[0x9000, 0x041E, 0xD000]),
+    // a dot in the corner, and a tail jump to the place at scale 2
+    (0x8B8, &[0xA000, 0x0000, 0xC800, 0xE840]),
+    // a stroke at scale 15, at the corner of the zone
+    (0x8C0, &[0xAC00, 0xFC00, 0xF97A, 0xD000]),
+    // a place at scale 5
+    (0x8D0, &[0xA384, 0x5064, 0xD000]),
+    // 1,020,201 words
+    (0x900, &[0xC970; 100]),
+    (0x964, &[0xD000]),
+    // 10,201 words
+    (0x970, &[0xC9E0; 100]),
+    (0x9D4, &[0xD000]),
+    // 101 words
+    (0x9E0, &[0xF000; 100]),
+    (0xA44, &[0xD000]),
+];
+
+/// Places and sizes at edges, intensities and scales.
+const JUDGES_PLACES: &[Row] = &[
+    // the right edge, which the greatest X alone passes
+    Row {
+        body: &[Place((0, 1007), (0, 1007), &[0]), Call(&[0x810])],
+        told: Told::Yes(1, 13, 1),
+        ..PLAIN
+    },
+    Row {
+        body: &[Place((0, 1008), (0, 1007), &[0]), Call(&[0x810])],
+        told: Told::Frame(Some(1), 46),
+        ..PLAIN
+    },
+    Row {
+        body: &[Place((0, 1007), (0, 1008), &[0]), Call(&[0x800, 0x810])],
+        told: Told::Frame(Some(1), 46),
+        ..PLAIN
+    },
+    // the left and the lower edge, which the least size alone passes
+    Row {
+        body: &[
+            Place((8, 8), (9, 9), &[0]),
+            Vctr(9, (-8, 8), (-9, 0), (7, 7)),
+            Fixed(0xF070, 0x0000),
+        ],
+        told: Told::Yes(0, 6, 0),
+        ..PLAIN
+    },
+    Row {
+        body: &[
+            Place((8, 8), (9, 9), &[0]),
+            Vctr(9, (-9, 8), (-9, 0), (0, 0)),
+            Fixed(0xF070, 0x0000),
+        ],
+        told: Told::Frame(Some(2), 46),
+        ..PLAIN
+    },
+    Row {
+        body: &[
+            Place((8, 8), (9, 9), &[0]),
+            Vctr(9, (-8, 8), (-10, -10), (0, 7)),
+        ],
+        told: Told::Frame(Some(1), 46),
+        ..PLAIN
+    },
+    // intensities: lit, if one of them is not 0
+    Row {
+        body: &[
+            Place((1020, 1023), (0, 0), &[0]),
+            Vctr(9, (0, 1), (0, 0), (0, 0)),
+        ],
+        told: Told::Yes(0, 5, 0),
+        ..PLAIN
+    },
+    Row {
+        body: &[
+            Place((1020, 1023), (0, 0), &[0]),
+            Vctr(9, (0, 1), (0, 0), (0, 7)),
+        ],
+        told: Told::Frame(Some(1), 46),
+        ..PLAIN
+    },
+    Row {
+        body: &[
+            Vctr(9, (-5, 5), (0, 0), (0, 0)),
+            Svec(2, (-768, 768), (0, 0), (0, 0)),
+        ],
+        told: Told::Yes(0, 4, 0),
+        ..PLAIN
+    },
+    Row {
+        body: &[
+            Vctr(9, (-5, 5), (0, 0), (0, 0)),
+            Svec(2, (0, 0), (0, 0), (0, 1)),
+        ],
+        told: Told::Frame(Some(1), 44),
+        ..PLAIN
+    },
+    // sizes that the scale makes larger, smaller, or nothing
+    Row {
+        body: &[
+            Place((1000, 1000), (0, 0), &[0, 15]),
+            Svec(5, (0, 256), (0, 0), (7, 7)),
+        ],
+        told: Told::Yes(0, 4, 0),
+        ..PLAIN
+    },
+    Row {
+        body: &[
+            Place((1000, 1000), (0, 0), &[0, 1]),
+            Svec(5, (0, 256), (0, 0), (7, 7)),
+        ],
+        told: Told::Frame(Some(1), 46),
+        ..PLAIN
+    },
+    Row {
+        body: &[
+            Place((0, 0), (1023, 1023), &[7]),
+            Vctr(9, (-1023, 1023), (-5, 5), (15, 15)),
+            Vctr(3, (-1, 1), (0, 0), (0, 0)),
+        ],
+        told: Told::Frame(Some(1), 46),
+        ..PLAIN
+    },
+    Row {
+        body: &[
+            Place((0, 0), (1023, 1023), &[7]),
+            Vctr(3, (-1, 1), (0, 0), (0, 0)),
+            Vctr(2, (0, 0), (0, 0), (1, 1)),
+        ],
+        told: Told::Yes(0, 7, 0),
+        ..PLAIN
+    },
+];
+
+/// What one branch alone does.
+const JUDGES_BRANCHES: &[Row] = &[
+    // the most words, by the second branch and by the first
+    Row {
+        body: &[
+            Place((512, 512), (512, 512), &[0]),
+            Fixed(0xF000, 0x0000),
+            Fixed(0xF000, 0x0000),
+            Then,
+            Fixed(0xF000, 0x0000),
+            Then,
+            Call(&[0x830]),
+            Either,
+        ],
+        told: Told::Yes(4, 31, 2),
+        ..PLAIN
+    },
+    Row {
+        body: &[
+            Place((512, 512), (512, 512), &[0]),
+            Call(&[0x830]),
+            Fixed(0xF000, 0x0000),
+            Fixed(0xF000, 0x0000),
+            Then,
+            Fixed(0xF000, 0x0000),
+            Then,
+            Either,
+            Call(&[0x800]),
+            Either,
+        ],
+        told: Told::Yes(4, 31, 2),
+        ..PLAIN
+    },
+    // the depth, by one branch
+    Row {
+        body: &[
+            Place((512, 512), (512, 512), &[0]),
+            Call(&[0x898]),
+            Call(&[0x970]),
+            Either,
+        ],
+        budget: 11_000,
+        told: Told::Yes(6, 10205, 4),
+        ..PLAIN
+    },
+    // the place that one branch alone reaches
+    Row {
+        body: &[
+            Place((0, 0), (0, 0), &[0]),
+            Place((1010, 1010), (0, 0), &[0]),
+            Either,
+            Call(&[0x810]),
+        ],
+        told: Told::Frame(Some(2), 46),
+        ..PLAIN
+    },
+    Row {
+        body: &[
+            Place((0, 0), (0, 0), &[0]),
+            Place((1010, 1010), (0, 0), &[15]),
+            Either,
+            Call(&[0x810]),
+        ],
+        told: Told::Yes(2, 13, 1),
+        ..PLAIN
+    },
+    // the scale, or the place, that one branch alone sets
+    Row {
+        body: &[
+            Place((100, 100), (100, 100), &[2]),
+            Fixed(0xF000, 0x0000),
+            Either,
+            Fixed(0xF000, 0x0000),
+        ],
+        told: Told::Yes(0, 4, 0),
+        ..PLAIN
+    },
+    Row {
+        body: &[
+            Place((100, 100), (100, 100), &[2]),
+            Fixed(0xF000, 0x0000),
+            Either,
+            Fixed(0xF000, 0x0000),
+            Fixed(0xF070, 0x0000),
+        ],
+        told: Told::Frame(Some(3), 44),
+        ..PLAIN
+    },
+    Row {
+        body: &[
+            Place((100, 100), (100, 100), &[2]),
+            Fixed(0xF000, 0x0000),
+            Either,
+            Call(&[0x800]),
+        ],
+        told: Told::Unmade(2, 0x800, Key::Any, EntryFault::Unstraight { word: 0x800 }),
+        ..PLAIN
+    },
+    Row {
+        body: &[
+            Place((100, 100), (100, 100), &[2]),
+            Fixed(0xF000, 0x0000),
+            Either,
+            Call(&[0x8B0, 0x8D0]),
+        ],
+        told: Told::Yes(4, 7, 1),
+        ..PLAIN
+    },
+    // 44 where the scale is unknown, before 46 where it is known
+    Row {
+        body: &[
+            Place((2000, 2000), (0, 0), &[0]),
+            Fixed(0xF000, 0x0000),
+            Either,
+            Vctr(9, (0, 0), (0, 0), (7, 7)),
+        ],
+        told: Told::Frame(Some(2), 44),
+        ..PLAIN
+    },
+    // 46 before 48 at one piece
+    Row {
+        body: &[
+            Place((1023, 1023), (0, 0), &[0]),
+            Fixed(0xF000, 0x0000),
+            Fixed(0xF000, 0x0000),
+            Then,
+            Fixed(0xF000, 0x0000),
+            Then,
+            Fixed(0xF000, 0x0000),
+            Either,
+            Vctr(9, (1, 1), (0, 0), (7, 7)),
+        ],
+        budget: 5,
+        told: Told::Frame(Some(5), 46),
+        ..PLAIN
+    },
+];
+
+/// What one turn alone does, or none.
+const JUDGES_TURNS: &[Row] = &[
+    // the last turn alone breaks a rule
+    Row {
+        body: &[
+            Place((999, 999), (0, 0), &[0]),
+            Vctr(9, (8, 8), (0, 0), (7, 7)),
+            Repeat(0, 3),
+        ],
+        told: Told::Yes(0, 9, 0),
+        ..PLAIN
+    },
+    Row {
+        body: &[
+            Place((1000, 1000), (0, 0), &[0]),
+            Vctr(9, (8, 8), (0, 0), (7, 7)),
+            Repeat(0, 3),
+        ],
+        told: Told::Frame(Some(1), 46),
+        ..PLAIN
+    },
+    Row {
+        body: &[
+            Place((1000, 1000), (0, 0), &[0]),
+            Vctr(9, (8, 8), (0, 0), (0, 0)),
+            Repeat(0, 3),
+            Fixed(0xF070, 0x0000),
+        ],
+        told: Told::Frame(Some(2), 46),
+        ..PLAIN
+    },
+    Row {
+        body: &[
+            Place((900, 900), (0, 0), &[0]),
+            Fixed(0xF070, 0x0000),
+            Vctr(9, (20, 21), (0, 0), (0, 0)),
+            Repeat(1, 2),
+            Then,
+            Repeat(2, 3),
+            Fixed(0xF070, 0x0000),
+        ],
+        told: Told::Frame(Some(3), 46),
+        ..PLAIN
+    },
+    // no turn
+    Row {
+        body: &[
+            Place((100, 100), (100, 100), &[0]),
+            Repeat(0, 1),
+            Fixed(0xF070, 0x0000),
+        ],
+        told: Told::Frame(Some(1), 44),
+        ..PLAIN
+    },
+    Row {
+        body: &[
+            Place((100, 100), (100, 100), &[0]),
+            Repeat(1, 1),
+            Fixed(0xF070, 0x0000),
+        ],
+        told: Told::Yes(0, 4, 0),
+        ..PLAIN
+    },
+    Row {
+        body: &[
+            Place((2000, 2000), (0, 0), &[0]),
+            Place((100, 100), (100, 100), &[0]),
+            Repeat(0, 2),
+            Fixed(0xF070, 0x0000),
+        ],
+        told: Told::Frame(Some(2), 46),
+        ..PLAIN
+    },
+    Row {
+        body: &[
+            Place((2000, 2000), (0, 0), &[0]),
+            Place((100, 100), (100, 100), &[0]),
+            Repeat(1, 2),
+            Fixed(0xF070, 0x0000),
+        ],
+        told: Told::Yes(0, 8, 0),
+        ..PLAIN
+    },
+    // the scale of each turn
+    Row {
+        body: &[
+            Place((100, 100), (100, 100), &[0]),
+            Call(&[0x810, 0x840]),
+            Repeat(1, 2),
+        ],
+        told: Told::Yes(4, 23, 1),
+        ..PLAIN
+    },
+    Row {
+        body: &[
+            Place((100, 100), (100, 100), &[0]),
+            Call(&[0x810]),
+            Place((990, 990), (100, 100), &[1]),
+            Either,
+            Repeat(0, 3),
+        ],
+        told: Told::Yes(2, 33, 1),
+        ..PLAIN
+    },
+];
+
+/// Words, shapes and depth, lists and jumps.
+const COUNTS_WORDS: &[Row] = &[
+    // a budget that is just enough, and just not
+    Row {
+        body: &[Place((512, 512), (512, 512), &[0]), Call(&[0x830])],
+        budget: 31,
+        told: Told::Yes(4, 31, 2),
+        ..PLAIN
+    },
+    Row {
+        body: &[Place((512, 512), (512, 512), &[0]), Call(&[0x830])],
+        budget: 30,
+        told: Told::Frame(Some(2), 48),
+        ..PLAIN
+    },
+    Row {
+        body: &[
+            Place((512, 512), (512, 512), &[0]),
+            Call(&[0x970]),
+            Repeat(1, 3),
+        ],
+        budget: 30_609,
+        told: Told::Yes(2, 30609, 2),
+        ..PLAIN
+    },
+    Row {
+        body: &[
+            Place((512, 512), (512, 512), &[0]),
+            Call(&[0x970]),
+            Repeat(1, 3),
+        ],
+        budget: 30_608,
+        told: Told::Frame(Some(2), 48),
+        ..PLAIN
+    },
+    Row {
+        body: &[
+            Place((512, 512), (512, 512), &[0]),
+            Call(&[0x970]),
+            Repeat(1, 3),
+        ],
+        budget: 30_607,
+        told: Told::Frame(Some(1), 48),
+        ..PLAIN
+    },
+    Row {
+        lists: &[(0x001, 0x0FF)],
+        body: &[Place((512, 512), (512, 512), &[0])],
+        budget: 1,
+        told: Told::Frame(Some(0), 48),
+        ..PLAIN
+    },
+    // two lists, one of which begins at 000
+    Row {
+        lists: &[(0x000, 0x0FF), (0x201, 0x2FF)],
+        body: &[Place((512, 512), (512, 512), &[0]), Call(&[0x800])],
+        told: Told::Yes(1, 7, 1),
+        ..PLAIN
+    },
+    Row {
+        lists: &[(0x201, 0x2FF)],
+        body: &[Place((512, 512), (512, 512), &[0]), Call(&[0x800])],
+        told: Told::Yes(1, 7, 1),
+        ..PLAIN
+    },
+    Row {
+        body: &[Place((512, 512), (512, 512), &[0]), Call(&[0x800])],
+        told: Told::Yes(1, 6, 1),
+        ..PLAIN
+    },
+    Row {
+        lists: &[(0x000, 0x0FF), (0x201, 0x2FF)],
+        body: &[Place((512, 512), (512, 512), &[0]), Call(&[0x800])],
+        budget: 6,
+        told: Told::Frame(Some(2), 48),
+        ..PLAIN
+    },
+    // a shape at two scales, and one that is called twice
+    Row {
+        body: &[
+            Place((100, 200), (100, 200), &[0, 1]),
+            Call(&[0x830]),
+            Call(&[0x830, 0x810]),
+        ],
+        told: Told::Yes(8, 59, 2),
+        ..PLAIN
+    },
+    Row {
+        body: &[
+            Call(&[0x8B8]),
+            Call(&[0x8B8]),
+            Call(&[0x840, 0x8D0]),
+            Call(&[0x840]),
+        ],
+        told: Told::Yes(7, 29, 2),
+        ..PLAIN
+    },
+    // a jump, and two
+    Row {
+        lists: &[(0x001, 0x0FF)],
+        body: &[Place((512, 512), (512, 512), &[0])],
+        jumps: &[((0x200, 0x2FF), &[Call(&[0x810])])],
+        told: Told::Yes(1, 15, 1),
+        ..PLAIN
+    },
+    Row {
+        body: &[Place((512, 512), (512, 512), &[0])],
+        jumps: &[
+            ((0x200, 0x2FF), &[Call(&[0x820]), Repeat(0, 3)]),
+            ((0x300, 0x3FF), &[Vctr(9, (0, 500), (-400, 0), (7, 7))]),
+        ],
+        told: Told::Frame(Some(4), 46),
+        ..PLAIN
+    },
+    Row {
+        body: &[Place((512, 512), (512, 512), &[0])],
+        jumps: &[((0x200, 0x2FF), &[Call(&[0x810])]), ((0x300, 0x3FF), &[])],
+        budget: 14,
+        told: Told::Frame(Some(4), 48),
+        ..PLAIN
+    },
+    Row {
+        body: &[Place((512, 512), (512, 512), &[0])],
+        jumps: &[((0x200, 0x2FF), &[Call(&[0x810])]), ((0x300, 0x3FF), &[])],
+        budget: 13,
+        told: Told::Frame(Some(3), 48),
+        ..PLAIN
+    },
+    // no piece but the HALT
+    Row {
+        lists: &[(0x000, 0x000)],
+        body: &[],
+        budget: 1,
+        told: Told::Yes(0, 1, 0),
+        ..PLAIN
+    },
+];
+
+/// Lists that pass their areas.
+const ASKS_FOR_ROOM: &[Row] = &[
+    // 57, before all else
+    Row {
+        lists: &[(0x000, 0x003)],
+        body: &[
+            Call(&[0x870]),
+            Place((0, 0), (0, 0), &[0]),
+            Fixed(0xF070, 0x0000),
+        ],
+        told: Told::TooLong(3),
+        ..PLAIN
+    },
+    Row {
+        lists: &[(0x000, 0x0FF), (0x201, 0x206)],
+        body: &[
+            Fixed(0xF000, 0x0000),
+            Place((0, 0), (0, 0), &[0]),
+            Either,
+            Repeat(0, 3),
+        ],
+        told: Told::TooLong(2),
+        ..PLAIN
+    },
+    Row {
+        body: &[Place((0, 0), (0, 0), &[0])],
+        jumps: &[(
+            (0x100, 0x101),
+            &[Fixed(0xF070, 0x0000), Fixed(0xF070, 0x0000)],
+        )],
+        told: Told::TooLong(4),
+        ..PLAIN
+    },
+];
+
+/// Calls whose entries can't be made.
+const MAKES_ENTRIES: &[Row] = &[
+    // a HALT, a word outside the ROM, and a stroke at unknown scale
+    Row {
+        body: &[Place((512, 512), (512, 512), &[0]), Call(&[0x870])],
+        told: Told::Unmade(1, 0x870, Key::At(0), EntryFault::Unstraight { word: 0x870 }),
+        ..PLAIN
+    },
+    Row {
+        body: &[Place((512, 512), (512, 512), &[0]), Call(&[0x800, 0x878])],
+        budget: 100,
+        told: Told::Unmade(1, 0x878, Key::At(0), EntryFault::Unstraight { word: 0x87A }),
+        ..PLAIN
+    },
+    Row {
+        body: &[Place((512, 512), (512, 512), &[0]), Call(&[0x7FF])],
+        told: Told::Unmade(1, 0x7FF, Key::At(0), EntryFault::Unstraight { word: 0x7FF }),
+        ..PLAIN
+    },
+    Row {
+        body: &[
+            Place((512, 512), (512, 512), &[0]),
+            Fixed(0xF000, 0x0000),
+            Fixed(0xCC00, 0x0000),
+        ],
+        budget: 100,
+        told: Told::Unmade(2, 0xC00, Key::At(0), EntryFault::Unstraight { word: 0xC00 }),
+        ..PLAIN
+    },
+    Row {
+        body: &[Call(&[0x810])],
+        told: Told::Unmade(0, 0x810, Key::Any, EntryFault::Unstraight { word: 0x810 }),
+        ..PLAIN
+    },
+    Row {
+        body: &[Call(&[0x8B8, 0x810]), Place((512, 512), (512, 512), &[0])],
+        budget: 100,
+        told: Told::Unmade(0, 0x810, Key::Any, EntryFault::Unstraight { word: 0x810 }),
+        ..PLAIN
+    },
+    Row {
+        body: &[Place((512, 512), (512, 512), &[0]), Call(&[0xA60])],
+        told: Told::Unmade(1, 0xA60, Key::At(0), EntryFault::Unstraight { word: 0xC00 }),
+        ..PLAIN
+    },
+    // calls that go too deep, and the deepest that do not
+    Row {
+        body: &[Place((512, 512), (512, 512), &[0]), Call(&[0x898])],
+        told: Told::Yes(4, 12, 4),
+        ..PLAIN
+    },
+    Row {
+        body: &[Place((512, 512), (512, 512), &[0]), Call(&[0x890])],
+        budget: 100,
+        told: Told::Unmade(1, 0x890, Key::At(0), EntryFault::Deep),
+        ..PLAIN
+    },
+    Row {
+        body: &[Place((512, 512), (512, 512), &[0]), Call(&[0x880])],
+        budget: 100,
+        told: Told::Unmade(1, 0x880, Key::At(0), EntryFault::Deep),
+        ..PLAIN
+    },
+    // too many words
+    Row {
+        body: &[
+            Place((512, 512), (512, 512), &[0]),
+            Call(&[0x9E0]),
+            Call(&[0x900]),
+            Repeat(0, 1),
+        ],
+        budget: 1_000_000,
+        told: Told::Unmade(2, 0x900, Key::At(0), EntryFault::TooManyWords),
+        ..PLAIN
+    },
+    // the first piece, then the least scale, then the first of its addresses
+    Row {
+        body: &[
+            Place((512, 512), (512, 512), &[0]),
+            Call(&[0x800]),
+            Repeat(0, 2),
+            Call(&[0x898]),
+            Call(&[0x880, 0x870]),
+            Either,
+            Call(&[0x870]),
+        ],
+        told: Told::Unmade(3, 0x880, Key::At(0), EntryFault::Deep),
+        ..PLAIN
+    },
+    Row {
+        body: &[
+            Place((9, 9), (9, 9), &[3, 5]),
+            Repeat(0, 1),
+            Call(&[0x8D0, 0x810, 0x880]),
+        ],
+        told: Told::Unmade(1, 0x880, Key::At(3), EntryFault::Deep),
+        ..PLAIN
+    },
+    Row {
+        body: &[
+            Place((9, 9), (9, 9), &[3, 5]),
+            Repeat(0, 1),
+            Call(&[0x8D0, 0x810]),
+        ],
+        told: Told::Unmade(1, 0x810, Key::Any, EntryFault::Unstraight { word: 0x810 }),
+        ..PLAIN
+    },
+    // a call that turn 2 alone makes at unknown scale, and one behind a jump
+    Row {
+        body: &[Call(&[0x840, 0x8B0]), Repeat(1, 2), Call(&[0x810])],
+        told: Told::Unmade(1, 0x810, Key::Any, EntryFault::Unstraight { word: 0x810 }),
+        ..PLAIN
+    },
+    Row {
+        body: &[],
+        jumps: &[((0x200, 0x2FF), &[Call(&[0x810])])],
+        told: Told::Unmade(1, 0x810, Key::Any, EntryFault::Unstraight { word: 0x810 }),
+        ..PLAIN
+    },
+    // 60 before 25 and 46
+    Row {
+        body: &[
+            Place((1020, 1020), (0, 0), &[0]),
+            Call(&[0x810, 0x850]),
+            Call(&[0x870]),
+        ],
+        told: Told::Unmade(2, 0x870, Key::At(0), EntryFault::Unstraight { word: 0x870 }),
+        ..PLAIN
+    },
+];
+
+/// Windows, and places of twelve bits.
+const JUDGES_WINDOWS: &[Row] = &[
+    // 25: the first shape of the certificate, before 46
+    Row {
+        body: &[
+            Place((512, 512), (512, 512), &[0]),
+            Call(&[0x810]),
+            Call(&[0x860]),
+            Call(&[0x850]),
+        ],
+        told: Told::Shape(25, 0x850, Key::At(0), 0x852),
+        ..PLAIN
+    },
+    Row {
+        body: &[
+            Place((1020, 1020), (0, 0), &[2, 3]),
+            Call(&[0x810]),
+            Call(&[0x860]),
+            Call(&[0x850]),
+        ],
+        told: Told::Shape(25, 0x850, Key::At(0), 0x852),
+        ..PLAIN
+    },
+    Row {
+        body: &[
+            Place((300, 300), (300, 300), &[2]),
+            Call(&[0x860]),
+            Call(&[0x850]),
+        ],
+        window: Shown::Part(0, 400, 0, 400),
+        told: Told::Shape(25, 0x850, Key::At(0), 0x852),
+        ..PLAIN
+    },
+    Row {
+        body: &[Call(&[0x8C0])],
+        told: Told::Shape(25, 0x8C0, Key::Any, 0x8C2),
+        ..PLAIN
+    },
+    // the zone that a board clips
+    Row {
+        body: &[Place((512, 512), (512, 512), &[0]), Call(&[0x850])],
+        window: Shown::Clipped,
+        told: Told::Yes(1, 9, 1),
+        ..PLAIN
+    },
+    Row {
+        body: &[Call(&[0x8C0])],
+        window: Shown::Clipped,
+        told: Told::Yes(1, 6, 1),
+        ..PLAIN
+    },
+    Row {
+        body: &[Place((-1024, 2031), (-1024, 2031), &[0]), Call(&[0x810])],
+        window: Shown::Clipped,
+        told: Told::Yes(1, 13, 1),
+        ..PLAIN
+    },
+    Row {
+        body: &[Place((-1024, 2032), (-1024, 2031), &[0]), Call(&[0x810])],
+        window: Shown::Clipped,
+        told: Told::Frame(Some(1), 46),
+        ..PLAIN
+    },
+    Row {
+        body: &[
+            Place((-1024, 0), (-1024, 0), &[0]),
+            Vctr(9, (0, 1), (-1, 0), (7, 7)),
+        ],
+        window: Shown::Clipped,
+        told: Told::Frame(Some(1), 46),
+        ..PLAIN
+    },
+    // a part of the screen
+    Row {
+        body: &[Place((100, 184), (100, 184), &[0]), Call(&[0x810])],
+        window: Shown::Part(100, 200, 100, 200),
+        told: Told::Yes(1, 13, 1),
+        ..PLAIN
+    },
+    Row {
+        body: &[Place((100, 185), (100, 184), &[0]), Call(&[0x810])],
+        window: Shown::Part(100, 200, 100, 200),
+        told: Told::Frame(Some(1), 46),
+        ..PLAIN
+    },
+    Row {
+        body: &[Place((99, 150), (100, 184), &[0]), Call(&[0x800])],
+        window: Shown::Part(100, 200, 100, 200),
+        told: Told::Frame(Some(1), 46),
+        ..PLAIN
+    },
+    Row {
+        body: &[Place((512, 512), (512, 512), &[0]), Call(&[0x860])],
+        window: Shown::Part(500, 508, 500, 508),
+        told: Told::Yes(1, 9, 1),
+        ..PLAIN
+    },
+    Row {
+        body: &[Place((512, 512), (512, 512), &[0]), Call(&[0x860])],
+        window: Shown::Part(500, 507, 500, 508),
+        told: Told::Shape(25, 0x860, Key::At(0), 0x862),
+        ..PLAIN
+    },
+    // places of twelve bits, and bits that are ignored
+    Row {
+        body: &[
+            Place((-2048, 2047), (-2048, 2047), &[0]),
+            Fixed(0xA800, 0x07FF),
+            Fixed(0x9800, 0x0800),
+            Fixed(0xF000, 0x0000),
+            Place((0, 0), (0, 0), &[0]),
+            Fixed(0xF070, 0x0000),
+        ],
+        told: Told::Yes(0, 11, 0),
+        ..PLAIN
+    },
+    Row {
+        body: &[Fixed(0xAC00, 0x0000), Fixed(0xF070, 0x0000)],
+        told: Told::Frame(Some(1), 46),
+        ..PLAIN
+    },
+    Row {
+        body: &[Fixed(0xAC00, 0x0C00), Fixed(0xF070, 0x0000)],
+        window: Shown::Clipped,
+        told: Told::Yes(0, 4, 0),
+        ..PLAIN
+    },
+    Row {
+        body: &[Fixed(0xA000, 0x0000), Fixed(0x9C00, 0xF000)],
+        told: Told::Yes(0, 5, 0),
+        ..PLAIN
+    },
+];
+
+/// Recipes of mixed parts, made by chance.
+const JUDGES_MIXED_PARTS: &[Row] = &[
+    Row {
+        lists: &[(0x000, 0x006)],
+        body: &[
+            Place((994, 996), (0, 2), &[0]),
+            Place((3, 4), (11, 11), &[13]),
+            Place((1016, 1056), (-2, -1), &[7]),
+            Repeat(1, 2),
+            Repeat(2, 2),
+            Svec(2, (256, 256), (768, 768), (0, 0)),
+            Place((33, 73), (8, 9), &[2, 3]),
+        ],
+        told: Told::TooLong(2),
+        ..PLAIN
+    },
+    Row {
+        lists: &[(0x000, 0x3FF)],
+        body: &[
+            Place((1023, 1023), (1021, 1023), &[0]),
+            Call(&[0x878]),
+            Vctr(0, (-18, 22), (-11, -10), (7, 7)),
+            Svec(2, (-768, -768), (512, 512), (0, 7)),
+            Then,
+            Vctr(9, (0, 40), (2, 2), (7, 7)),
+            Repeat(0, 1),
+            Then,
+            Repeat(3, 3),
+        ],
+        budget: 33,
+        told: Told::Unmade(1, 0x878, Key::At(0), EntryFault::Unstraight { word: 0x87A }),
+        ..PLAIN
+    },
+    Row {
+        lists: &[(0x000, 0x3FF)],
+        body: &[
+            Place((1023, 1023), (1023, 1023), &[0]),
+            Vctr(3, (-2, -2), (1, 1), (0, 7)),
+            Place((2011, 2047), (94, 94), &[13]),
+            Place((2010, 2047), (2017, 2047), &[1]),
+            Then,
+            Fixed(0xC8A8, 0xA5E8),
+            Then,
+            Repeat(0, 1),
+            Call(&[0x898, 0x8A8, 0x8C0]),
+        ],
+        budget: 23,
+        window: Shown::Clipped,
+        told: Told::Yes(10, 23, 4),
+        ..PLAIN
+    },
+    Row {
+        lists: &[(0x001, 0x1FF), (0x201, 0x3FF)],
+        body: &[
+            Place((506, 507), (499, 501), &[0]),
+            Place((489, 529), (508, 508), &[15]),
+            Place((456, 456), (526, 526), &[0]),
+            Fixed(0x9000, 0x0407),
+            Repeat(1, 1),
+            Then,
+            Vctr(9, (0, 0), (0, 0), (7, 7)),
+            Then,
+        ],
+        budget: 46,
+        window: Shown::Part(480, 540, 480, 530),
+        told: Told::Frame(Some(4), 46),
+        ..PLAIN
+    },
+    Row {
+        lists: &[(0x001, 0x3FF)],
+        body: &[
+            Place((20, 20), (1005, 1005), &[0]),
+            Vctr(3, (-76, -75), (-168, -168), (0, 0)),
+            Place((14, 14), (896, 897), &[2]),
+            Then,
+            Call(&[0x850, 0x898, 0x8A0]),
+            Repeat(0, 1),
+            Then,
+            Repeat(1, 1),
+        ],
+        told: Told::Shape(25, 0x850, Key::At(2), 0x852),
+        ..PLAIN
+    },
+    Row {
+        lists: &[(0x001, 0x1FF), (0x201, 0x3FF)],
+        body: &[
+            Place((101, 102), (898, 900), &[0]),
+            Call(&[0x810, 0x9E0]),
+            Place((122, 123), (878, 878), &[14]),
+            Fixed(0xA085, 0x0080),
+            Vctr(9, (-7, -7), (0, 0), (0, 0)),
+            Repeat(1, 2),
+            Then,
+            Vctr(9, (0, 0), (0, 0), (7, 7)),
+            Then,
+            Fixed(0xA342, 0xF128),
+        ],
+        budget: 29,
+        window: Shown::Part(100, 300, 128, 895),
+        told: Told::Frame(Some(1), 46),
+        ..PLAIN
+    },
+    Row {
+        lists: &[(0x001, 0x005)],
+        body: &[
+            Place((293, 293), (863, 864), &[0]),
+            Place((268, 269), (702, 702), &[1]),
+            Svec(2, (-768, -768), (512, 768), (0, 7)),
+            Call(&[0x840]),
+            Svec(2, (-768, -512), (-256, 768), (0, 7)),
+            Then,
+            Call(&[0x810, 0x830]),
+            Then,
+            Place((134, 134), (879, 879), &[7]),
+            Either,
+            Then,
+            Either,
+        ],
+        window: Shown::Part(100, 300, 128, 895),
+        told: Told::TooLong(5),
+        ..PLAIN
+    },
+    Row {
+        lists: &[(0x000, 0x010)],
+        body: &[
+            Place((986, 987), (1023, 1023), &[0]),
+            Place((-3, 37), (238, 278), &[7, 13]),
+        ],
+        jumps: &[(
+            (0x0BA, 0x3FF),
+            &[
+                Vctr(9, (149, 149), (-129, -129), (7, 7)),
+                Place((-1, 0), (371, 372), &[13]),
+                Fixed(0xC878, 0x0000),
+                Then,
+                Either,
+                Repeat(0, 3),
+            ],
+        )],
+        budget: 25,
+        told: Told::Unmade(
+            5,
+            0x878,
+            Key::At(13),
+            EntryFault::Unstraight { word: 0x87A },
+        ),
+        ..PLAIN
+    },
+    Row {
+        lists: &[(0x005, 0x00D)],
+        body: &[
+            Place((552, 552), (385, 387), &[0]),
+            Call(&[0x800, 0x830]),
+            Fixed(0xC8A8, 0x0000),
+            Repeat(0, 2),
+            Either,
+            Call(&[0x8B8]),
+            Place((20, 20), (9, 9), &[15]),
+            Repeat(0, 1),
+            Repeat(1, 1),
+        ],
+        told: Told::Yes(7, 44, 2),
+        ..PLAIN
+    },
+    Row {
+        lists: &[(0x000, 0x3FF)],
+        body: &[
+            Svec(2, (0, 0), (-512, 768), (0, 0)),
+            Fixed(0xC8B0, 0x0000),
+            Fixed(0xC8B8, 0x5B1B),
+            Then,
+            Fixed(0xF57B, 0xAD2D),
+            Then,
+            Repeat(1, 1),
+            Repeat(1, 1),
+        ],
+        window: Shown::Part(480, 540, 480, 530),
+        told: Told::Shape(25, 0x8B8, Key::Any, 0x8BA),
+        ..PLAIN
+    },
+    Row {
+        lists: &[(0x001, 0x3FF)],
+        body: &[
+            Place((494, 494), (530, 531), &[0]),
+            Call(&[0x800, 0x840, 0x970]),
+            Place((503, 503), (505, 506), &[3]),
+            Repeat(3, 3),
+            Either,
+            Place((514, 554), (486, 526), &[1, 2]),
+            Either,
+        ],
+        window: Shown::Part(480, 540, 480, 530),
+        told: Told::Frame(Some(1), 46),
+        ..PLAIN
+    },
+    Row {
+        lists: &[(0x001, 0x00B)],
+        body: &[
+            Place((983, 983), (15, 15), &[0]),
+            Call(&[0x8B8, 0x8D0]),
+            Repeat(1, 2),
+            Place((985, 986), (33, 73), &[2, 3]),
+            Vctr(8, (-11, -11), (94, 94), (0, 0)),
+        ],
+        budget: 11,
+        told: Told::Frame(Some(1), 48),
+        ..PLAIN
+    },
+    Row {
+        lists: &[(0x001, 0x3FF)],
+        body: &[
+            Place((116, 117), (133, 133), &[0]),
+            Fixed(0xA379, 0x0069),
+            Place((301, 341), (168, 168), &[3, 13]),
+            Then,
+            Call(&[0x820, 0x830, 0x898]),
+            Then,
+            Call(&[0x800, 0x860, 0x8B8]),
+            Either,
+            Repeat(0, 2),
+            Call(&[0x8A0, 0x8B8]),
+        ],
+        window: Shown::Part(100, 300, 128, 895),
+        told: Told::Shape(25, 0x860, Key::At(0), 0x862),
+        ..PLAIN
+    },
+    Row {
+        lists: &[(0x001, 0x3FF)],
+        body: &[
+            Place((0, 2), (986, 987), &[0]),
+            Place((36, 36), (13, 13), &[7]),
+            Place((0, 0), (30, 30), &[0]),
+            Vctr(9, (0, 0), (7, 7), (0, 0)),
+            Repeat(2, 4),
+            Then,
+            Vctr(9, (0, 0), (0, 0), (7, 7)),
+            Then,
+            Repeat(1, 1),
+        ],
+        budget: 17,
+        told: Told::Frame(Some(5), 48),
+        ..PLAIN
+    },
+    Row {
+        lists: &[(0x001, 0x3FF)],
+        body: &[
+            Place((490, 490), (101, 101), &[0]),
+            Place((1017, 1018), (161, 161), &[0]),
+            Place((1020, 1020), (16, 56), &[15]),
+            Place((998, 998), (1006, 1006), &[0]),
+            Fixed(0x9000, 0x0007),
+            Repeat(1, 4),
+            Then,
+            Vctr(9, (0, 0), (0, 0), (7, 7)),
+            Then,
+            Then,
+            Repeat(1, 1),
+        ],
+        budget: 17,
+        told: Told::Frame(Some(5), 46),
+        ..PLAIN
+    },
+    Row {
+        lists: &[(0x000, 0x01F)],
+        body: &[
+            Place((502, 504), (490, 490), &[0]),
+            Call(&[0x800, 0x810]),
+            Svec(4, (768, 768), (768, 768), (0, 0)),
+            Place((526, 527), (502, 542), &[3, 15]),
+            Repeat(1, 2),
+            Place((479, 479), (464, 464), &[0]),
+            Vctr(9, (7, 7), (0, 0), (0, 0)),
+            Repeat(2, 2),
+            Then,
+            Fixed(0x9000, 0x7000),
+            Then,
+        ],
+        budget: 51,
+        window: Shown::Part(480, 540, 480, 530),
+        told: Told::Frame(Some(6), 46),
+        ..PLAIN
+    },
+    Row {
+        lists: &[(0x005, 0x024)],
+        body: &[
+            Place((1020, 1020), (1013, 1053), &[1, 14]),
+            Fixed(0xA000, 0x001E),
+            Fixed(0x9007, 0x0000),
+            Repeat(2, 3),
+            Then,
+            Vctr(9, (0, 0), (0, 0), (7, 7)),
+            Then,
+            Either,
+        ],
+        budget: 11,
+        told: Told::Frame(Some(4), 48),
+        ..PLAIN
+    },
+    Row {
+        lists: &[(0x000, 0x3FF)],
+        body: &[
+            Place((996, 997), (1009, 1009), &[0]),
+            Place((33, 33), (486, 486), &[2, 14]),
+            Place((1014, 1015), (-3, -3), &[7]),
+            Vctr(3, (-85, -85), (184, 184), (0, 7)),
+            Place((28, 28), (669, 669), &[14]),
+            Call(&[0x890]),
+            Then,
+            Vctr(0, (18, 18), (144, 184), (0, 0)),
+            Then,
+            Either,
+            Repeat(0, 1),
+        ],
+        budget: 7,
+        told: Told::Unmade(5, 0x890, Key::At(14), EntryFault::Deep),
+        ..PLAIN
+    },
+    Row {
+        lists: &[(0x000, 0x3FF)],
+        body: &[
+            Vctr(9, (34, 35), (-33, -32), (7, 7)),
+            Vctr(8, (119, 120), (107, 107), (0, 0)),
+            Then,
+            Call(&[0x830]),
+            Then,
+            Repeat(0, 2),
+            Vctr(0, (-92, -52), (-53, -53), (0, 7)),
+            Repeat(0, 1),
+            Either,
+            Fixed(0xA3E8, 0x03F7),
+            Fixed(0x9000, 0x0007),
+            Repeat(1, 1),
+            Then,
+            Fixed(0x9000, 0x7000),
+            Then,
+        ],
+        told: Told::Unmade(2, 0x830, Key::Any, EntryFault::Unstraight { word: 0x800 }),
+        ..PLAIN
+    },
+    Row {
+        lists: &[(0x000, 0x3FF)],
+        body: &[
+            Place((220, 222), (161, 161), &[0]),
+            Place((191, 191), (860, 900), &[7]),
+            Call(&[0x890, 0x970]),
+            Repeat(0, 1),
+            Place((99, 99), (150, 150), &[2]),
+            Vctr(3, (6, 7), (194, 194), (0, 0)),
+        ],
+        window: Shown::Part(100, 300, 128, 895),
+        told: Told::Unmade(2, 0x890, Key::At(7), EntryFault::Deep),
+        ..PLAIN
+    },
+    Row {
+        lists: &[(0x000, 0x3FF)],
+        body: &[
+            Place((1002, 1003), (6, 7), &[0]),
+            Svec(4, (768, 768), (-768, -512), (0, 0)),
+            Vctr(9, (98, 138), (169, 209), (0, 7)),
+            Vctr(8, (-19, -19), (5, 5), (7, 7)),
+            Then,
+            Place((517, 517), (30, 31), &[3]),
+            Then,
+            Either,
+            Svec(5, (256, 256), (256, 512), (0, 0)),
+        ],
+        budget: 33,
+        told: Told::Frame(Some(2), 46),
+        ..PLAIN
+    },
+    Row {
+        lists: &[(0x000, 0x018)],
+        body: &[
+            Place((511, 511), (490, 492), &[0]),
+            Fixed(0xA22A, 0x0206),
+            Fixed(0x9000, 0x0407),
+            Repeat(0, 2),
+            Then,
+            Vctr(9, (0, 0), (0, 0), (7, 7)),
+            Then,
+        ],
+        budget: 13,
+        window: Shown::Part(480, 540, 480, 530),
+        told: Told::Frame(Some(3), 46),
+        ..PLAIN
+    },
+    Row {
+        lists: &[(0x001, 0x3FF)],
+        body: &[
+            Place((164, 166), (883, 883), &[0]),
+            Call(&[0x820, 0x8A8]),
+            Fixed(0xA2A7, 0xD074),
+            Repeat(1, 2),
+            Call(&[0x840]),
+            Place((105, 105), (858, 858), &[1, 2]),
+            Place((104, 144), (861, 901), &[0]),
+            Then,
+            Repeat(1, 1),
+            Repeat(1, 1),
+        ],
+        window: Shown::Part(100, 300, 128, 895),
+        told: Told::Frame(Some(1), 46),
+        ..PLAIN
+    },
+    Row {
+        lists: &[(0x000, 0x3FF)],
+        body: &[
+            Place((533, 533), (491, 491), &[0]),
+            Place((504, 544), (502, 502), &[0, 14]),
+            Repeat(0, 1),
+            Place((480, 520), (489, 489), &[3, 14]),
+        ],
+        budget: 6,
+        window: Shown::Part(480, 540, 480, 530),
+        told: Told::Frame(Some(3), 48),
+        ..PLAIN
+    },
+    Row {
+        lists: &[(0x005, 0x01C)],
+        body: &[
+            Place((278, 318), (365, 365), &[2, 7]),
+            Place((127, 167), (140, 180), &[0]),
+            Either,
+            Repeat(0, 1),
+            Svec(3, (-768, -512), (-512, -512), (0, 7)),
+            Place((274, 274), (859, 860), &[15]),
+            Then,
+            Repeat(1, 2),
+            Svec(2, (0, 768), (512, 768), (7, 7)),
+            Then,
+            Call(&[0x800]),
+            Place((137, 137), (152, 192), &[0, 2]),
+            Then,
+            Repeat(1, 1),
+            Then,
+            Repeat(1, 1),
+        ],
+        window: Shown::Part(100, 300, 128, 895),
+        told: Told::Frame(Some(2), 44),
+        ..PLAIN
+    },
+    Row {
+        lists: &[(0x000, 0x3FF)],
+        body: &[
+            Place((9, 11), (989, 989), &[0]),
+            Call(&[0x860, 0x898, 0x8D0]),
+            Repeat(1, 1),
+            Vctr(3, (0, 0), (1, 2), (7, 7)),
+            Call(&[0x840]),
+            Either,
+        ],
+        budget: 16,
+        told: Told::Yes(8, 16, 4),
+        ..PLAIN
+    },
+    Row {
+        lists: &[(0x005, 0x00B)],
+        body: &[
+            Place((1023, 1023), (1023, 1023), &[0]),
+            Fixed(0xC8B0, 0x2BE1),
+            Repeat(1, 1),
+            Place((-1015, -975), (-999, -959), &[3, 15]),
+            Call(&[0x810, 0x860, 0x8A8]),
+        ],
+        budget: 20,
+        window: Shown::Clipped,
+        told: Told::Yes(9, 20, 2),
+        ..PLAIN
+    },
+    Row {
+        lists: &[(0x001, 0x1FF), (0x201, 0x3FF)],
+        body: &[
+            Place((1023, 1023), (1023, 1023), &[0]),
+            Vctr(9, (-22, -22), (2, 2), (7, 7)),
+            Call(&[0x820, 0x898, 0x8D0]),
+            Call(&[0x840, 0x8A0, 0x8B0]),
+            Vctr(7, (-2, -1), (-3, -3), (7, 7)),
+            Then,
+            Vctr(9, (35, 35), (-3, 37), (0, 7)),
+            Either,
+            Place((2026, 2027), (1833, 1834), &[7]),
+            Either,
+        ],
+        window: Shown::Clipped,
+        told: Told::Yes(14, 28, 4),
+        ..PLAIN
+    },
+    Row {
+        lists: &[(0x001, 0x1FF), (0x201, 0x3FF)],
+        body: &[
+            Place((247, 248), (857, 858), &[0]),
+            Vctr(7, (10, 10), (35, 75), (0, 0)),
+            Call(&[0x830, 0x8D0, 0x9E0]),
+            Place((109, 109), (891, 891), &[13]),
+            Repeat(3, 3),
+        ],
+        window: Shown::Part(100, 300, 128, 895),
+        told: Told::Yes(6, 114, 2),
+        ..PLAIN
+    },
+    Row {
+        lists: &[(0x001, 0x1FF), (0x201, 0x3FF)],
+        body: &[
+            Place((857, 857), (987, 989), &[0]),
+            Place((33, 73), (25, 26), &[13]),
+            Call(&[0x860, 0x898]),
+            Repeat(0, 2),
+        ],
+        budget: 54,
+        told: Told::Yes(10, 24, 4),
+        ..PLAIN
+    },
+    Row {
+        lists: &[(0x001, 0x3FF)],
+        body: &[
+            Place((843, 843), (17, 17), &[0]),
+            Call(&[0x800]),
+            Svec(2, (768, 768), (256, 512), (0, 7)),
+            Place((1022, 1022), (36, 76), &[1]),
+            Repeat(2, 2),
+            Place((991, 991), (19, 20), &[0]),
+            Then,
+            Either,
+            Vctr(8, (1, 1), (0, 0), (0, 0)),
+            Either,
+        ],
+        told: Told::Yes(1, 13, 1),
+        ..PLAIN
+    },
+    Row {
+        lists: &[(0x000, 0x01C)],
+        body: &[
+            Place((29, 31), (618, 619), &[0]),
+            Place((999, 999), (991, 1031), &[0]),
+            Place((6, 7), (21, 22), &[15]),
+            Fixed(0xFB79, 0x0000),
+            Then,
+            Repeat(1, 1),
+            Then,
+            Call(&[0x860, 0x8A0]),
+            Then,
+            Repeat(1, 1),
+        ],
+        jumps: &[(
+            (0x1AE, 0x3FF),
+            &[Place((994, 1034), (1012, 1013), &[0]), Repeat(1, 2)],
+        )],
+        told: Told::Yes(4, 20, 3),
+        ..PLAIN
+    },
+    Row {
+        lists: &[(0x000, 0x3FF)],
+        body: &[
+            Place((0, 0), (0, 2), &[0]),
+            Vctr(7, (-11, -10), (-37, -37), (7, 7)),
+            Svec(3, (768, 768), (768, 768), (0, 7)),
+            Call(&[0x830, 0x850]),
+            Place((2014, 2015), (1004, 1004), &[15]),
+            Call(&[0x8A8, 0x9E0]),
+            Either,
+        ],
+        window: Shown::Clipped,
+        told: Told::Yes(10, 136, 2),
+        ..PLAIN
+    },
+    Row {
+        lists: &[(0x005, 0x016)],
+        body: &[
+            Place((0, 0), (0, 1), &[0]),
+            Vctr(9, (0, 0), (3, 3), (0, 7)),
+            Vctr(0, (123, 123), (43, 83), (0, 0)),
+            Then,
+            Call(&[0x8A0, 0x8B0, 0x8B8]),
+            Then,
+            Repeat(0, 1),
+        ],
+        window: Shown::Clipped,
+        told: Told::Yes(6, 18, 3),
+        ..PLAIN
+    },
+    Row {
+        lists: &[(0x000, 0x3FF)],
+        body: &[
+            Place((23, 24), (30, 31), &[0]),
+            Vctr(9, (-8, -8), (-26, -26), (0, 7)),
+            Call(&[0x820, 0x898, 0x8B8]),
+            Either,
+            Place((35, 75), (31, 31), &[2, 3]),
+        ],
+        budget: 24,
+        told: Told::Yes(8, 18, 4),
+        ..PLAIN
+    },
+    Row {
+        lists: &[(0x000, 0x026)],
+        body: &[
+            Place((1023, 1023), (895, 896), &[0]),
+            Place((0, 0), (0, 0), &[0]),
+            Vctr(9, (-7, -7), (0, 0), (0, 0)),
+            Repeat(2, 3),
+            Then,
+            Fixed(0x9000, 0x7000),
+            Then,
+            Call(&[0x840, 0x8A0]),
+            Call(&[0x840]),
+            Then,
+            Place((-634, -633), (-1011, -1011), &[7]),
+            Either,
+        ],
+        window: Shown::Clipped,
+        told: Told::Yes(5, 24, 3),
+        ..PLAIN
+    },
+    Row {
+        lists: &[(0x000, 0x3FF)],
+        body: &[
+            Place((699, 701), (302, 303), &[0]),
+            Call(&[0x8A0]),
+            Place((39, 79), (427, 428), &[13, 14]),
+            Then,
+            Call(&[0x898, 0x9E0]),
+            Then,
+            Place((998, 999), (985, 985), &[2]),
+            Either,
+            Repeat(0, 1),
+        ],
+        told: Told::Yes(13, 114, 4),
+        ..PLAIN
+    },
+    Row {
+        lists: &[(0x005, 0x024)],
+        body: &[
+            Vctr(9, (-1, 39), (0, 0), (7, 7)),
+            Vctr(3, (-28, 12), (2, 42), (7, 7)),
+            Call(&[0x860]),
+            Repeat(0, 1),
+            Place((-1027, -987), (620, 620), &[7, 15]),
+            Then,
+            Repeat(0, 3),
+            Vctr(8, (-34, -33), (26, 27), (0, 7)),
+            Repeat(1, 1),
+        ],
+        window: Shown::Clipped,
+        told: Told::Frame(Some(0), 44),
+        ..PLAIN
+    },
+    Row {
+        lists: &[(0x001, 0x3FF)],
+        body: &[
+            Svec(2, (768, 768), (-768, -512), (0, 7)),
+            Place((24, 64), (360, 400), &[14]),
+            Either,
+            Vctr(3, (-27, 13), (44, 44), (0, 7)),
+        ],
+        told: Told::Frame(Some(0), 44),
+        ..PLAIN
+    },
+    Row {
+        lists: &[(0x001, 0x3FF)],
+        body: &[
+            Vctr(7, (-170, -169), (-193, -192), (0, 7)),
+            Repeat(3, 3),
+            Place((-999, -998), (2042, 2047), &[3, 13]),
+            Place((-713, -713), (-62, -22), &[1]),
+        ],
+        budget: 22,
+        window: Shown::Clipped,
+        told: Told::Frame(Some(0), 44),
+        ..PLAIN
+    },
+];
+
+#[test]
+fn judges_places(rt: HostRuntime) {
+    expect_told(&rt, rt.alloc(), ROM, JUDGES_PLACES);
+}
+
+#[test]
+fn judges_branches(rt: HostRuntime) {
+    expect_told(&rt, rt.alloc(), ROM, JUDGES_BRANCHES);
+}
+
+#[test]
+fn judges_turns(rt: HostRuntime) {
+    expect_told(&rt, rt.alloc(), ROM, JUDGES_TURNS);
+}
+
+#[test]
+fn counts_words(rt: HostRuntime) {
+    expect_told(&rt, rt.alloc(), ROM, COUNTS_WORDS);
+}
+
+#[test]
+fn asks_for_room(rt: HostRuntime) {
+    expect_told(&rt, rt.alloc(), ROM, ASKS_FOR_ROOM);
+}
+
+#[test]
+fn makes_entries(rt: HostRuntime) {
+    expect_told(&rt, rt.alloc(), ROM, MAKES_ENTRIES);
+}
+
+#[test]
+fn judges_windows(rt: HostRuntime) {
+    expect_told(&rt, rt.alloc(), ROM, JUDGES_WINDOWS);
+}
+
+#[test]
+fn judges_mixed_parts(rt: HostRuntime) {
+    expect_told(&rt, rt.alloc(), ROM, JUDGES_MIXED_PARTS);
+}
+
+/// The recipe of a place at some scales, and a call of each word from 800 to BFF.
+fn all_shapes(alloc: Global, scales: &[u8]) -> Result<Option<Recipe>, AllocError> {
+    let mut targets = Vec::new(alloc);
+    for to in 0x800..0xC00u16 {
+        targets.push(to)?;
+    }
+    let mut stack = Stack::new(alloc);
+    stack.push_place((512, 512), (512, 512), scales)?;
+    stack.push(PieceKind::Call(targets))?;
+    let body = stack.part(&[])?;
+    let mut lists = Vec::new(alloc);
+    lists.push(Area {
+        first: 0,
+        last: 0x0FF,
+    })?;
+    Ok(Recipe::new(lists, body, Vec::new(alloc), stack.next))
+}
+
+/// The most entries: those of 1,024 shapes at four scales.
+#[test]
+fn makes_most_entries(rt: HostRuntime) {
+    let bytes = frame_bytes(&[(0x800, &[0xD000; 1024])]);
+    let rom = RomImage::from_bytes_on(Machine::Board, &bytes, ASTEROIDS).expect(&rt, "a ROM");
+    let rows: &[(&[u8], Told)] = &[
+        (&[0, 5, 9, 15], Told::Yes(4096, 5, 1)),
+        (
+            &[0, 3, 5, 9, 15],
+            Told::Unmade(1, 0x800, Key::At(15), EntryFault::TooManyEntries),
+        ),
+    ];
+    for (scales, want) in rows {
+        let recipe = all_shapes(rt.alloc(), scales).expect(&rt, "memory for the recipe");
+        let recipe = recipe.expect(&rt, "a recipe");
+        let answer = judge_recipe(rt.alloc(), &rom, &recipe, 20_000, SCREEN);
+        expect_same(&rt, &as_told(&answer), want, scales);
+    }
+}
