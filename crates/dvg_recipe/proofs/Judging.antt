@@ -1,14 +1,14 @@
 -- What leads from good fronts of frames to good fronts.
-use Rattle.dvg_recipe.proofs.Common.{◌≡◌, ◌⊎◌, ◌≤◌, ◌<◌, ◌+◌, ℕ, zero, suc, List, [], ◌∷◌, ◌++◌, length, take, get_or, take-suc, take_all, Some, refl, sym, subst, inl, inr, ⊎_elim, arith, nat_tests, cases_lt, Contains, LeadsTo, next_address}
-use Rattle.dvg_check.proofs.Common.{Window, Entry, Known, Item, Instr, Rtsl, Jmpl, Holds, Cell, FrameKeeps, FramePlaceKeeps, CellKeeps, IsForward, frame_word, frame_context, Context, seen_at, Frame, ◌≢◌}
+use Rattle.dvg_recipe.proofs.Common.{◌≡◌, ◌⊎◌, ◌≤◌, ◌<◌, ℕ, zero, suc, List, [], ◌∷◌, ◌++◌, length, take, get_or, take-suc, take_all, Some, refl, sym, subst, ⊎_elim, arith, nat_tests, cases_lt, next_address}
+use Rattle.dvg_check.proofs.Common.{Window, Entry, Item, Rtsl, Cell, FrameKeeps, CellKeeps, IsForward, frame_word, frame_context, seen_at, Frame, ◌≢◌}
 unfoldable use Rattle.dvg_check.proofs.Common.{cell_at}
 use Rattle.dvg_items.specs.Known.{known_before}
 use Rattle.dvg_check.specs.declared.fault.FrameWhy.TheVariants as frame
 use Rattle.dvg_check.specs.declared.fault.FrameWhy.{FrameWhy}
 use Rattle.dvg_items.specs.declared.seen.Seen.{Seen}
 use Rattle.dvg_words.specs.declared.machine.Machine.TheVariants.{Board}
-use Rattle.dvg_recipe.specs.Recipes.{Part, Row, Then', Either', Repeat', Piece, Jump, Area, Takes, AddsPiece, AddsRow, AddsJump, Spells, SpellsJumps, Times, BeginsAt}
-use Rattle.dvg_recipe.specs.Private.Hulls.{Hull, Covers, AreUnder, HasFormat, KeepsOthers, GoesOn, LeadOn}
+use Rattle.dvg_recipe.specs.Recipes.{Part, Row, Then', Either', Repeat', Piece, Jump, AddsPiece, AddsRow, AddsJump, Spells, SpellsJumps, Times}
+use Rattle.dvg_recipe.specs.Private.Hulls.{Hull, AreUnder, KeepsOthers, LeadOn}
 use Rattle.dvg_recipe.specs.Private.Judging.{Adds, Both, Turns, IsTaken, IsJump, IsFront, Extends, IsGoodFront, Carries}
 use Rattle.dvg_recipe.proofs.Past.{format_there}
 

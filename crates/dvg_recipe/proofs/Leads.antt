@@ -1,10 +1,9 @@
 -- What leads on from one hull after another.
-use Rattle.dvg_recipe.proofs.Common.{◌≡◌, ◌<◌, ◌≤◌, ◌+◌, ◌∙◌, ℕ, suc, zero, List, [], ◌∷◌, ◌++◌, Option, length, take, get_or, take-suc, take_all, refl, sym, subst, ⊎_elim, arith, Contains, Contains-append_cases}
+use Rattle.dvg_recipe.proofs.Common.{◌≡◌, ◌<◌, ◌≤◌, ℕ, suc, zero, List, [], ◌∷◌, length, take, get_or, take-suc, take_all, refl, sym, subst, ⊎_elim, arith, Contains, Contains-append_cases}
 use Rattle.dvg_check.proofs.Common.{Window, Entry, Known, Item, Key, Frame, target}
-use Rattle.dvg_words.specs.declared.machine.Machine.TheVariants.{Board}
 use Rattle.dvg_cert.specs.declared.limits.TheConstants.{MOST_WORDS}
-use Rattle.dvg_items.specs.Known.{callee_at, known_past}
-use Rattle.dvg_recipe.specs.Private.Hulls.{Hull, Change, Covers, AreUnder, IsInHull, IsChange, IsAnyChange, AreChanges, HasFormat, HullKeeps, AllPut, GoesOn, LeadOn, hull_past, IsSoundHull, AreNearPlaces}
+use Rattle.dvg_items.specs.Known.{callee_at}
+use Rattle.dvg_recipe.specs.Private.Hulls.{Hull, Change, AreUnder, IsInHull, IsChange, AreChanges, HasFormat, HullKeeps, AllPut, GoesOn, LeadOn, hull_past, IsSoundHull, AreNearPlaces}
 use Rattle.dvg_recipe.proofs.Past.{keeps_others, inside_past, more_near_places}
 use Rattle.dvg_recipe.proofs.Sounds.{listed_alone, none_covered}
 

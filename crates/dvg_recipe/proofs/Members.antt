@@ -1,10 +1,9 @@
 -- Every frame of a recipe is good where its items lead to good fronts.
-use Rattle.dvg_recipe.proofs.Common.{◌≡◌, ◌≤◌, ◌+◌, ◌∙◌, ℕ, List, [], ◌∷◌, Contains, refl, sym, subst, ap, arith, nat_tests, LeadsTo, Some, None}
-use Rattle.dvg_check.proofs.Common.{Window, Entry, Item, Known, Halt, Holds, Cell, Format, Short, FrameKeeps, CellKeeps, GoodFrame, Frame, frame_word, frame_context, Context, seen_at, Source, IsFrame}
+use Rattle.dvg_recipe.proofs.Common.{◌≡◌, ◌≤◌, ◌+◌, ◌∙◌, ℕ, List, Contains, refl, sym, subst, ap, arith}
+use Rattle.dvg_check.proofs.Common.{Window, Entry, Item, Halt, Holds, Cell, Format, Short, FrameKeeps, CellKeeps, GoodFrame, Frame, frame_word, frame_context, Context, seen_at, Source}
 unfoldable use Rattle.dvg_check.proofs.Common.{cell_at}
-use Rattle.std.proofs.Common.{Result, Ok, Err}
+use Rattle.std.proofs.Common.{Result, Ok}
 use Rattle.dvg_items.specs.Known.{known_before}
-use Rattle.dvg_items.specs.Items.{AtEachOf}
 use Rattle.dvg_items.proofs.Leading.{everywhere}
 use Rattle.dvg_check.specs.declared.fault.FrameWhy.{FrameWhy}
 use Rattle.dvg_check.specs.declared.fault.FrameWhy.TheVariants as rule
@@ -19,7 +18,7 @@ use Rattle.dvg_words.specs.declared.machine.Machine.TheVariants.{Board}
 use Rattle.dvg_recipe.specs.Recipes.{Recipe, Belongs, Spells, SpellsJumps}
 use Rattle.dvg_recipe.specs.Means.{AllMean}
 use Rattle.dvg_recipe.specs.Private.Hulls.{Hull}
-use Rattle.dvg_recipe.specs.Private.Judging.{IsFront, IsGoodFront, Carries, AreListStarts, IsCounted}
+use Rattle.dvg_recipe.specs.Private.Judging.{IsFront, Carries, AreListStarts, IsCounted}
 use Rattle.dvg_recipe.proofs.Past.{format_there}
 use Rattle.dvg_recipe.proofs.Judging.{extends_part, extends_jumps}
 

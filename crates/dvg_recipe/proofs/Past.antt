@@ -1,7 +1,7 @@
 -- What a change does to all that a hull has.
 unfoldable use Rattle.dvg_check.proofs.Common.{cell_at, instruction_of}
-use Rattle.dvg_recipe.proofs.Common.{nat_tests, ◌≡◌, ◌≤◌, ◌+◌, ℕ, List, Option, arith, refl, sym, subst, ap, ◌∙◌, Contains}
-use Rattle.dvg_check.proofs.Common.{ints, InWindow, shift, Window, Point, Entry, End, Rel, Abs, Known, Item, Effect, LitExtent, Between, Nothing, Anywhere, PlaceKnown, ScaleKnown, LitInWindow, place_past, Instr, Holds, Labs, Halt, Jsrl, Rtsl, Jmpl, Draws, Format, Short, Long, Source, nat_le, cell_of_format}
+use Rattle.dvg_recipe.proofs.Common.{nat_tests, ◌≡◌, ◌≤◌, ◌+◌, ℕ, Option, arith, refl, sym, ◌∙◌}
+use Rattle.dvg_check.proofs.Common.{ints, InWindow, shift, Window, Point, Entry, End, Rel, Abs, Known, Item, Effect, LitExtent, Between, Nothing, Anywhere, PlaceKnown, ScaleKnown, LitInWindow, place_past, Instr, Holds, Format, Short, Long, Source, nat_le, cell_of_format}
 use Rattle.dvg_cert.specs.declared.entry.End.TheVariants.{Lost as LostEnd}
 use Rattle.dvg_words.specs.declared.machine.Machine.TheVariants.{Board}
 use Rattle.dvg_items.specs.declared.known.Effect.TheVariants.{Sets, Loses, Moves}
@@ -12,7 +12,7 @@ use Rattle.dvg_items.proofs.Common.{clamps}
 use Rattle.dvg_items.specs.Bounds.{ITEM_REACH}
 use Rattle.dvg_items.proofs.Reached.{reached_more, reached_shift}
 use Rattle.dvg_cert.specs.declared.limits.TheConstants.{MOST_WORDS}
-use Rattle.dvg_recipe.specs.Private.Hulls.{Rectangle, Places, Lost, Within, Hull, Motion, To, Away, By, Light, Dark, Shown, Unbounded, Change, IsInRectangle, IsAmong, IsInHull, Covers, AreUnder, IsMotion, IsLight, IsChange, moved, places_past, hull_past, around, joined_places, joined, IsNearRectangle, AreNearPlaces, IsNearMotion, IsSoundHull, IsSoundChange, HasFormat, IsShown, LightsIn, HullKeeps, KeepsOthers, GoesOn, LeadOn}
+use Rattle.dvg_recipe.specs.Private.Hulls.{Rectangle, Places, Lost, Within, Hull, Motion, To, Away, By, Light, Dark, Shown, Unbounded, Change, IsInRectangle, IsAmong, IsInHull, IsMotion, IsLight, IsChange, moved, places_past, hull_past, around, joined_places, joined, IsNearRectangle, AreNearPlaces, IsNearMotion, IsSoundHull, IsSoundChange, HasFormat, IsShown, LightsIn, HullKeeps, KeepsOthers}
 
 -- ---- rectangles
 

@@ -1,5 +1,4 @@
-use Rattle.dvg_recipe.proofs.Common.{arith, refl, length, ◌<◌, ◌+◌, Contains-get_or, ◌∷◌, [], List, subst}
-use Rattle.dvg_recipe.specs.Private.Hulls.{Hull, AreUnder}
+use Rattle.dvg_recipe.proofs.Common.{arith, length, ◌<◌, ◌+◌, Contains-get_or}
 use Rattle.dvg_recipe.proofs.Sounds.{under_same, under_on, under_none, under_next, under_whole}
 use Rattle.dvg_recipe.proofs.hulls.add_all.Goals as goal
 

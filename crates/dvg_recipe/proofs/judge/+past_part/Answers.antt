@@ -1,5 +1,5 @@
 use Rattle.std.proofs.Common.{Box, Global}
-use Rattle.dvg_recipe.proofs.Common.{◌≡◌, ◌+◌, ◌∙◌, refl, subst, sym, arith, List}
+use Rattle.dvg_recipe.proofs.Common.{◌+◌, ◌∙◌, subst, sym, arith, List}
 use Rattle.dvg_recipe.specs.Recipes.{Part, Row, Then', Either', Repeat', AddsRow, Spells, Times}
 use Rattle.dvg_recipe.specs.Private.Hulls.{Hull, AreUnder, AreSoundHulls}
 use Rattle.dvg_recipe.specs.Private.Judging.{Carries, Turns}

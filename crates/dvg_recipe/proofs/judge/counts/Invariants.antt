@@ -1,4 +1,4 @@
-use Rattle.dvg_recipe.proofs.Common.{◌+◌, ◌≤◌, take, Contains}
+use Rattle.dvg_recipe.proofs.Common.{take, Contains}
 use Rattle.dvg_recipe.specs.Private.Hulls.{Hull}
 use Rattle.dvg_recipe.specs.Private.Judging.{IsCounted}
 use Rattle.dvg_recipe.proofs.judge.counts.Given as goal

@@ -1,5 +1,4 @@
 use Rattle.dvg_recipe.proofs.Common.{refl, arith, zero}
-use Rattle.dvg_recipe.specs.Private.Hulls.{Hull, IsInHull, Covers}
 use Rattle.dvg_recipe.proofs.judge.first_hull.Goals as goal
 
 pub returns-clause-first : goal.returns-clause-first

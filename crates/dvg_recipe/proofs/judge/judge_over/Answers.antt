@@ -1,4 +1,4 @@
-use Rattle.dvg_recipe.proofs.Common.{◌≡◌, List, arith, refl, subst, sym, None, IfOk, Contains}
+use Rattle.dvg_recipe.proofs.Common.{List, subst, sym, Contains}
 use Rattle.dvg_recipe.specs.Limits.{MOST_LEVELS, MOST_NESTED}
 use Rattle.dvg_recipe.specs.Recipes.{Part, Jump, Area, Spells, SpellsJumps}
 use Rattle.dvg_recipe.specs.Private.Hulls.{Hull}

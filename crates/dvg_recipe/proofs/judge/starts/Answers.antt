@@ -1,7 +1,6 @@
-use Rattle.dvg_recipe.proofs.Common.{◌<◌, ◌+◌, length, List, zero, arith, subst}
+use Rattle.dvg_recipe.proofs.Common.{◌<◌, ◌+◌, length, List, arith, subst}
 use Rattle.dvg_recipe.specs.Private.Hulls.{Hull, AreUnder}
 use Rattle.dvg_recipe.proofs.Onward.{starts_more, starts_whole}
-use Rattle.dvg_recipe.specs.Recipes.{Area}
 use Rattle.dvg_recipe.proofs.judge.starts.Goals as goal
 
 pub loop-area-preserved : goal.loop-area-preserved

@@ -1,9 +1,6 @@
-use Rattle.std.proofs.Common.{Vec, Global}
 use Rattle.dvg_recipe.proofs.Common.{arith}
-use Rattle.dvg_check.proofs.Common.{◌≢◌}
-use Rattle.dvg_recipe.specs.Private.Hulls.{Hull}
 use Rattle.dvg_recipe.proofs.Leading.{if_ok_on}
-use Rattle.dvg_recipe.proofs.Onward.{starts_here, starts_there}
+use Rattle.dvg_recipe.proofs.Onward.{starts_there}
 use Rattle.dvg_recipe.proofs.judge.starts_in.Goals as goal
 
 pub returns-clause-starts : goal.returns-clause-starts
