@@ -89,3 +89,8 @@ module _ (xs : List Hull) (i : ℕ) (x y h : Hull) (lt : i < length xs) (at : (d
 
 pub scale_at : (xs ys : List Hull) (i : ℕ) (y h : Hull) → xs ≡ ys → HasScaleAt xs h.scale i y → HasScaleAt ys h.scale i y
 scale_at xs ys i y h same has = subst (λ (l : List Hull). HasScaleAt l h.scale i y) same has
+
+-- ---- a hull of sound hulls
+
+pub sound_at : (hulls : List Hull) (i : ℕ) (d : Hull) → AreSoundHulls hulls → i < length hulls → IsSoundHull (get_or hulls i d)
+sound_at hulls i d h lt = h.each (get_or hulls i d) (Contains-get_or hulls i d lt)

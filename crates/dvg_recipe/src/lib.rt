@@ -6,7 +6,9 @@
 
 mod belonging;
 mod changes;
+mod choices;
 mod frame_items;
+mod goal;
 mod hull;
 mod hulls;
 mod indices;
@@ -21,7 +23,11 @@ mod rectangles;
 mod takes;
 #[cfg(test)]
 mod tests;
+mod trail;
 mod tried;
+mod witness;
+#[cfg(test)]
+mod witness_tests;
 
 pub use belonging::{Leaving, NotMember, belongs};
 pub use lengths::too_long;

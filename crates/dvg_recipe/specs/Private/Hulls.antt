@@ -1,5 +1,6 @@
 -- Hulls: all that may be known at a point of a recipe, at one scale each, and what the items of a piece may do to it.
 use Rattle.std.specs.Int.{int_min, int_max}
+use Rattle.std.proofs.Common.{Vec, Global}
 use Rattle.std.specs.Prelude.{◌≡◌, ℕ, zero, suc, pos, ◌*ℤ◌, true, false, None, Some, ◌+◌, ◌≤◌, ◌<◌, ◌≤ℤ◌, max, length, slice_index_or, List, [], ◌∷◌, Option, Contains, IsTrue, unwrap_or}
 use Rattle.dvg_words.specs.Values.{Window, DrawFields}
 use Rattle.dvg_words.specs.declared.machine.Machine.TheVariants.{Board}
@@ -319,6 +320,10 @@ pub record IsSoundHull (h : Hull) : Type 0 where
 -- so are those of each
 pub record AreSoundHulls (hulls : List Hull) : Type 0 where
   pub each : (h : Hull) → Contains hulls h → IsSoundHull h
+
+-- so are those of each of some sets of hulls
+pub record AreSoundFronts (fronts : List (Vec Hull Global)) : Type 0 where
+  pub each : (here : Vec Hull Global) → Contains fronts here → AreSoundHulls here.items
 
 -- the numbers of a change are within the limits
 pub record IsSoundChange (c : Change) : Type 0 where

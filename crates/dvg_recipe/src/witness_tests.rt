@@ -1,0 +1,1 @@
+//! Frames that are found for a recipe.
