@@ -133,9 +133,11 @@ fn side_leaving(window: &Window, hull: &Hull, change: &Change) -> Option<Number>
     let (Places::Within(r), Light::Shown { from, to }) = (&hull.places, &change.light) else {
         return None;
     };
-    match side_out(window, &moved(r, from), r) {
+    let first = moved(r, from);
+    let last = moved(r, to);
+    match side_out(window, &first, r) {
         Some(side) => Some(side),
-        None => side_out(window, &moved(r, to), r),
+        None => side_out(window, &last, r),
     }
 }
 
