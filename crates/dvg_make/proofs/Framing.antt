@@ -13,6 +13,18 @@ use Rattle.dvg_make.proofs.Onward.{claim_at}
 pub done_made : (rom : Rom) (done : List Entry) → IsDone rom done → AllMade rom done
 done_made rom done h e c = let is = h.entries e c in record { made = h.made e c; words = is.words_high; depth = is.depth }
 
+-- ---- what a refusal means
+
+-- lists of made entries agree, so a list that has the entry would go on from what is made so far
+module _ (rom : Rom) (done : List Entry) (is : IsDone rom done) (to : ℕ) (scale : Key) where
+  pub entry_barred : NoAim rom done (to, scale) → Barred rom to scale
+  entry_barred none list all has = let mine = done_made rom done is in none (done ++ list) (record { all = all_merged rom done list mine all; extends = extends_more done list; has = (has.0, extends_second rom done list mine all to scale has.0 has.1) })
+
+  pub bars_entry : (why : EntryFault) → Bars rom done (to, scale) why → BarsEntry rom to scale why
+  bars_entry TooManyEntries b = tt
+  bars_entry Memory b = tt
+  bars_entry why b = entry_barred b
+
 -- ---- the items of a frame end
 
 module _ (machine : Machine) (words : List ℕ) (list : List Entry) where
@@ -125,20 +137,17 @@ module _ (rom : Rom) (words : List ℕ) (old done : List Entry) (at : ℕ) (scal
         record { list = done; made = done_made rom done w.is_done; to = to; scale = scale; call = record { calls = k.calls; at_is = refl; before = k.keyed }; barred = b }
 
     module _ (no : NoAim rom done (to, scale)) where
-      entry_barred : Barred rom to scale
-      entry_barred list all has = let mine = done_made rom done w.is_done in no (done ++ list) (record { all = all_merged rom done list mine all; extends = extends_more done list; has = (has.0, extends_second rom done list mine all to scale has.0 has.1) })
-
       none_accepts : NoneAccepts rom words
       none_accepts v mode list budget count depth a =
           let up = upheld rom list v a.certificate (in_bound v rom list mode a.good) in
           let cover = frame_cover rom list up words v budget a.frame.keeps done (done_made rom done w.is_done) to scale (call_of_path rom.machine words done item to scale w.path is t) in
           let b = better rom list up cover.0 cover.1 scale cover.2.key in
-          entry_barred b.list b.all (b.f, subst (λ a. entry_at b.list a scale ≡ Some b.f) cover.2.addr b.found_it)
+          entry_barred rom done w.is_done to scale no b.list b.all (b.f, subst (λ a. entry_at b.list a scale ≡ Some b.f) cover.2.addr b.found_it)
 
     call_barred : (why : EntryFault) → Bars rom done (to, scale) why → BarsHere rom words old at why
     call_barred TooManyEntries b = ((λ list all ext has_calls. b list (aim list all ext has_calls)), stops TooManyEntries tt, tt)
     call_barred Memory b = (tt, stops Memory tt, tt)
-    call_barred why b = ((λ list all ext has_calls. b list (aim list all ext has_calls)), stops why (entry_barred b), none_accepts b)
+    call_barred why b = ((λ list all ext has_calls. b list (aim list all ext has_calls)), stops why (entry_barred rom done w.is_done to scale b), none_accepts b)
 
   -- ---- past the item
 

@@ -1,4 +1,5 @@
 pub mod Made
+pub mod EntryMaker
 pub mod Frames
 pub mod Refusals
 pub mod Accounts

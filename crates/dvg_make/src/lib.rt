@@ -2,10 +2,12 @@
 //! least boxes.
 //!
 //! [`make_for_frames`] answers the one list that a ROM, roots and frames ask for, or a fault: where they have none, or where
-//! memory is out; [`make`] does so for roots alone. [`judge`] judges a frame by its own certificate.
+//! memory is out; [`make`] does so for roots alone, and [`EntryMaker`] makes one root's entry after another's. [`judge`] judges a
+//! frame by its own certificate.
 #![tactic(auto)]
 
 mod account;
+mod entry_maker;
 mod fault;
 mod frames;
 mod judging;
@@ -21,6 +23,7 @@ mod stack;
 mod tails;
 
 pub use account::{EntryCause, MakeAccount, ShapeAt, explain_making};
+pub use entry_maker::EntryMaker;
 pub use fault::{EntryFault, FrameCall, FramesFault, MakeFault};
 pub use judging::{FrameRefusal, JudgedFrame, explain_judging, judge, own_verdict};
 pub use maker::{make, make_for_frames};

@@ -10,8 +10,9 @@ use Rattle.dvg_check.specs.declared.fault.FrameWhy.{FrameWhy}
 use Rattle.dvg_check.specs.declared.fault.FrameWhy.TheVariants as rule
 use Rattle.dvg_check.specs.declared.frames.Accepted.{Accepted}
 use Rattle.dvg_check.specs.Rules.{FramePlaceKeeps}
-use Rattle.dvg_check.specs.Judged.{Shapes, IsJudged}
-use Rattle.dvg_check.specs.Means.{Means}
+use Rattle.dvg_check.specs.Judged.{IsJudged}
+use Rattle.dvg_check.specs.declared.fault.Mode.TheVariants.{Exact}
+use Rattle.dvg_words.specs.Memory.{Rom}
 use Rattle.dvg_check.proofs.Accepting.{accepted}
 use Rattle.dvg_words.specs.Values.{IsWindowOrZone}
 use Rattle.dvg_words.specs.declared.machine.Machine.TheVariants.{Board}
@@ -72,10 +73,10 @@ module _ (w : Window) (list : List Entry) (budget : ℕ) (recipe : Recipe) (word
         }
 
 -- so each of them is all that a yes means
-pub every_means : (shapes : Shapes) (budget : ℕ) (recipe : Recipe) (words depth : ℕ) → IsJudged shapes → IsWindowOrZone shapes.window → shapes.rom.machine ≡ Board
-    → ((frame : List ℕ) → Belongs recipe frame → IsGoodMember shapes.window shapes.list budget recipe words depth frame) → AllMean shapes recipe words depth
-every_means shapes budget recipe words depth judged fits board each frame b =
+pub every_means : (rom : Rom) (list : List Entry) (w : Window) (budget : ℕ) (recipe : Recipe) (words depth : ℕ) → IsJudged (record { rom = rom; list = list; window = w; mode = Exact }) → IsWindowOrZone w → rom.machine ≡ Board
+    → ((frame : List ℕ) → Belongs recipe frame → IsGoodMember w list budget recipe words depth frame) → AllMean rom recipe w words depth
+every_means rom list w budget recipe words depth judged fits board each frame b =
     let t = each frame b in
     let yes : Accepted = record { words = t.n; depth = t.d } in
     let ok : Result Accepted (Unit {0}) = Ok yes in
-    (t.n, t.d, t.few, t.shallow, accepted shapes frame budget ok judged b.frame fits (subst (λ m. GoodFrame shapes.window m frame shapes.list budget t.n t.d) (sym board) t.good))
+    (t.n, t.d, t.few, t.shallow, accepted (record { rom = rom; list = list; window = w; mode = Exact }) frame budget ok judged b.frame fits (subst (λ m. GoodFrame w m frame list budget t.n t.d) (sym board) t.good))

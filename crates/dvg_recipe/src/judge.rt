@@ -429,7 +429,7 @@ pub fn judge_over<E: Entries>(
     requires list { IsSomeCertificate (E.list entries.now) }
     requires good { Good Exact asked.now.window rom.now (E.list entries.now) }
     requires board { rom.now.machine ≡ Board }
-    ensures { IfOk result (λ yes. AllMean (record { rom = rom.now; list = E.list entries.now; window = asked.now.window; mode = Exact }) recipe.now yes.words yes.depth) }
+    ensures { IfOk result (λ yes. AllMean rom.now recipe.now asked.now.window yes.words yes.depth) }
 {
     // Their clauses say that the ROM is whole, and that the window is a part of the screen, or the zone.
     let _map = rom.map();

@@ -135,6 +135,39 @@ fn counts_branches(rt: HostRuntime) {
     }
 }
 
+/// Up to four times a place, or up to three times a call and a draw, and behind it a call: 40 words.
+fn mixed(alloc: Global) -> Result<Part, AllocError> {
+    let zero = (span(0, 0), span(0, 0));
+    let draws = row(alloc, 2, draw(Format::Long, 9, zero, span(0, 7)))?;
+    let strokes = repeat(alloc, 0, 3, pair(alloc, shapes(alloc, &[1])?, draws)?)?;
+    let branches = either(alloc, row(alloc, 0, place())?, strokes)?;
+    let turn = pair(alloc, branches, shapes(alloc, &[3])?)?;
+    repeat(alloc, 0, 4, turn)
+}
+
+#[test]
+fn counts_mixed(rt: HostRuntime) {
+    let rows: &[Ends] = &[
+        (&[(0x200, 0x200)], Some(0)),
+        (&[(0x200, 0x201)], Some(2)),
+        (&[(0x200, 0x202)], Some(1)),
+        (&[(0x200, 0x204)], Some(2)),
+        (&[(0x200, 0x208)], Some(3)),
+        (&[(0x200, 0x209)], Some(0)),
+        (&[(0x200, 0x20A)], Some(0)),
+        (&[(0x200, 0x20B)], Some(2)),
+        (&[(0x200, 0x20F)], Some(1)),
+        (&[(0x200, 0x219)], Some(1)),
+        (&[(0x200, 0x226)], Some(3)),
+        (&[(0x200, 0x227)], Some(4)),
+        (&[(0x200, 0x228)], None),
+    ];
+    for (areas, past) in rows {
+        let body = mixed(rt.alloc()).expect(&rt, "memory for the body");
+        expect_past(&rt, straight(rt.alloc(), areas, body, 4), *past, areas);
+    }
+}
+
 /// A jump of this number to an area, and what stands there.
 fn jump(number: u16, first: u16, last: u16, body: Part) -> Jump {
     let area = Area { first, last };
