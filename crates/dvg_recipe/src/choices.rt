@@ -14,7 +14,11 @@ pub struct Words {
 /// The twelve bits of a coordinate of a LABS, in two's complement.
 fn coordinate(place: i16) -> u16 {
     let size = place.unsigned_abs() % 4096;
-    if place < 0 { (4096 - size) % 4096 } else { size }
+    if place < 0 {
+        (4096 - size) % 4096
+    } else {
+        size
+    }
 }
 
 /// The ten bits of a VCTR's size, and its sign.
@@ -50,7 +54,11 @@ fn svec(lscale: u8, dx: i16, dy: i16, bright: i16) -> Words {
     let code = u16::from(lscale.saturating_sub(2));
     let scale = (code & 0x0001) << 11 | (code & 0x0002) << 2;
     Words {
-        first: 0xF000 | scale | svec_size(dy) << 8 | (bright.unsigned_abs() & 0x000F) << 4 | svec_size(dx),
+        first: 0xF000
+            | scale
+            | svec_size(dy) << 8
+            | (bright.unsigned_abs() & 0x000F) << 4
+            | svec_size(dx),
         second: 0,
     }
 }

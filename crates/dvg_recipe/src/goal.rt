@@ -1,6 +1,7 @@
 //! What a front of items has to lead to: a number of a hull.
 
-ghost use Rattle.dvg_recipe.specs.Private.Hulls.{IsSoundHull, IsSoundChange};
+ghost use Rattle.dvg_cert.specs.declared.limits.TheConstants.{MOST_WORDS};
+ghost use Rattle.dvg_recipe.specs.Private.Hulls.{IsSoundHull, IsSoundChange, IsNearRectangle, AreNearPlaces, IsNearLight};
 
 use crate::hull::{Change, Hull, Light, Motion, Places, Rectangle};
 use crate::rectangles::moved;
@@ -124,31 +125,40 @@ fn side_out(window: &Window, seen: &Rectangle, r: &Rectangle) -> Option<Number> 
     }
 }
 
-/// The side of a hull's places from which what a change lights leaves the window.
-#[tactic(auto, using(crate::proofs::Leads::near_most))]
-fn side_leaving(window: &Window, hull: &Hull, change: &Change) -> Option<Number>
-    requires hull { IsSoundHull hull.now }
-    requires change { IsSoundChange change.now }
+/// The side of a rectangle from which what is lit between two corners leaves the window.
+fn side_lit(window: &Window, r: &Rectangle, from: &Rectangle, to: &Rectangle) -> Option<Number>
+    requires r { IsNearRectangle MOST_WORDS r.now }
+    requires from { IsNearRectangle 1 from.now }
+    requires to { IsNearRectangle 1 to.now }
 {
-    let (Places::Within(r), Light::Shown { from, to }) = (&hull.places, &change.light) else {
-        return None;
-    };
-    let first = moved(r, from);
-    let last = moved(r, to);
-    match side_out(window, &first, r) {
+    match side_out(window, &moved(r, from), r) {
         Some(side) => Some(side),
-        None => side_out(window, &last, r),
+        None => side_out(window, &moved(r, to), r),
+    }
+}
+
+/// The side of places from which what is lit leaves the window.
+fn side_leaving(window: &Window, places: &Places, light: &Light) -> Number
+    requires places { AreNearPlaces MOST_WORDS places.now }
+    requires light { IsNearLight light.now }
+{
+    match (light, places) {
+        (Light::Shown { from, to }, Places::Within(r)) => {
+            side_lit(window, r, from, to).unwrap_or(Number::Any)
+        }
+        _ => Number::Any,
     }
 }
 
 /// What the items before an item have to lead to, if the item breaks this rule from what a hull has.
+#[tactic(auto, using(crate::proofs::Leads::near_most))]
 pub fn goal_of_fault(window: &Window, hull: &Hull, change: &Change, why: FrameWhy) -> Goal
     requires hull { IsSoundHull hull.now }
     requires change { IsSoundChange change.now }
 {
     let number = match why {
         FrameWhy::BeamUnknown => Number::Lost,
-        FrameWhy::OffScreen => side_leaving(window, hull, change).unwrap_or(Number::Any),
+        FrameWhy::OffScreen => side_leaving(window, &hull.places, &change.light),
         FrameWhy::Budget => Number::Words(hull.words),
         _ => Number::Any,
     };

@@ -8,7 +8,7 @@ ghost use Rattle.dvg_cert.specs.declared.limits.TheConstants.{MOST_WORDS};
 ghost use Rattle.dvg_items.specs.Bounds.{IsSomeCertificate};
 ghost use Rattle.dvg_recipe.specs.Limits.{PieceFits, RowFits};
 ghost use Rattle.dvg_recipe.specs.Private.Judging.{IsWithin, AreWithin};
-ghost use Rattle.dvg_recipe.specs.Private.Hulls.{AreSoundHulls, IsSoundHull, AreSoundFronts};
+ghost use Rattle.dvg_recipe.specs.Private.Hulls.{AreSoundHulls, IsSoundHull, AreSoundFronts, IsSoundSearch};
 
 use crate::changes::words_change;
 use crate::choices::{Words, choices, jsrl};
@@ -57,7 +57,7 @@ impl From<AllocError> for Unfound {
 
 /// How the search of a part ends.
 #[derive(Drop)]
-enum Search {
+pub enum Search {
     /// The place is in the part, and this is what the items before the part have to lead to.
     Found(Goal),
     /// It is not, and these are the hulls behind the part.
@@ -119,6 +119,7 @@ fn item_before<E: Entries>(
 
 /// Adds items of a row that lead to a goal, in front of all others. `fronts` are the hulls before each piece. What the items before the
 /// row have to lead to.
+#[tactic(auto, using(crate::proofs::Sounds::fronts_last, crate::proofs::Sounds::fronts_rest))]
 fn row_back<E: Entries>(
     alloc: Global,
     entries: &E,
@@ -144,6 +145,7 @@ fn row_back<E: Entries>(
 }
 
 /// Keeps the hulls at a place, to come back to them.
+#[tactic(auto, using(crate::proofs::Sounds::fronts_push))]
 fn keep(fronts: &mut Vec<Vec<Hull>>, here: Vec<Hull>) -> Result<(), AllocError>
     requires fronts { AreSoundFronts fronts.old.items }
     requires here { AreSoundHulls here.items }
@@ -154,6 +156,7 @@ fn keep(fronts: &mut Vec<Vec<Hull>>, here: Vec<Hull>) -> Result<(), AllocError>
 }
 
 /// The hulls before each piece of a row.
+#[tactic(auto, using(crate::proofs::Sounds::fronts_none, crate::proofs::Sounds::piece_at))]
 fn row_fronts<E: Entries>(
     alloc: Global,
     entries: &E,
@@ -165,6 +168,7 @@ fn row_fronts<E: Entries>(
     requires budget { asked.now.budget ≤ MOST_WORDS }
     requires fits { RowFits row.now }
     requires here { AreSoundHulls here.now }
+    ensures { IfOk result (λ fronts. AreSoundFronts fronts.items) }
 {
     let mut fronts = Vec::new(alloc);
     let mut here = Vec::from_slice(alloc, here)?;
@@ -177,6 +181,7 @@ fn row_fronts<E: Entries>(
 }
 
 /// The hulls before each turn of a part, up to the first number of turns, at least `least`, behind which a goal is reached.
+#[tactic(auto, using(crate::proofs::Sounds::fronts_none))]
 fn turn_fronts<E: Entries>(
     body: &Part,
     alloc: Global,
@@ -190,6 +195,7 @@ fn turn_fronts<E: Entries>(
     requires budget { asked.now.budget ≤ MOST_WORDS }
     requires fits { IsWithin body.now }
     requires here { AreSoundHulls here.now }
+    ensures { IfOk result (λ fronts. AreSoundFronts fronts.items) }
 {
     let (least, most) = turns;
     let mut fronts = Vec::new(alloc);
@@ -249,6 +255,7 @@ fn part_before<E: Entries>(
 
 /// Adds items of turns of a part that lead to a goal, in front of all others. `fronts` are the hulls before each turn. What the items
 /// before the turns have to lead to.
+#[tactic(auto, using(crate::proofs::Sounds::fronts_last, crate::proofs::Sounds::fronts_rest))]
 #[cycle(part_before)]
 fn turns_back<E: Entries>(
     body: &Part,
@@ -364,6 +371,7 @@ fn stop_at<E: Entries>(
 
 /// Finds the first place in a row at which to stop: adds the items of the row up to there in front of all others, and those behind it
 /// behind all others.
+#[tactic(auto, using(crate::proofs::Sounds::fronts_none, crate::proofs::Sounds::piece_at))]
 fn find_in_row<E: Entries>(
     row: &[Piece],
     alloc: Global,
@@ -377,6 +385,7 @@ fn find_in_row<E: Entries>(
     requires budget { asked.now.budget ≤ MOST_WORDS }
     requires fits { RowFits row.now }
     requires here { AreSoundHulls here.now }
+    ensures { IfOk result IsSoundSearch }
 {
     let mut fronts = Vec::new(alloc);
     let mut here = Vec::from_slice(alloc, here)?;
@@ -412,6 +421,7 @@ fn find_in<E: Entries>(
     requires budget { asked.now.budget ≤ MOST_WORDS }
     requires fits { IsWithin part.now }
     requires here { AreSoundHulls here.now }
+    ensures { IfOk result IsSoundSearch }
 {
     match part {
         Part::Row(row) => find_in_row(row, alloc, entries, asked, stop, here, trail),
@@ -424,7 +434,9 @@ fn find_in<E: Entries>(
                 Search::Past(between) => {
                     match find_in(second, alloc, entries, asked, stop, &between, trail)? {
                         Search::Found(goal) => {
-                            let goal = part_before(first, alloc, entries, asked, here, goal, trail)?;
+                            let goal = part_before(
+                                first, alloc, entries, asked, here, goal, trail,
+                            )?;
                             Ok(Search::Found(goal))
                         }
                         Search::Past(next) => Ok(Search::Past(next)),
@@ -451,6 +463,8 @@ fn find_in<E: Entries>(
 /// How the search of two branches ends, of which one was passed.
 fn joined(next: Vec<Hull>, more: Search) -> Result<Search, Unfound>
     requires next { AreSoundHulls next.items }
+    requires more { IsSoundSearch more }
+    ensures { IfOk result IsSoundSearch }
 {
     match more {
         Search::Found(goal) => Ok(Search::Found(goal)),
@@ -463,6 +477,7 @@ fn joined(next: Vec<Hull>, more: Search) -> Result<Search, Unfound>
 }
 
 /// Finds the first place in the turns of a part at which to stop, as `find_in` does.
+#[tactic(auto, using(crate::proofs::Sounds::fronts_none, crate::proofs::Sounds::none_sound))]
 #[cycle(find_in)]
 fn find_in_turns<E: Entries>(
     body: &Part,
@@ -478,6 +493,7 @@ fn find_in_turns<E: Entries>(
     requires budget { asked.now.budget ≤ MOST_WORDS }
     requires fits { IsWithin body.now }
     requires here { AreSoundHulls here.now }
+    ensures { IfOk result IsSoundSearch }
 {
     let (least, most) = turns;
     let mut fronts = Vec::new(alloc);
@@ -518,6 +534,7 @@ fn find_in_jump<E: Entries>(
     requires budget { asked.now.budget ≤ MOST_WORDS }
     requires fits { IsWithin jump.now.body }
     requires here { AreSoundHulls here.now }
+    ensures { IfOk result IsSoundSearch }
 {
     let mut fault = None;
     let there = past_jump(alloc, asked, &mut fault, Some(jump.number), here)?;
@@ -537,6 +554,7 @@ fn find_in_jump<E: Entries>(
 
 /// Adds jumps, with items of what stands behind each, that lead to a goal, in front of all others. `fronts` are the hulls before each
 /// jump. What the items before the jumps have to lead to.
+#[tactic(auto, using(crate::proofs::Sounds::fronts_last, crate::proofs::Sounds::fronts_rest))]
 fn jumps_back<E: Entries>(
     jumps: &[Jump],
     alloc: Global,
@@ -585,6 +603,7 @@ fn end_goal(asked: &Asked, stop: &Stop, here: &[Hull]) -> Option<Goal>
 
 /// Finds the place at which to stop in jumps, in what stands behind each, or at the HALT. What the items before the jumps have to lead
 /// to.
+#[tactic(auto, using(crate::proofs::Sounds::fronts_none, crate::proofs::Sounds::jump_at))]
 fn find_in_jumps<E: Entries>(
     jumps: &[Jump],
     alloc: Global,
