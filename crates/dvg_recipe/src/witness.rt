@@ -603,7 +603,7 @@ fn end_goal(asked: &Asked, stop: &Stop, here: &[Hull]) -> Option<Goal>
 
 /// Finds the place at which to stop in jumps, in what stands behind each, or at the HALT. What the items before the jumps have to lead
 /// to.
-#[tactic(auto, using(crate::proofs::Sounds::fronts_none, crate::proofs::Sounds::jump_at))]
+#[tactic(auto, using(crate::proofs::Sounds::fronts_none))]
 fn find_in_jumps<E: Entries>(
     jumps: &[Jump],
     alloc: Global,
