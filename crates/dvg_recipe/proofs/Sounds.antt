@@ -1,9 +1,12 @@
 -- Sets of hulls.
-use Rattle.dvg_recipe.proofs.Common.{◌≡◌, ◌<◌, ◌⊎◌, ◌∙◌, ℕ, suc, zero, List, [], ◌∷◌, ◌++◌, length, take, get_or, take-suc, take_all, sym, subst, ap, inl, inr, ⊎_elim, arith, cases_lt, Contains, Contains-append_cases, Contains-append_left, Contains-append_right}
+use Rattle.dvg_recipe.proofs.Common.{◌≡◌, ◌<◌, ◌+◌, ◌⊎◌, ◌∙◌, ℕ, suc, zero, List, [], ◌∷◌, ◌++◌, Option, Some, length, take, get_or, take-suc, take_all, refl, sym, subst, ap, inl, inr, ⊎_elim, arith, cases_lt, Contains, Contains-append_cases, Contains-append_left, Contains-append_right, Contains-get_or}
 use Rattle.std.proofs.lemmas.List.{length-set, get_or-set_same, get_or-set_other}
-use Rattle.std.proofs.Common.{set, ◌≤◌}
+use Rattle.std.proofs.Common.{set, ◌≤◌, slice_index_or, Vec, Global, option_to_list}
 use Rattle.dvg_check.proofs.Common.{Known, ◌≢◌}
-use Rattle.dvg_recipe.specs.Private.Hulls.{Hull, Covers, AreUnder, IsInHull, AreSoundHulls, IsSoundHull, HasScaleAt, joined}
+use Rattle.dvg_recipe.specs.Private.Hulls.{Hull, Covers, AreUnder, IsInHull, AreSoundHulls, IsSoundHull, HasScaleAt, joined, AreSoundFronts}
+use Rattle.dvg_recipe.specs.Limits.{PieceFits, RowFits}
+use Rattle.dvg_recipe.specs.Recipes.{Piece, Jump}
+use Rattle.dvg_recipe.specs.Private.Judging.{IsWithin, AreWithin}
 use Rattle.dvg_recipe.proofs.Past.{hull_one, hull_other, joined_sound}
 
 pub under_same : (xs : List Hull) → AreUnder xs xs
@@ -89,3 +92,40 @@ module _ (xs : List Hull) (i : ℕ) (x y h : Hull) (lt : i < length xs) (at : (d
 
 pub scale_at : (xs ys : List Hull) (i : ℕ) (y h : Hull) → xs ≡ ys → HasScaleAt xs h.scale i y → HasScaleAt ys h.scale i y
 scale_at xs ys i y h same has = subst (λ (l : List Hull). HasScaleAt l h.scale i y) same has
+
+-- ---- a hull of sound hulls, and hulls that are kept
+
+pub sound_at : (hulls : List Hull) (i : ℕ) (d : Hull) → AreSoundHulls hulls → i < length hulls → IsSoundHull (get_or hulls i d)
+sound_at hulls i d h lt = h.each (get_or hulls i d) (Contains-get_or hulls i d lt)
+
+pub none_sound : AreSoundHulls []
+none_sound = record { each = λ h there. absurd (omega (arith, there.1)) }
+
+pub fronts_none : AreSoundFronts []
+fronts_none = record { each = λ here there. absurd (omega (arith, there.1)) }
+
+only_front : (x y : Vec Hull Global) → Contains (x ∷ []) y → x ≡ y
+only_front x y (zero, lt, is) = is
+only_front x y (suc k, lt, is) = absurd (omega (arith, lt))
+
+pub fronts_push : (fronts : List (Vec Hull Global)) (here : Vec Hull Global) → AreSoundFronts fronts → AreSoundHulls here.items → AreSoundFronts (fronts ++ here ∷ [])
+fronts_push fronts here h new = record {
+  each = λ x there. ⊎_elim (h.each x) (λ alone. subst (λ (y : Vec Hull Global). AreSoundHulls y.items) (only_front here x alone) new) (Contains-append_cases fronts (here ∷ []) x there);
+}
+
+-- by the clause of `pop` on the items
+pub fronts_rest : (fronts rest : List (Vec Hull Global)) (last : Option (Vec Hull Global)) → fronts ≡ rest ++ option_to_list last → AreSoundFronts fronts → AreSoundFronts rest
+fronts_rest fronts rest last is h = record { each = λ x there. h.each x (subst (λ (l : List (Vec Hull Global)). Contains l x) (sym is) (Contains-append_left rest (option_to_list last) x there)) }
+
+pub fronts_last : (fronts rest : List (Vec Hull Global)) (last : Option (Vec Hull Global)) (here : Vec Hull Global) → fronts ≡ rest ++ option_to_list last → last ≡ Some here → AreSoundFronts fronts → AreSoundHulls here.items
+fronts_last fronts rest last here is some h =
+    let there : Contains (rest ++ here ∷ []) here = Contains-append_right rest (here ∷ []) here (zero, omega arith, refl) in
+    h.each here (subst (λ (l : List (Vec Hull Global)). Contains l here) (sym (is ∙ ap (λ (o : Option (Vec Hull Global)). rest ++ option_to_list o) some)) there)
+
+-- ---- pieces and jumps within their limits
+
+pub piece_at : (row : List Piece) (i : ℕ) (d : Piece) → RowFits row → i < length row → PieceFits (get_or row i d).kind
+piece_at row i d h lt = h.each (get_or row i d) (Contains-get_or row i d lt)
+
+pub jump_at : (jumps : List Jump) (i : ℕ) (d : Jump) → AreWithin jumps → i < length jumps → IsWithin (get_or jumps i d).body
+jump_at jumps i d h lt = h.each (get_or jumps i d) (Contains-get_or jumps i d lt)

@@ -3,3 +3,4 @@ pub mod Limits
 pub mod Lengths
 pub mod Private
 pub mod Means
+pub mod Members

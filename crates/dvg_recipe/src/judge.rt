@@ -69,7 +69,7 @@ fn light_broken(window: &Window, places: &Places, light: &Light) -> Option<Frame
 
 /// The first rule that a change breaks from what a hull has.
 #[tactic(auto, using(crate::proofs::Leads::near_most))]
-fn first_broken(asked: &Asked, hull: &Hull, change: &Change) -> Option<FrameWhy>
+pub fn first_broken(asked: &Asked, hull: &Hull, change: &Change) -> Option<FrameWhy>
     requires hull { IsSoundHull hull.now }
     requires change { IsSoundChange change.now }
     ensures { IfNone result (HullKeeps asked.now.window asked.now.budget hull.now change.now) }
@@ -84,7 +84,7 @@ fn first_broken(asked: &Asked, hull: &Hull, change: &Change) -> Option<FrameWhy>
 
 /// What may be known past a change.
 #[tactic(auto, using(crate::proofs::Leads::near_most, crate::proofs::Past::past_sound))]
-fn hull_past(change: &Change, hull: &Hull) -> Hull
+pub fn hull_past(change: &Change, hull: &Hull) -> Hull
     requires hull { IsSoundHull hull.now }
     requires change { IsSoundChange change.now }
     requires few { change.now.words + hull.now.words ≤ MOST_WORDS }
@@ -170,7 +170,7 @@ impl Next {
 }
 
 /// The hulls behind a jump of this number. The first fault is noted.
-fn past_jump(
+pub fn past_jump(
     alloc: Global,
     asked: &Asked,
     fault: &mut Option<RecipeFault>,
@@ -190,7 +190,7 @@ fn past_jump(
 }
 
 /// The hulls behind the items of a piece. The first fault is noted.
-fn past_piece<E: Entries>(
+pub fn past_piece<E: Entries>(
     alloc: Global,
     entries: &E,
     asked: &Asked,

@@ -6,7 +6,9 @@
 
 mod belonging;
 mod changes;
+mod choices;
 mod frame_items;
+mod goal;
 mod hull;
 mod hulls;
 mod indices;
@@ -15,6 +17,7 @@ mod judge;
 mod length_tests;
 mod lengths;
 mod limits;
+mod members;
 mod piece;
 mod recipe;
 mod rectangles;
@@ -22,15 +25,20 @@ mod roots;
 mod takes;
 #[cfg(test)]
 mod tests;
+mod trail;
 mod tried;
 mod verdict;
 #[cfg(test)]
 mod verdict_tests;
+mod witness;
+#[cfg(test)]
+mod witness_tests;
 
 pub use belonging::{Leaving, NotMember, belongs};
 pub use judge::RecipeFault;
 pub use lengths::too_long;
 pub use limits::{MOST_LEVELS, MOST_LISTS, MOST_NESTED, MOST_PIECES, MOST_TURNS};
+pub use members::{RefusedFrame, find_deepest, find_longest, find_refused};
 pub use piece::{DrawRange, Piece, PieceKind, PlaceRange, Span};
 pub use recipe::{Area, Jump, Part, Recipe};
 pub use roots::Unmade;

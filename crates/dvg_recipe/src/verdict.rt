@@ -4,6 +4,7 @@ ghost use Rattle.std.specs.Prelude.{◌≡◌, ◌≤◌, IfOk};
 ghost use Rattle.dvg_words.specs.declared.machine.Machine.TheVariants.{Board};
 ghost use Rattle.dvg_cert.specs.declared.limits.TheConstants.{MOST_WORDS};
 ghost use Rattle.dvg_recipe.specs.Means.{AllMean};
+ghost use Rattle.dvg_recipe.specs.Members.{recipe_number};
 ghost use Rattle.dvg_recipe.specs.Lengths.{FitsAreas};
 
 use crate::judge::{Asked, RecipeFault, judge_over};
@@ -12,7 +13,7 @@ use crate::recipe::Recipe;
 use crate::roots::{Unmade, roots_of};
 use dvg_cert::{Cert, HashIndex};
 use dvg_check::{Accepted, ShapeFault, check_shapes_exact};
-use dvg_make::make;
+use dvg_make::{MakeFault, make};
 use dvg_words::{RomImage, Window};
 use std::alloc::{AllocError, Global};
 
@@ -38,6 +39,21 @@ pub enum RecipeRefusal {
     Frame(RecipeFault),
     /// There was no memory.
     Memory,
+}
+
+impl RecipeRefusal {
+    /// 25, 44, 46, 48, 57 or 60 to 62. `None` where there was no memory.
+    pub fn number(&self) -> Option<u8>
+        ensures { result ≡ recipe_number self.now }
+    {
+        match *self {
+            RecipeRefusal::TooLong { .. } => Some(57),
+            RecipeRefusal::Make(unmade) => Some(MakeFault::from(unmade.why).number()),
+            RecipeRefusal::Shape(fault) => Some(fault.number()),
+            RecipeRefusal::Frame(fault) => Some(fault.why.number()),
+            RecipeRefusal::Memory => None,
+        }
+    }
 }
 
 impl From<AllocError> for RecipeRefusal {

@@ -1,5 +1,6 @@
 -- Hulls: all that may be known at a point of a recipe, at one scale each, and what the items of a piece may do to it.
 use Rattle.std.specs.Int.{int_min, int_max}
+use Rattle.std.proofs.Common.{Vec, Global}
 use Rattle.std.specs.Prelude.{◌≡◌, ℕ, zero, suc, pos, ◌*ℤ◌, true, false, None, Some, ◌+◌, ◌≤◌, ◌<◌, ◌≤ℤ◌, max, length, slice_index_or, List, [], ◌∷◌, Option, Contains, IsTrue, unwrap_or}
 use Rattle.dvg_words.specs.Values.{Window, DrawFields}
 use Rattle.dvg_words.specs.declared.machine.Machine.TheVariants.{Board}
@@ -41,6 +42,8 @@ pub use Rattle.dvg_recipe.specs.declared.hull.Motion.TheVariants.{To, Away, By}
 pub use Rattle.dvg_recipe.specs.declared.hull.Light.{Light}
 pub use Rattle.dvg_recipe.specs.declared.hull.Light.TheVariants.{Dark, Shown, Unbounded}
 pub use Rattle.dvg_recipe.specs.declared.hull.Change.{Change}
+pub use Rattle.dvg_recipe.specs.declared.witness.Search.{Search}
+pub use Rattle.dvg_recipe.specs.declared.witness.Search.TheVariants.{Found, Past}
 
 -- ---- what may be known
 
@@ -319,6 +322,15 @@ pub record IsSoundHull (h : Hull) : Type 0 where
 -- so are those of each
 pub record AreSoundHulls (hulls : List Hull) : Type 0 where
   pub each : (h : Hull) → Contains hulls h → IsSoundHull h
+
+-- so are those of each of some sets of hulls
+pub record AreSoundFronts (fronts : List (Vec Hull Global)) : Type 0 where
+  pub each : (here : Vec Hull Global) → Contains fronts here → AreSoundHulls here.items
+
+-- so are those behind a part, if what is searched is not in it
+abbrev pub IsSoundSearch : Search → Type 0
+IsSoundSearch (Found goal) = Unit {0}
+IsSoundSearch (Past here) = AreSoundHulls here.items
 
 -- the numbers of a change are within the limits
 pub record IsSoundChange (c : Change) : Type 0 where

@@ -1,0 +1,266 @@
+//! Frames of a recipe that are told: one that is refused, and those of the greatest counts. `belongs` and the judge of frames confirm each
+//! of them.
+
+ghost use Rattle.std.specs.Prelude.{◌≡◌, ◌≤◌, Err, Ok, Some, IfSome, IfOk};
+ghost use Rattle.dvg_words.specs.declared.machine.Machine.TheVariants.{Board};
+ghost use Rattle.dvg_cert.specs.declared.limits.TheConstants.{MOST_WORDS};
+ghost use Rattle.dvg_check.specs.declared.verdict.Yes.{Yes as YesValue};
+ghost use Rattle.dvg_recipe.specs.Members.{IsMemberVerdict, judged_number, recipe_number};
+
+use crate::belonging::belongs;
+use crate::judge::Asked;
+use crate::recipe::Recipe;
+use crate::roots::roots_of;
+use crate::verdict::RecipeRefusal;
+use crate::witness::{Stop, find};
+use dvg_cert::{Cert, HashIndex, Key};
+use dvg_check::{ShapeFault, Yes};
+use dvg_make::{FrameRefusal, MakeFault, judge, make};
+use dvg_words::{FrameImage, RomImage, Window};
+use std::alloc::{AllocError, Global};
+
+/// A frame of a recipe that is refused.
+#[derive(Drop)]
+pub struct RefusedFrame {
+    /// Its bytes, as a file has them.
+    pub frame: Vec<u8>,
+    /// How [`judge`] refuses it.
+    pub refusal: FrameRefusal,
+}
+
+/// The bytes of words, the low byte of each word first.
+fn bytes_of(alloc: Global, words: &[u16]) -> Result<Vec<u8>, AllocError> {
+    let mut bytes = Vec::new(alloc);
+    for word in words {
+        for byte in word.to_le_bytes() {
+            bytes.push(byte)?;
+        }
+    }
+    Ok(bytes)
+}
+
+/// How [`judge`] answers for the frame of these bytes. `None` if it is not known to be one of the recipe's.
+fn member_verdict(
+    alloc: Global,
+    rom: &RomImage,
+    recipe: &Recipe,
+    asked: &Asked,
+    bytes: &[u8],
+) -> Option<Result<Yes, FrameRefusal>>
+    requires budget { asked.now.budget ≤ MOST_WORDS }
+    ensures { IfSome result (IsMemberVerdict rom.now recipe.now asked.now.window asked.now.budget bytes.now) }
+{
+    let Ok(frame) = FrameImage::from_bytes(bytes) else {
+        return None;
+    };
+    if belongs(alloc, recipe, &frame).is_err() {
+        return None;
+    }
+    Some(judge(alloc, rom, &frame, asked.budget, asked.window))
+}
+
+/// The number of a refusal by the judge of frames.
+fn refusal_number(refusal: &FrameRefusal) -> u8
+    ensures { result ≡ judged_number refusal.now }
+{
+    match *refusal {
+        FrameRefusal::Make { why, .. } => MakeFault::from(why).number(),
+        FrameRefusal::NoMemory => 63,
+        FrameRefusal::Check(refusal) => refusal.number(),
+    }
+}
+
+/// A frame, if it is one of the recipe's and refused with this number.
+fn refused_with(
+    alloc: Global,
+    rom: &RomImage,
+    recipe: &Recipe,
+    asked: &Asked,
+    frame: Vec<u8>,
+    number: u8,
+) -> Option<RefusedFrame>
+    requires budget { asked.now.budget ≤ MOST_WORDS }
+    ensures { IfSome result (λ r. IsMemberVerdict rom.now recipe.now asked.now.window asked.now.budget r.frame.items (Err r.refusal) × (judged_number r.refusal ≡ number)) }
+{
+    match member_verdict(alloc, rom, recipe, asked, &frame) {
+        Some(Err(refusal)) if refusal_number(&refusal) == number => {
+            Some(RefusedFrame { frame, refusal })
+        }
+        _ => None,
+    }
+}
+
+/// The bytes of a frame that leads to where it has to stop.
+fn find_bytes(
+    alloc: Global,
+    cert: &Cert,
+    asked: &Asked,
+    stop: &Stop,
+    recipe: &Recipe,
+) -> Result<Option<Vec<u8>>, AllocError>
+    requires budget { asked.now.budget ≤ MOST_WORDS }
+{
+    // Its clause says that the list is that of a certificate.
+    let _entries = cert.entries();
+    let entries = HashIndex::new(alloc, cert)?;
+    match find(alloc, &entries, asked, stop, recipe)? {
+        Some(words) => Ok(Some(bytes_of(alloc, &words)?)),
+        None => Ok(None),
+    }
+}
+
+/// Whether the certificate of a root has the entry of a faulty shape.
+fn needs(alloc: Global, rom: &RomImage, root: (u16, Key), fault: &ShapeFault) -> bool {
+    match make(alloc, rom, &[root]) {
+        Ok(cert) => {
+            for entry in cert.entries() {
+                if entry.addr == fault.addr && entry.key == fault.key {
+                    return true;
+                }
+            }
+            false
+        }
+        Err(_) => false,
+    }
+}
+
+/// The first of some roots that calls a faulty shape, or a shape that does.
+fn root_of(
+    alloc: Global,
+    rom: &RomImage,
+    roots: &[(u16, Key)],
+    fault: &ShapeFault,
+) -> Option<(u16, Key)> {
+    for root in roots {
+        if needs(alloc, rom, *root, fault) {
+            return Some(*root);
+        }
+    }
+    None
+}
+
+/// The bytes of a frame of the recipe that leads to where it has to stop, by the certificate of the recipe's calls.
+fn find_end(
+    alloc: Global,
+    rom: &RomImage,
+    recipe: &Recipe,
+    asked: &Asked,
+    stop: &Stop,
+) -> Result<Option<Vec<u8>>, AllocError>
+    requires budget { asked.now.budget ≤ MOST_WORDS }
+{
+    let Some(roots) = roots_of(alloc, rom, recipe) else {
+        return Err(AllocError);
+    };
+    let Ok(cert) = make(alloc, rom, &roots.asked) else {
+        return Err(AllocError);
+    };
+    find_bytes(alloc, &cert, asked, stop, recipe)
+}
+
+/// Where a frame has to stop to be refused so.
+fn stop_of(
+    alloc: Global,
+    rom: &RomImage,
+    roots: &[(u16, Key)],
+    refusal: &RecipeRefusal,
+) -> Option<Stop> {
+    match refusal {
+        RecipeRefusal::Frame(_) => Some(Stop::Fault),
+        RecipeRefusal::Make(unmade) => Some(Stop::Call {
+            to: unmade.to,
+            scale: unmade.scale,
+        }),
+        RecipeRefusal::Shape(fault) => {
+            let (to, scale) = root_of(alloc, rom, roots, fault)?;
+            Some(Stop::Call { to, scale })
+        }
+        RecipeRefusal::TooLong { .. } | RecipeRefusal::Memory => None,
+    }
+}
+
+/// A frame of the recipe that is refused with the number with which [`judge_recipe`](crate::judge_recipe) refuses the recipe, over this ROM,
+/// with this budget and this window.
+///
+/// `None` if none is found: 57 has none, and each other refusal has one (only tested). An `Err` says that there was no memory to look for it.
+/// Takes memory as `judge_recipe` does.
+pub fn find_refused(
+    alloc: Global,
+    rom: &RomImage,
+    recipe: &Recipe,
+    budget: u32,
+    window: Window,
+    refusal: &RecipeRefusal,
+) -> Result<Option<RefusedFrame>, AllocError>
+    requires budget { budget ≤ MOST_WORDS }
+    requires board { rom.now.machine ≡ Board }
+    ensures { IfOk result (λ found. IfSome found (λ r. IsMemberVerdict rom.now recipe.now window budget r.frame.items (Err r.refusal) × (Some (judged_number r.refusal) ≡ recipe_number refusal.now))) }
+{
+    let asked = Asked { budget, window };
+    let Some(number) = refusal.number() else {
+        return Ok(None);
+    };
+    let Some(roots) = roots_of(alloc, rom, recipe) else {
+        return Err(AllocError);
+    };
+    let Some(stop) = stop_of(alloc, rom, &roots.asked, refusal) else {
+        return Ok(None);
+    };
+    let Ok(cert) = make(alloc, rom, &roots.asked) else {
+        return Err(AllocError);
+    };
+    match find_bytes(alloc, &cert, &asked, &stop, recipe)? {
+        Some(frame) => Ok(refused_with(alloc, rom, recipe, &asked, frame, number)),
+        None => Ok(None),
+    }
+}
+
+/// A frame of the recipe with the words that its yes has, over this ROM, with this budget and this window; the most words of all frames, where
+/// `words` are those of [`judge_recipe`](crate::judge_recipe).
+///
+/// `None` if none is found; an accepted recipe has one (only tested). An `Err` says that there was no memory to look for it. Takes memory as
+/// `judge_recipe` does.
+pub fn find_longest(
+    alloc: Global,
+    rom: &RomImage,
+    recipe: &Recipe,
+    budget: u32,
+    window: Window,
+    words: u32,
+) -> Result<Option<Vec<u8>>, AllocError>
+    requires budget { budget ≤ MOST_WORDS }
+    requires board { rom.now.machine ≡ Board }
+    ensures { IfOk result (λ found. IfSome found (λ frame. (yes : YesValue) × IsMemberVerdict rom.now recipe.now window budget frame.items (Ok yes) × (yes.words ≡ words))) }
+{
+    let asked = Asked { budget, window };
+    let Some(frame) = find_end(alloc, rom, recipe, &asked, &Stop::MostWords)? else {
+        return Ok(None);
+    };
+    match member_verdict(alloc, rom, recipe, &asked, &frame) {
+        Some(Ok(yes)) if yes.words == words => Ok(Some(frame)),
+        _ => Ok(None),
+    }
+}
+
+/// A frame of the recipe with the depth that its yes has, as [`find_longest`] finds one with its words.
+pub fn find_deepest(
+    alloc: Global,
+    rom: &RomImage,
+    recipe: &Recipe,
+    budget: u32,
+    window: Window,
+    depth: u8,
+) -> Result<Option<Vec<u8>>, AllocError>
+    requires budget { budget ≤ MOST_WORDS }
+    requires board { rom.now.machine ≡ Board }
+    ensures { IfOk result (λ found. IfSome found (λ frame. (yes : YesValue) × IsMemberVerdict rom.now recipe.now window budget frame.items (Ok yes) × (yes.depth ≡ depth))) }
+{
+    let asked = Asked { budget, window };
+    let Some(frame) = find_end(alloc, rom, recipe, &asked, &Stop::MostDepth)? else {
+        return Ok(None);
+    };
+    match member_verdict(alloc, rom, recipe, &asked, &frame) {
+        Some(Ok(yes)) if yes.depth == depth => Ok(Some(frame)),
+        _ => Ok(None),
+    }
+}

@@ -1,0 +1,719 @@
+//! Frames of a recipe that lead to a fault or to a call, or that have its greatest counts.
+//!
+//! Nothing here is trusted: what is found is a frame, which `belongs` and the judge of frames confirm before it is told. The hulls are
+//! followed up to the place that is looked for, and then back, item by item: each number of a hull comes from one number of a hull before.
+
+ghost use Rattle.std.specs.Prelude.{◌≤◌, IfOk};
+ghost use Rattle.dvg_cert.specs.declared.limits.TheConstants.{MOST_WORDS};
+ghost use Rattle.dvg_items.specs.Bounds.{IsSomeCertificate};
+ghost use Rattle.dvg_recipe.specs.Limits.{PieceFits, RowFits};
+ghost use Rattle.dvg_recipe.specs.Private.Judging.{IsWithin, AreWithin};
+ghost use Rattle.dvg_recipe.specs.Private.Hulls.{AreSoundHulls, IsSoundHull, AreSoundFronts, IsSoundSearch};
+
+use crate::changes::words_change;
+use crate::choices::{Words, choices, jsrl};
+use crate::goal::{Goal, Number, goal_of_fault, most_depth, most_words};
+use crate::hull::{Change, Hull};
+use crate::hulls::add_all;
+use crate::judge::{
+    Asked, RecipeFault, first_broken, hull_past, past_jump, past_part, past_piece, starts,
+};
+use crate::piece::{Piece, PieceKind};
+use crate::recipe::{Area, Jump, Part, Recipe};
+use crate::takes::cell_of_words;
+use crate::trail::{Trail, Written, push_part, push_turns};
+use dvg_cert::{Entries, Key, MOST_WORDS};
+use dvg_check::FrameWhy;
+use dvg_words::{Cell, Instr};
+use std::alloc::{AllocError, Global};
+
+/// Where a frame has to lead to.
+#[derive(Clone, Copy)]
+pub enum Stop {
+    /// The first item that breaks a rule.
+    Fault,
+    /// The first call of this word address at this scale.
+    Call { to: u16, scale: Key },
+    /// The end, with the most words.
+    MostWords,
+    /// The end, with the most return places stored at once.
+    MostDepth,
+}
+
+/// Why no frame is found.
+#[derive(Drop)]
+enum Unfound {
+    /// The recipe has none.
+    NoFrame,
+    /// There was no memory.
+    Memory,
+}
+
+impl From<AllocError> for Unfound {
+    fn from(_error: AllocError) -> Unfound {
+        Unfound::Memory
+    }
+}
+
+/// How the search of a part ends.
+#[derive(Drop)]
+pub enum Search {
+    /// The place is in the part, and this is what the items before the part have to lead to.
+    Found(Goal),
+    /// It is not, and these are the hulls behind the part.
+    Past(Vec<Hull>),
+}
+
+/// What an item does from what a hull has, and the hull past it.
+fn past<E: Entries>(entries: &E, words: &Words, hull: &Hull) -> Option<(Change, Hull)>
+    requires entries { IsSomeCertificate (E.list entries.now) }
+    requires hull { IsSoundHull hull.now }
+{
+    let change = words_change(entries, words.first, words.second, hull.scale);
+    if change.words + hull.words > MOST_WORDS {
+        return None;
+    }
+    Some((change, hull_past(&change, hull)))
+}
+
+/// An item among some that leads to a goal from what a hull has, and what the items before it have to lead to.
+fn item_from<E: Entries>(
+    entries: &E,
+    all: &[Words],
+    hull: &Hull,
+    goal: &Goal,
+) -> Option<(Words, Goal)>
+    requires entries { IsSomeCertificate (E.list entries.now) }
+    requires hull { IsSoundHull hull.now }
+{
+    for words in all {
+        if let Some((change, next)) = past(entries, words, hull) {
+            if goal.is_at(&next) {
+                return Some((*words, goal.before(&change, hull)));
+            }
+        }
+    }
+    None
+}
+
+/// An item of a piece that leads to a goal from one of some hulls, and what the items before it have to lead to.
+#[tactic(auto, using(crate::proofs::Sounds::sound_at))]
+fn item_before<E: Entries>(
+    alloc: Global,
+    entries: &E,
+    kind: &PieceKind,
+    here: &[Hull],
+    goal: &Goal,
+) -> Result<(Words, Goal), Unfound>
+    requires entries { IsSomeCertificate (E.list entries.now) }
+    requires here { AreSoundHulls here.now }
+{
+    let all = choices(alloc, kind)?;
+    for hull in here {
+        if let Some(found) = item_from(entries, &all, hull, goal) {
+            return Ok(found);
+        }
+    }
+    Err(Unfound::NoFrame)
+}
+
+/// Adds items of a row that lead to a goal, in front of all others. `fronts` are the hulls before each piece. What the items before the
+/// row have to lead to.
+#[tactic(auto, using(crate::proofs::Sounds::fronts_last, crate::proofs::Sounds::fronts_rest))]
+fn row_back<E: Entries>(
+    alloc: Global,
+    entries: &E,
+    row: &[Piece],
+    fronts: Vec<Vec<Hull>>,
+    goal: Goal,
+    trail: &mut Trail,
+) -> Result<Goal, Unfound>
+    requires entries { IsSomeCertificate (E.list entries.now) }
+    requires fronts { AreSoundFronts fronts.items }
+{
+    let mut fronts = fronts;
+    let mut goal = goal;
+    while let Some(here) = fronts.pop() {
+        let Some(piece) = row.get(fronts.len()) else {
+            return Err(Unfound::NoFrame);
+        };
+        let (words, before) = item_before(alloc, entries, &piece.kind, &here, &goal)?;
+        trail.push_before(Written::Item(words))?;
+        goal = before;
+    }
+    Ok(goal)
+}
+
+/// Keeps the hulls at a place, to come back to them.
+#[tactic(auto, using(crate::proofs::Sounds::fronts_push))]
+fn keep(fronts: &mut Vec<Vec<Hull>>, here: Vec<Hull>) -> Result<(), AllocError>
+    requires fronts { AreSoundFronts fronts.old.items }
+    requires here { AreSoundHulls here.items }
+    ensures { IfOk result (λ _. AreSoundFronts fronts.new.items) }
+{
+    fronts.push(here)?;
+    Ok(())
+}
+
+/// The hulls before each piece of a row.
+#[tactic(auto, using(crate::proofs::Sounds::fronts_none, crate::proofs::Sounds::piece_at))]
+fn row_fronts<E: Entries>(
+    alloc: Global,
+    entries: &E,
+    asked: &Asked,
+    row: &[Piece],
+    here: &[Hull],
+) -> Result<Vec<Vec<Hull>>, Unfound>
+    requires entries { IsSomeCertificate (E.list entries.now) }
+    requires budget { asked.now.budget ≤ MOST_WORDS }
+    requires fits { RowFits row.now }
+    requires here { AreSoundHulls here.now }
+    ensures { IfOk result (λ fronts. AreSoundFronts fronts.items) }
+{
+    let mut fronts = Vec::new(alloc);
+    let mut here = Vec::from_slice(alloc, here)?;
+    for piece in row {
+        let next = past_piece(alloc, entries, asked, &mut None, piece, &here)?;
+        keep(&mut fronts, here)?;
+        here = next;
+    }
+    Ok(fronts)
+}
+
+/// The hulls before each turn of a part, up to the first number of turns, at least `least`, behind which a goal is reached.
+#[tactic(auto, using(crate::proofs::Sounds::fronts_none))]
+fn turn_fronts<E: Entries>(
+    body: &Part,
+    alloc: Global,
+    entries: &E,
+    asked: &Asked,
+    turns: (u16, u16),
+    here: &[Hull],
+    goal: &Goal,
+) -> Result<Vec<Vec<Hull>>, Unfound>
+    requires entries { IsSomeCertificate (E.list entries.now) }
+    requires budget { asked.now.budget ≤ MOST_WORDS }
+    requires fits { IsWithin body.now }
+    requires here { AreSoundHulls here.now }
+    ensures { IfOk result (λ fronts. AreSoundFronts fronts.items) }
+{
+    let (least, most) = turns;
+    let mut fronts = Vec::new(alloc);
+    let mut here = Vec::from_slice(alloc, here)?;
+    for turn in 0..most {
+        if turn >= least && goal.is_in(&here) {
+            return Ok(fronts);
+        }
+        let copy = Vec::from_slice(alloc, &here)?;
+        keep(&mut fronts, here)?;
+        here = past_part(body, alloc, entries, asked, &mut None, copy)?;
+    }
+    Ok(fronts)
+}
+
+/// Adds items of a part that lead from one of some hulls to a goal, in front of all others. What the items before the part have to lead
+/// to.
+#[cycle(part_before)]
+fn part_before<E: Entries>(
+    part: &Part,
+    alloc: Global,
+    entries: &E,
+    asked: &Asked,
+    here: &[Hull],
+    goal: Goal,
+    trail: &mut Trail,
+) -> Result<Goal, Unfound>
+    requires entries { IsSomeCertificate (E.list entries.now) }
+    requires budget { asked.now.budget ≤ MOST_WORDS }
+    requires fits { IsWithin part.now }
+    requires here { AreSoundHulls here.now }
+{
+    match part {
+        Part::Row(row) => {
+            let fronts = row_fronts(alloc, entries, asked, row, here)?;
+            row_back(alloc, entries, row, fronts, goal, trail)
+        }
+        Part::Then(first, second) => {
+            let copy = Vec::from_slice(alloc, here)?;
+            let between = past_part(first, alloc, entries, asked, &mut None, copy)?;
+            let goal = part_before(second, alloc, entries, asked, &between, goal, trail)?;
+            part_before(first, alloc, entries, asked, here, goal, trail)
+        }
+        Part::Either(one, other) => {
+            let copy = Vec::from_slice(alloc, here)?;
+            let behind = past_part(one, alloc, entries, asked, &mut None, copy)?;
+            let branch = if goal.is_in(&behind) { one } else { other };
+            part_before(branch, alloc, entries, asked, here, goal, trail)
+        }
+        Part::Repeat { least, most, body } => {
+            let turns = (*least, *most);
+            let fronts = turn_fronts(body, alloc, entries, asked, turns, here, &goal)?;
+            turns_back(body, alloc, entries, asked, fronts, goal, trail)
+        }
+    }
+}
+
+/// Adds items of turns of a part that lead to a goal, in front of all others. `fronts` are the hulls before each turn. What the items
+/// before the turns have to lead to.
+#[tactic(auto, using(crate::proofs::Sounds::fronts_last, crate::proofs::Sounds::fronts_rest))]
+#[cycle(part_before)]
+fn turns_back<E: Entries>(
+    body: &Part,
+    alloc: Global,
+    entries: &E,
+    asked: &Asked,
+    fronts: Vec<Vec<Hull>>,
+    goal: Goal,
+    trail: &mut Trail,
+) -> Result<Goal, Unfound>
+    requires entries { IsSomeCertificate (E.list entries.now) }
+    requires budget { asked.now.budget ≤ MOST_WORDS }
+    requires fits { IsWithin body.now }
+    requires fronts { AreSoundFronts fronts.items }
+{
+    let mut fronts = fronts;
+    let mut goal = goal;
+    while let Some(here) = fronts.pop() {
+        goal = part_before(body, alloc, entries, asked, &here, goal, trail)?;
+    }
+    Ok(goal)
+}
+
+/// An item among some that breaks a rule first from what a hull has, and what the items before it have to lead to.
+fn breaking<E: Entries>(
+    entries: &E,
+    asked: &Asked,
+    all: &[Words],
+    hull: &Hull,
+    why: FrameWhy,
+) -> Option<(Words, Goal)>
+    requires entries { IsSomeCertificate (E.list entries.now) }
+    requires hull { IsSoundHull hull.now }
+{
+    for words in all {
+        let change = words_change(entries, words.first, words.second, hull.scale);
+        if first_broken(asked, hull, &change) == Some(why) {
+            let goal = goal_of_fault(&asked.window, hull, &change, why);
+            return Some((*words, goal));
+        }
+    }
+    None
+}
+
+/// An item of a piece that breaks a rule first from one of some hulls, and what the items before it have to lead to.
+#[tactic(auto, using(crate::proofs::Sounds::sound_at))]
+fn fault_at<E: Entries>(
+    alloc: Global,
+    entries: &E,
+    asked: &Asked,
+    kind: &PieceKind,
+    here: &[Hull],
+    why: FrameWhy,
+) -> Result<(Words, Goal), Unfound>
+    requires entries { IsSomeCertificate (E.list entries.now) }
+    requires here { AreSoundHulls here.now }
+{
+    let all = choices(alloc, kind)?;
+    for hull in here {
+        if let Some(found) = breaking(entries, asked, &all, hull, why) {
+            return Ok(found);
+        }
+    }
+    Err(Unfound::NoFrame)
+}
+
+/// Whether a piece allows a JSRL to a word address.
+fn calls(kind: &PieceKind, to: u16) -> bool {
+    match kind {
+        PieceKind::Call(targets) => targets.contains(&to),
+        PieceKind::Fixed { first, second } => match cell_of_words(*first, *second) {
+            Cell::Holds {
+                instr: Instr::Jsrl { to: target },
+                ..
+            } => target == to,
+            _ => false,
+        },
+        PieceKind::Place(_) | PieceKind::Draw(_) => false,
+    }
+}
+
+/// The item of a piece at which to stop, and what the items before it have to lead to. `fault` is the rule of the lowest number that some
+/// item of the piece breaks.
+fn stop_at<E: Entries>(
+    alloc: Global,
+    entries: &E,
+    asked: &Asked,
+    stop: &Stop,
+    piece: &Piece,
+    fault: Option<RecipeFault>,
+    here: &[Hull],
+) -> Result<Option<(Words, Goal)>, Unfound>
+    requires entries { IsSomeCertificate (E.list entries.now) }
+    requires here { AreSoundHulls here.now }
+{
+    match (*stop, fault) {
+        (Stop::Fault, Some(fault)) => {
+            let found = fault_at(alloc, entries, asked, &piece.kind, here, fault.why)?;
+            Ok(Some(found))
+        }
+        (Stop::Call { to, scale }, _) if calls(&piece.kind, to) => {
+            let number = Number::Any;
+            let goal = Goal { scale, number };
+            if goal.is_in(here) {
+                Ok(Some((jsrl(to), goal)))
+            } else {
+                Ok(None)
+            }
+        }
+        _ => Ok(None),
+    }
+}
+
+/// Finds the first place in a row at which to stop: adds the items of the row up to there in front of all others, and those behind it
+/// behind all others.
+#[tactic(auto, using(crate::proofs::Sounds::fronts_none, crate::proofs::Sounds::piece_at))]
+fn find_in_row<E: Entries>(
+    row: &[Piece],
+    alloc: Global,
+    entries: &E,
+    asked: &Asked,
+    stop: &Stop,
+    here: &[Hull],
+    trail: &mut Trail,
+) -> Result<Search, Unfound>
+    requires entries { IsSomeCertificate (E.list entries.now) }
+    requires budget { asked.now.budget ≤ MOST_WORDS }
+    requires fits { RowFits row.now }
+    requires here { AreSoundHulls here.now }
+    ensures { IfOk result IsSoundSearch }
+{
+    let mut fronts = Vec::new(alloc);
+    let mut here = Vec::from_slice(alloc, here)?;
+    for (index, piece) in row.iter().enumerate() {
+        let mut fault = None;
+        let next = past_piece(alloc, entries, asked, &mut fault, piece, &here)?;
+        let found = stop_at(alloc, entries, asked, stop, piece, fault, &here)?;
+        if let Some((words, goal)) = found {
+            trail.push_before(Written::Item(words))?;
+            trail.push_row(&row[index + 1..])?;
+            let goal = row_back(alloc, entries, row, fronts, goal, trail)?;
+            return Ok(Search::Found(goal));
+        }
+        keep(&mut fronts, here)?;
+        here = next;
+    }
+    Ok(Search::Past(here))
+}
+
+/// Finds the first place in a part, in the order of reading with repeats written out, at which to stop: adds the items of the part up to
+/// there in front of all others, and items of what follows in the part behind all others.
+#[cycle(find_in)]
+fn find_in<E: Entries>(
+    part: &Part,
+    alloc: Global,
+    entries: &E,
+    asked: &Asked,
+    stop: &Stop,
+    here: &[Hull],
+    trail: &mut Trail,
+) -> Result<Search, Unfound>
+    requires entries { IsSomeCertificate (E.list entries.now) }
+    requires budget { asked.now.budget ≤ MOST_WORDS }
+    requires fits { IsWithin part.now }
+    requires here { AreSoundHulls here.now }
+    ensures { IfOk result IsSoundSearch }
+{
+    match part {
+        Part::Row(row) => find_in_row(row, alloc, entries, asked, stop, here, trail),
+        Part::Then(first, second) => {
+            match find_in(first, alloc, entries, asked, stop, here, trail)? {
+                Search::Found(goal) => {
+                    push_part(second, trail)?;
+                    Ok(Search::Found(goal))
+                }
+                Search::Past(between) => {
+                    match find_in(second, alloc, entries, asked, stop, &between, trail)? {
+                        Search::Found(goal) => {
+                            let goal = part_before(
+                                first, alloc, entries, asked, here, goal, trail,
+                            )?;
+                            Ok(Search::Found(goal))
+                        }
+                        Search::Past(next) => Ok(Search::Past(next)),
+                    }
+                }
+            }
+        }
+        Part::Either(one, other) => {
+            match find_in(one, alloc, entries, asked, stop, here, trail)? {
+                Search::Found(goal) => Ok(Search::Found(goal)),
+                Search::Past(next) => {
+                    let more = find_in(other, alloc, entries, asked, stop, here, trail)?;
+                    joined(next, more)
+                }
+            }
+        }
+        Part::Repeat { least, most, body } => {
+            let turns = (*least, *most);
+            find_in_turns(body, alloc, entries, asked, stop, turns, here, trail)
+        }
+    }
+}
+
+/// How the search of two branches ends, of which one was passed.
+fn joined(next: Vec<Hull>, more: Search) -> Result<Search, Unfound>
+    requires next { AreSoundHulls next.items }
+    requires more { IsSoundSearch more }
+    ensures { IfOk result IsSoundSearch }
+{
+    match more {
+        Search::Found(goal) => Ok(Search::Found(goal)),
+        Search::Past(more) => {
+            let mut all = next;
+            add_all(&mut all, &more)?;
+            Ok(Search::Past(all))
+        }
+    }
+}
+
+/// Finds the first place in the turns of a part at which to stop, as `find_in` does.
+#[tactic(auto, using(crate::proofs::Sounds::fronts_none, crate::proofs::Sounds::none_sound))]
+#[cycle(find_in)]
+fn find_in_turns<E: Entries>(
+    body: &Part,
+    alloc: Global,
+    entries: &E,
+    asked: &Asked,
+    stop: &Stop,
+    turns: (u16, u16),
+    here: &[Hull],
+    trail: &mut Trail,
+) -> Result<Search, Unfound>
+    requires entries { IsSomeCertificate (E.list entries.now) }
+    requires budget { asked.now.budget ≤ MOST_WORDS }
+    requires fits { IsWithin body.now }
+    requires here { AreSoundHulls here.now }
+    ensures { IfOk result IsSoundSearch }
+{
+    let (least, most) = turns;
+    let mut fronts = Vec::new(alloc);
+    let mut here = Vec::from_slice(alloc, here)?;
+    let mut all = Vec::new(alloc);
+    for turn in 0..most {
+        if turn >= least {
+            add_all(&mut all, &here)?;
+        }
+        match find_in(body, alloc, entries, asked, stop, &here, trail)? {
+            Search::Found(goal) => {
+                push_turns(body, least.saturating_sub(turn + 1), trail)?;
+                let goal = turns_back(body, alloc, entries, asked, fronts, goal, trail)?;
+                return Ok(Search::Found(goal));
+            }
+            Search::Past(next) => {
+                keep(&mut fronts, here)?;
+                here = next;
+            }
+        }
+    }
+    add_all(&mut all, &here)?;
+    Ok(Search::Past(all))
+}
+
+/// Finds the place at which to stop in a jump and what stands behind it, as `find_in` does. What the items before the jump have to lead
+/// to.
+fn find_in_jump<E: Entries>(
+    jump: &Jump,
+    alloc: Global,
+    entries: &E,
+    asked: &Asked,
+    stop: &Stop,
+    here: &[Hull],
+    trail: &mut Trail,
+) -> Result<Search, Unfound>
+    requires entries { IsSomeCertificate (E.list entries.now) }
+    requires budget { asked.now.budget ≤ MOST_WORDS }
+    requires fits { IsWithin jump.now.body }
+    requires here { AreSoundHulls here.now }
+    ensures { IfOk result IsSoundSearch }
+{
+    let mut fault = None;
+    let there = past_jump(alloc, asked, &mut fault, Some(jump.number), here)?;
+    if let (Stop::Fault, Some(_), Some(goal)) = (*stop, fault, most_words(here)) {
+        trail.push_before(Written::Jump(jump.area.first))?;
+        push_part(&jump.body, trail)?;
+        return Ok(Search::Found(goal));
+    }
+    match find_in(&jump.body, alloc, entries, asked, stop, &there, trail)? {
+        Search::Found(goal) => {
+            trail.push_before(Written::Jump(jump.area.first))?;
+            Ok(Search::Found(goal.before_jump()))
+        }
+        Search::Past(next) => Ok(Search::Past(next)),
+    }
+}
+
+/// Adds jumps, with items of what stands behind each, that lead to a goal, in front of all others. `fronts` are the hulls before each
+/// jump. What the items before the jumps have to lead to.
+#[tactic(auto, using(crate::proofs::Sounds::fronts_last, crate::proofs::Sounds::fronts_rest))]
+fn jumps_back<E: Entries>(
+    jumps: &[Jump],
+    alloc: Global,
+    entries: &E,
+    asked: &Asked,
+    fronts: Vec<Vec<Hull>>,
+    goal: Goal,
+    trail: &mut Trail,
+) -> Result<Goal, Unfound>
+    requires entries { IsSomeCertificate (E.list entries.now) }
+    requires budget { asked.now.budget ≤ MOST_WORDS }
+    requires fits { AreWithin jumps.now }
+    requires fronts { AreSoundFronts fronts.items }
+{
+    let mut fronts = fronts;
+    let mut goal = goal;
+    while let Some(here) = fronts.pop() {
+        let Some(jump) = jumps.get(fronts.len()) else {
+            return Err(Unfound::NoFrame);
+        };
+        let there = past_jump(alloc, asked, &mut None, Some(jump.number), &here)?;
+        let between = part_before(&jump.body, alloc, entries, asked, &there, goal, trail)?;
+        trail.push_before(Written::Jump(jump.area.first))?;
+        goal = between.before_jump();
+    }
+    Ok(goal)
+}
+
+/// What all items up to the HALT have to lead to.
+fn end_goal(asked: &Asked, stop: &Stop, here: &[Hull]) -> Option<Goal>
+    requires here { AreSoundHulls here.now }
+{
+    match *stop {
+        Stop::MostDepth => most_depth(here),
+        Stop::MostWords => most_words(here),
+        Stop::Fault => {
+            let goal = most_words(here)?;
+            match goal.number {
+                Number::Words(words) if words >= asked.budget => Some(goal),
+                _ => None,
+            }
+        }
+        Stop::Call { .. } => None,
+    }
+}
+
+/// Finds the place at which to stop in jumps, in what stands behind each, or at the HALT. What the items before the jumps have to lead
+/// to.
+#[tactic(auto, using(crate::proofs::Sounds::fronts_none))]
+fn find_in_jumps<E: Entries>(
+    jumps: &[Jump],
+    alloc: Global,
+    entries: &E,
+    asked: &Asked,
+    stop: &Stop,
+    here: Vec<Hull>,
+    trail: &mut Trail,
+) -> Result<Goal, Unfound>
+    requires entries { IsSomeCertificate (E.list entries.now) }
+    requires budget { asked.now.budget ≤ MOST_WORDS }
+    requires fits { AreWithin jumps.now }
+    requires here { AreSoundHulls here.items }
+{
+    let mut fronts = Vec::new(alloc);
+    let mut here = here;
+    for (index, jump) in jumps.iter().enumerate() {
+        match find_in_jump(jump, alloc, entries, asked, stop, &here, trail)? {
+            Search::Found(goal) => {
+                trail.push_jumps(&jumps[index + 1..])?;
+                return jumps_back(jumps, alloc, entries, asked, fronts, goal, trail);
+            }
+            Search::Past(next) => {
+                keep(&mut fronts, here)?;
+                here = next;
+            }
+        }
+    }
+    match end_goal(asked, stop, &here) {
+        Some(goal) => jumps_back(jumps, alloc, entries, asked, fronts, goal, trail),
+        None => Err(Unfound::NoFrame),
+    }
+}
+
+/// Finds the place at which to stop in what stands in lists and behind them. What the items before the list have to lead to.
+fn find_in_recipe<E: Entries>(
+    alloc: Global,
+    entries: &E,
+    asked: &Asked,
+    stop: &Stop,
+    recipe: &Recipe,
+    trail: &mut Trail,
+) -> Result<Goal, Unfound>
+    requires entries { IsSomeCertificate (E.list entries.now) }
+    requires budget { asked.now.budget ≤ MOST_WORDS }
+{
+    let mut fault = None;
+    let first = starts(alloc, asked, &mut fault, recipe.lists())?;
+    if let (Stop::Fault, Some(_)) = (*stop, fault) {
+        push_part(recipe.body(), trail)?;
+        trail.push_jumps(recipe.jumps())?;
+        return most_words(&first).ok_or(Unfound::NoFrame);
+    }
+    match find_in(recipe.body(), alloc, entries, asked, stop, &first, trail)? {
+        Search::Found(goal) => {
+            trail.push_jumps(recipe.jumps())?;
+            Ok(goal)
+        }
+        Search::Past(next) => {
+            let jumps = recipe.jumps();
+            let goal = find_in_jumps(jumps, alloc, entries, asked, stop, next, trail)?;
+            part_before(recipe.body(), alloc, entries, asked, &first, goal, trail)
+        }
+    }
+}
+
+/// The word address of a list that leads to a goal: one at 000 has no word before it, and others have the JMPL to them.
+fn list_of(lists: &[Area], goal: &Goal) -> Option<u16> {
+    for area in lists {
+        match goal.number {
+            Number::Words(words) if (words == 0) != (area.first == 0) => {}
+            _ => return Some(area.first),
+        }
+    }
+    None
+}
+
+/// The words of a frame of a recipe that leads to where it has to stop.
+fn find_words<E: Entries>(
+    alloc: Global,
+    entries: &E,
+    asked: &Asked,
+    stop: &Stop,
+    recipe: &Recipe,
+) -> Result<Vec<u16>, Unfound>
+    requires entries { IsSomeCertificate (E.list entries.now) }
+    requires budget { asked.now.budget ≤ MOST_WORDS }
+{
+    let mut trail = Trail::new(alloc);
+    let goal = find_in_recipe(alloc, entries, asked, stop, recipe, &mut trail)?;
+    match list_of(recipe.lists(), &goal) {
+        Some(first) => Ok(trail.words(first)?),
+        None => Err(Unfound::NoFrame),
+    }
+}
+
+/// The words of a frame of a recipe that leads to where it has to stop, `None` if there is none (only tested).
+pub fn find<E: Entries>(
+    alloc: Global,
+    entries: &E,
+    asked: &Asked,
+    stop: &Stop,
+    recipe: &Recipe,
+) -> Result<Option<Vec<u16>>, AllocError>
+    requires entries { IsSomeCertificate (E.list entries.now) }
+    requires budget { asked.now.budget ≤ MOST_WORDS }
+{
+    match find_words(alloc, entries, asked, stop, recipe) {
+        Ok(words) => Ok(Some(words)),
+        Err(Unfound::NoFrame) => Ok(None),
+        Err(Unfound::Memory) => Err(AllocError),
+    }
+}
