@@ -2,11 +2,13 @@
 //!
 //! A [`Recipe`] says where a frame's list may begin, and of which instructions it is made up to its HALT: pieces ([`Piece`]) in rows,
 //! alternatives and repeats ([`Part`]). [`belongs`] says whether a frame is one of the recipe's, and if not, where it leaves it.
+//! [`judge_recipe`] judges all of them at once, and [`find_refused`] shows a frame for which it refuses.
 #![tactic(auto)]
 
 mod belonging;
 mod changes;
 mod choices;
+mod confirmed;
 mod frame_items;
 mod goal;
 mod hull;
@@ -17,7 +19,6 @@ mod judge;
 mod length_tests;
 mod lengths;
 mod limits;
-mod members;
 mod piece;
 mod recipe;
 mod rectangles;
@@ -35,10 +36,10 @@ mod witness;
 mod witness_tests;
 
 pub use belonging::{Leaving, NotMember, belongs};
+pub use confirmed::{RefusedFrame, find_deepest, find_longest, find_refused};
 pub use judge::RecipeFault;
 pub use lengths::too_long;
 pub use limits::{MOST_LEVELS, MOST_LISTS, MOST_NESTED, MOST_PIECES, MOST_TURNS};
-pub use members::{RefusedFrame, find_deepest, find_longest, find_refused};
 pub use piece::{DrawRange, Piece, PieceKind, PlaceRange, Span};
 pub use recipe::{Area, Jump, Part, Recipe};
 pub use roots::Unmade;

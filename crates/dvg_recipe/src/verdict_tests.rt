@@ -1,10 +1,15 @@
 //! What [`judge_recipe`] answers on recipes, with the answers that a program in Python, written apart from this one, gave.
 
+ghost use Rattle.std.specs.Prelude.{◌≡◌, ◌≤◌};
+ghost use Rattle.dvg_words.specs.declared.machine.Machine.TheVariants.{Board};
+ghost use Rattle.dvg_cert.specs.declared.limits.TheConstants.{MOST_WORDS};
+
 use crate::tests::{
     Words, call, draw, either, expect_same, fixed, frame_bytes, pair, repeat, row, span,
 };
 use crate::{
-    Area, Jump, Part, PieceKind, PlaceRange, Recipe, RecipeRefusal, RecipeYes, judge_recipe,
+    Area, Jump, Part, PieceKind, PlaceRange, Recipe, RecipeRefusal, RecipeYes, find_deepest,
+    find_longest, find_refused, judge_recipe,
 };
 use Step::{Call, Either, Fixed, Place, Repeat, Svec, Then, Vctr};
 use dvg_cert::{Key, MOST_WORDS};
@@ -276,6 +281,30 @@ fn as_told(answer: &Result<RecipeYes, RecipeRefusal>) -> Told {
     }
 }
 
+/// Whether frames of a recipe show what is answered of it: one that is refused with this number, or two that have these counts. 57 has
+/// none to show.
+fn shows(
+    alloc: Global,
+    rom: &RomImage,
+    recipe: &Recipe,
+    budget: u32,
+    window: Window,
+    answer: &Result<RecipeYes, RecipeRefusal>,
+) -> Result<bool, AllocError>
+    requires budget { budget ≤ MOST_WORDS }
+    requires board { rom.now.machine ≡ Board }
+{
+    match answer {
+        Ok(yes) => {
+            let longest = find_longest(alloc, rom, recipe, budget, window, yes.words)?;
+            let deepest = find_deepest(alloc, rom, recipe, budget, window, yes.depth)?;
+            Ok(longest.is_some() && deepest.is_some())
+        }
+        Err(RecipeRefusal::TooLong { .. }) => Ok(true),
+        Err(refusal) => { Ok(find_refused(alloc, rom, recipe, budget, window, refusal)?.is_some()) }
+    }
+}
+
 /// Stops the test unless each recipe over the ROM of these words at 800 to BFF is told of as its row says.
 fn expect_told(rt: &impl Abort, alloc: Global, words: &[Words], rows: &[Row]) {
     let bytes = frame_bytes(words);
@@ -287,6 +316,13 @@ fn expect_told(rt: &impl Abort, alloc: Global, words: &[Words], rows: &[Row]) {
         let budget = row.budget.min(MOST_WORDS);
         let answer = judge_recipe(alloc, &rom, &recipe, budget, window);
         expect_same(rt, &as_told(&answer), &row.told, &row.body);
+        let shown = shows(alloc, &rom, &recipe, budget, window, &answer);
+        expect_same(
+            rt,
+            &shown.expect(rt, "memory for a frame"),
+            &true,
+            &row.body,
+        );
     }
 }
 
