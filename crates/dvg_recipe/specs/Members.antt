@@ -5,14 +5,17 @@ use Rattle.dvg_words.specs.Values.{Window}
 use Rattle.dvg_check.specs.Numbers.{refusal_number}
 use Rattle.dvg_check.specs.FirstFault.{shape_number, frame_number}
 use Rattle.dvg_check.specs.declared.verdict.Yes.{Yes}
-use Rattle.dvg_make.specs.Judging.{FrameRefusal, Make as Unmakeable, NoMemory, Check, VerdictByMade}
+use Rattle.dvg_make.specs.Judging.{VerdictByMade}
+use Rattle.dvg_make.specs.declared.judging.FrameRefusal.{FrameRefusal}
+use Rattle.dvg_make.specs.declared.judging.FrameRefusal.TheVariants.{Make as Unmakeable, NoMemory, Check}
 use Rattle.dvg_make.specs.Refusals.{fault_number, make_fault_of}
 use Rattle.dvg_recipe.specs.Recipes.{Recipe, Belongs}
 use Rattle.dvg_recipe.specs.declared.verdict.RecipeRefusal.{RecipeRefusal}
 use Rattle.dvg_recipe.specs.declared.verdict.RecipeRefusal.TheVariants.{TooLong, Make, Shape, Frame, Memory}
 
 -- the frame of these bytes belongs to the recipe, and this is the verdict on it by its own certificate (profile)
-pub record IsMemberVerdict (rom : Rom) (recipe : Recipe) (w : Window) (budget : ℕ) (bytes : List ℕ) (verdict : Result Yes FrameRefusal) : Type 0 where
+pub record IsMemberVerdict (rom : Rom) (recipe : Recipe) (w : Window) (budget : ℕ) (bytes : List ℕ) (verdict : Result Yes FrameRefusal)
+    : Type 0 where
   pub belongs : Belongs recipe (words_of bytes)
   pub judged : VerdictByMade rom (words_of bytes) w budget verdict
 
