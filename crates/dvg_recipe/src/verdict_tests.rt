@@ -221,11 +221,10 @@ impl Stack {
         for step in steps {
             self.step(step)?;
         }
-        let mut part = self.take();
-        while let Some(before) = self.parts.pop() {
-            part = joined(self.alloc, before, part)?;
+        for _ in 1..self.parts.len() {
+            self.join()?;
         }
-        Ok(part)
+        Ok(self.take())
     }
 
     /// A jump to an area, and what stands there.
@@ -1174,674 +1173,697 @@ const JUDGES_WINDOWS: &[Row] = &[
     },
 ];
 
-/// Recipes of mixed parts, made by chance.
-const JUDGES_MIXED_PARTS: &[Row] = &[
+/// Recipes of mixed parts, made by chance, that are accepted.
+const ACCEPTS_SOME: &[Row] = &[
     Row {
-        lists: &[(0x000, 0x006)],
+        lists: &[(0x001, 0x3FF)],
         body: &[
-            Place((994, 996), (0, 2), &[0]),
-            Place((3, 4), (11, 11), &[13]),
-            Place((1016, 1056), (-2, -1), &[7]),
-            Repeat(1, 2),
-            Repeat(2, 2),
-            Svec(2, (256, 256), (768, 768), (0, 0)),
-            Place((33, 73), (8, 9), &[2, 3]),
+            Place((663, 665), (999, 1000), &[0]),
+            Fixed(0xC8D0, 0x876D),
+            Svec(5, (-256, 0), (0, 0), (0, 7)),
+            Call(&[0x8B0]),
+            Place((1026, 1066), (991, 1031), &[0]),
+            Either,
+            Call(&[0x820, 0x970, 0x9E0]),
+            Either,
         ],
-        told: Told::TooLong(2),
-        ..PLAIN
-    },
-    Row {
-        lists: &[(0x000, 0x3FF)],
-        body: &[
-            Place((1023, 1023), (1021, 1023), &[0]),
-            Call(&[0x878]),
-            Vctr(0, (-18, 22), (-11, -10), (7, 7)),
-            Svec(2, (-768, -768), (512, 512), (0, 7)),
-            Then,
-            Vctr(9, (0, 40), (2, 2), (7, 7)),
-            Repeat(0, 1),
-            Then,
-            Repeat(3, 3),
-        ],
-        budget: 33,
-        told: Told::Unmade(1, 0x878, Key::At(0), EntryFault::Unstraight { word: 0x87A }),
-        ..PLAIN
-    },
-    Row {
-        lists: &[(0x000, 0x3FF)],
-        body: &[
-            Place((1023, 1023), (1023, 1023), &[0]),
-            Vctr(3, (-2, -2), (1, 1), (0, 7)),
-            Place((2011, 2047), (94, 94), &[13]),
-            Place((2010, 2047), (2017, 2047), &[1]),
-            Then,
-            Fixed(0xC8A8, 0xA5E8),
-            Then,
-            Repeat(0, 1),
-            Call(&[0x898, 0x8A8, 0x8C0]),
-        ],
-        budget: 23,
-        window: Shown::Clipped,
-        told: Told::Yes(10, 23, 4),
+        told: Told::Yes(6, 10211, 2),
         ..PLAIN
     },
     Row {
         lists: &[(0x001, 0x1FF), (0x201, 0x3FF)],
         body: &[
-            Place((506, 507), (499, 501), &[0]),
-            Place((489, 529), (508, 508), &[15]),
-            Place((456, 456), (526, 526), &[0]),
-            Fixed(0x9000, 0x0407),
-            Repeat(1, 1),
-            Then,
-            Vctr(9, (0, 0), (0, 0), (7, 7)),
-            Then,
+            Place((0, 1), (0, 0), &[0]),
+            Vctr(8, (1, 41), (-2, -2), (7, 7)),
+            Fixed(0xC810, 0xBD8B),
+            Either,
+            Repeat(0, 1),
+            Place((2032, 2032), (-1021, -1020), &[1]),
         ],
-        budget: 46,
-        window: Shown::Part(480, 540, 480, 530),
-        told: Told::Frame(Some(4), 46),
+        window: Shown::Clipped,
+        told: Told::Yes(1, 16, 1),
+        ..PLAIN
+    },
+    Row {
+        lists: &[(0x000, 0x012)],
+        body: &[
+            Place((100, 101), (131, 133), &[0]),
+            Svec(2, (768, 768), (768, 768), (7, 7)),
+            Call(&[0x8A0, 0x8A8, 0x970]),
+            Call(&[0x9E0]),
+            Call(&[0x830]),
+            Then,
+            Fixed(0x8027, 0x0001),
+            Then,
+            Either,
+            Repeat(1, 1),
+            Place((165, 165), (887, 888), &[1, 2]),
+        ],
+        window: Shown::Part(100, 300, 128, 895),
+        told: Told::Yes(8, 10208, 3),
+        ..PLAIN
+    },
+    Row {
+        lists: &[(0x001, 0x1FF), (0x201, 0x3FF)],
+        body: &[
+            Fixed(0xA3FF, 0x03FF),
+            Place((-1024, -984), (2044, 2044), &[2]),
+            Call(&[0x860]),
+            Call(&[0x830]),
+            Place((2028, 2029), (1509, 1509), &[2]),
+            Then,
+            Either,
+            Repeat(0, 1),
+        ],
+        budget: 36,
+        window: Shown::Clipped,
+        told: Told::Yes(5, 36, 2),
+        ..PLAIN
+    },
+    Row {
+        lists: &[(0x001, 0x00A)],
+        body: &[
+            Place((125, 126), (131, 133), &[0]),
+            Place((141, 181), (150, 150), &[7, 13]),
+            Place((294, 294), (728, 729), &[7]),
+            Call(&[0x830]),
+            Then,
+            Vctr(3, (-27, -27), (177, 178), (0, 7)),
+            Either,
+            Then,
+            Place((278, 278), (244, 244), &[13]),
+            Then,
+            Repeat(0, 1),
+        ],
+        window: Shown::Part(100, 300, 128, 895),
+        told: Told::Yes(4, 38, 2),
+        ..PLAIN
+    },
+    Row {
+        lists: &[(0x000, 0x3FF)],
+        body: &[
+            Fixed(0xA3FF, 0x0000),
+            Svec(2, (512, 512), (-768, -512), (7, 7)),
+            Place((2019, 2020), (-987, -947), &[2]),
+            Call(&[0x850, 0x8A0, 0x8B0]),
+            Place((2030, 2047), (2046, 2046), &[0]),
+            Repeat(2, 2),
+        ],
+        window: Shown::Clipped,
+        told: Told::Yes(5, 17, 3),
         ..PLAIN
     },
     Row {
         lists: &[(0x001, 0x3FF)],
         body: &[
-            Place((20, 20), (1005, 1005), &[0]),
-            Vctr(3, (-76, -75), (-168, -168), (0, 0)),
-            Place((14, 14), (896, 897), &[2]),
+            Place((1023, 1023), (0, 2), &[0]),
+            Place((-994, -994), (-998, -998), &[14]),
+            Vctr(9, (2, 2), (-1, -1), (7, 7)),
+            Repeat(1, 2),
+            Call(&[0x8B0, 0x8D0, 0x9E0]),
+        ],
+        window: Shown::Clipped,
+        told: Told::Yes(3, 112, 1),
+        ..PLAIN
+    },
+    Row {
+        lists: &[(0x000, 0x3FF)],
+        body: &[
+            Place((989, 990), (565, 565), &[0]),
+            Svec(3, (0, 0), (0, 0), (0, 0)),
+            Repeat(3, 3),
+            Call(&[0x810]),
+            Place((410, 411), (8, 8), &[3]),
             Then,
-            Call(&[0x850, 0x898, 0x8A0]),
-            Repeat(0, 1),
+            Repeat(1, 1),
+            Either,
+            Call(&[0x830]),
+        ],
+        budget: 57,
+        told: Told::Yes(8, 43, 2),
+        ..PLAIN
+    },
+];
+
+/// Others, two of them too long.
+const ACCEPTS_OTHERS: &[Row] = &[
+    Row {
+        lists: &[(0x000, 0x01B)],
+        body: &[
+            Place((-879, -879), (2047, 2047), &[7]),
+            Vctr(9, (35, 35), (11, 51), (7, 7)),
+            Fixed(0xA000, 0x0000),
+            Vctr(9, (0, 0), (-7, -7), (0, 0)),
+            Repeat(0, 2),
+            Then,
+            Fixed(0x9000, 0x7000),
+            Then,
+            Repeat(3, 3),
+            Vctr(9, (-2, -2), (-1, -1), (0, 7)),
+        ],
+        window: Shown::Clipped,
+        told: Told::TooLong(5),
+        ..PLAIN
+    },
+    Row {
+        lists: &[(0x001, 0x009)],
+        body: &[
+            Fixed(0xA3FF, 0x03FF),
+            Vctr(0, (0, 40), (0, 0), (0, 7)),
+            Place((2027, 2027), (374, 375), &[3]),
+            Repeat(1, 3),
+            Vctr(8, (-146, -146), (-9, 31), (0, 7)),
+        ],
+        budget: 21,
+        window: Shown::Clipped,
+        told: Told::TooLong(2),
+        ..PLAIN
+    },
+    Row {
+        lists: &[(0x001, 0x00D)],
+        body: &[
+            Place((996, 996), (991, 993), &[0]),
+            Call(&[0x970]),
+            Vctr(9, (61, 61), (133, 133), (0, 0)),
+            Then,
+            Svec(4, (768, 768), (512, 512), (0, 0)),
             Then,
             Repeat(1, 1),
         ],
-        told: Told::Shape(25, 0x850, Key::At(2), 0x852),
+        told: Told::Yes(2, 10209, 2),
+        ..PLAIN
+    },
+    Row {
+        lists: &[(0x001, 0x3FF)],
+        body: &[
+            Place((387, 387), (28, 30), &[0]),
+            Fixed(0xA3F8, 0xD007),
+            Place((899, 899), (603, 604), &[3, 7]),
+            Svec(2, (-512, -512), (-768, -768), (0, 0)),
+            Place((133, 134), (32, 32), &[2, 15]),
+            Then,
+            Place((4, 5), (38, 78), &[13]),
+            Then,
+            Repeat(0, 1),
+            Call(&[0x8A0]),
+        ],
+        told: Told::Yes(9, 20, 3),
+        ..PLAIN
+    },
+    Row {
+        lists: &[(0x000, 0x014)],
+        body: &[
+            Place((0, 2), (1023, 1023), &[0]),
+            Call(&[0x8D0]),
+            Place((-999, -959), (2014, 2014), &[0, 13]),
+            Call(&[0x8C0]),
+            Then,
+            Place((-988, -948), (2033, 2033), &[2, 15]),
+            Then,
+            Either,
+            Place((-120, -80), (2047, 2047), &[14]),
+            Either,
+            Call(&[0x8A8, 0x8D0, 0x9E0]),
+            Either,
+        ],
+        window: Shown::Clipped,
+        told: Told::Yes(6, 105, 2),
+        ..PLAIN
+    },
+    Row {
+        lists: &[(0x005, 0x027)],
+        body: &[
+            Place((498, 498), (497, 498), &[0]),
+            Svec(3, (512, 512), (-768, -768), (7, 7)),
+            Repeat(1, 1),
+            Call(&[0x8B0]),
+            Then,
+            Repeat(1, 1),
+            Vctr(8, (7, 7), (17, 18), (0, 0)),
+            Place((512, 512), (511, 511), &[0, 13]),
+            Repeat(0, 1),
+            Then,
+            Repeat(1, 2),
+        ],
+        window: Shown::Part(480, 540, 480, 530),
+        told: Told::Yes(1, 17, 1),
+        ..PLAIN
+    },
+    Row {
+        lists: &[(0x001, 0x3FF)],
+        body: &[
+            Place((0, 2), (0, 0), &[0]),
+            Call(&[0x898, 0x8D0]),
+            Call(&[0x830, 0x850, 0x8A0]),
+            Place((0, 0), (1023, 1023), &[0]),
+            Fixed(0x9007, 0x0000),
+            Repeat(1, 3),
+            Then,
+            Vctr(9, (0, 0), (0, 0), (7, 7)),
+            Then,
+        ],
+        budget: 59,
+        window: Shown::Clipped,
+        told: Told::Yes(16, 51, 4),
         ..PLAIN
     },
     Row {
         lists: &[(0x001, 0x1FF), (0x201, 0x3FF)],
         body: &[
-            Place((101, 102), (898, 900), &[0]),
-            Call(&[0x810, 0x9E0]),
-            Place((122, 123), (878, 878), &[14]),
-            Fixed(0xA085, 0x0080),
-            Vctr(9, (-7, -7), (0, 0), (0, 0)),
-            Repeat(1, 2),
+            Place((0, 2), (1023, 1023), &[0]),
+            Svec(2, (256, 768), (-768, -768), (0, 0)),
+            Fixed(0xC8A8, 0x0000),
+            Vctr(3, (189, 189), (-78, -78), (0, 0)),
+            Call(&[0x8A8, 0x9E0]),
+            Repeat(3, 3),
+        ],
+        window: Shown::Clipped,
+        told: Told::Yes(3, 318, 2),
+        ..PLAIN
+    },
+];
+
+/// Recipes of mixed parts that break a rule of places.
+const REFUSES_PLACES: &[Row] = &[
+    Row {
+        lists: &[(0x000, 0x3FF)],
+        body: &[
+            Place((0, 1), (41, 41), &[0]),
+            Place((1023, 1023), (1023, 1023), &[0]),
+            Fixed(0x9007, 0x0000),
+            Repeat(0, 3),
             Then,
             Vctr(9, (0, 0), (0, 0), (7, 7)),
             Then,
-            Fixed(0xA342, 0xF128),
         ],
-        budget: 29,
-        window: Shown::Part(100, 300, 128, 895),
+        told: Told::Frame(Some(3), 46),
+        ..PLAIN
+    },
+    Row {
+        lists: &[(0x005, 0x022)],
+        body: &[
+            Place((516, 518), (497, 497), &[0]),
+            Fixed(0xA227, 0x01C4),
+            Vctr(9, (0, 0), (-7, -7), (0, 0)),
+            Repeat(1, 1),
+            Then,
+            Vctr(9, (0, 0), (0, 0), (7, 7)),
+            Then,
+            Repeat(1, 3),
+            Call(&[0x810, 0x970]),
+        ],
+        jumps: &[((0x2C6, 0x3FF), &[Place((519, 559), (510, 510), &[14, 15])])],
+        budget: 44,
+        window: Shown::Part(480, 540, 480, 530),
+        told: Told::Frame(Some(3), 46),
+    },
+    Row {
+        lists: &[(0x000, 0x3FF)],
+        body: &[
+            Place((534, 535), (498, 499), &[0]),
+            Svec(2, (768, 768), (0, 768), (7, 7)),
+            Svec(5, (-512, -512), (-512, -512), (0, 7)),
+            Place((488, 488), (464, 464), &[0]),
+            Vctr(9, (0, 0), (7, 7), (0, 0)),
+            Repeat(0, 1),
+            Then,
+            Vctr(9, (0, 0), (0, 0), (7, 7)),
+            Then,
+        ],
+        window: Shown::Part(480, 540, 480, 530),
         told: Told::Frame(Some(1), 46),
         ..PLAIN
     },
     Row {
-        lists: &[(0x001, 0x005)],
+        lists: &[(0x001, 0x3FF)],
         body: &[
-            Place((293, 293), (863, 864), &[0]),
-            Place((268, 269), (702, 702), &[1]),
-            Svec(2, (-768, -768), (512, 768), (0, 7)),
-            Call(&[0x840]),
-            Svec(2, (-768, -512), (-256, 768), (0, 7)),
+            Place((1020, 1021), (24, 24), &[0]),
+            Call(&[0x820, 0x8A0, 0x8D0]),
+            Svec(3, (256, 256), (-768, -768), (0, 0)),
+            Repeat(1, 2),
+        ],
+        budget: 40,
+        told: Told::Frame(Some(1), 46),
+        ..PLAIN
+    },
+    Row {
+        lists: &[(0x001, 0x1FF), (0x201, 0x3FF)],
+        body: &[
+            Place((3, 3), (1007, 1008), &[0]),
+            Call(&[0x800, 0x830, 0x8B8]),
+            Fixed(0xA000, 0x0011),
+            Fixed(0x9407, 0x0000),
+            Repeat(0, 1),
             Then,
-            Call(&[0x810, 0x830]),
+            Vctr(9, (0, 0), (0, 0), (7, 7)),
             Then,
-            Place((134, 134), (879, 879), &[7]),
+            Then,
+            Vctr(8, (-28, 12), (0, 0), (7, 7)),
             Either,
-            Then,
+            Fixed(0xC8A0, 0x8166),
             Either,
         ],
-        window: Shown::Part(100, 300, 128, 895),
-        told: Told::TooLong(5),
+        budget: 52,
+        told: Told::Frame(Some(1), 46),
         ..PLAIN
     },
     Row {
         lists: &[(0x000, 0x010)],
         body: &[
-            Place((986, 987), (1023, 1023), &[0]),
-            Place((-3, 37), (238, 278), &[7, 13]),
-        ],
-        jumps: &[(
-            (0x0BA, 0x3FF),
-            &[
-                Vctr(9, (149, 149), (-129, -129), (7, 7)),
-                Place((-1, 0), (371, 372), &[13]),
-                Fixed(0xC878, 0x0000),
-                Then,
-                Either,
-                Repeat(0, 3),
-            ],
-        )],
-        budget: 25,
-        told: Told::Unmade(
-            5,
-            0x878,
-            Key::At(13),
-            EntryFault::Unstraight { word: 0x87A },
-        ),
-        ..PLAIN
-    },
-    Row {
-        lists: &[(0x005, 0x00D)],
-        body: &[
-            Place((552, 552), (385, 387), &[0]),
-            Call(&[0x800, 0x830]),
-            Fixed(0xC8A8, 0x0000),
-            Repeat(0, 2),
-            Either,
-            Call(&[0x8B8]),
-            Place((20, 20), (9, 9), &[15]),
-            Repeat(0, 1),
+            Svec(2, (-768, 768), (0, 768), (0, 7)),
+            Place((1007, 1007), (1013, 1014), &[14]),
+            Place((993, 993), (1016, 1017), &[7]),
+            Then,
+            Repeat(1, 1),
             Repeat(1, 1),
         ],
-        told: Told::Yes(7, 44, 2),
+        budget: 37,
+        told: Told::Frame(Some(0), 44),
         ..PLAIN
     },
     Row {
         lists: &[(0x000, 0x3FF)],
         body: &[
-            Svec(2, (0, 0), (-512, 768), (0, 0)),
-            Fixed(0xC8B0, 0x0000),
-            Fixed(0xC8B8, 0x5B1B),
-            Then,
-            Fixed(0xF57B, 0xAD2D),
-            Then,
-            Repeat(1, 1),
-            Repeat(1, 1),
+            Call(&[0x860, 0x8B8]),
+            Place((2047, 2047), (2029, 2029), &[0]),
+            Either,
+            Svec(3, (-256, -256), (768, 768), (0, 7)),
+            Either,
+            Vctr(3, (-159, -158), (38, 38), (0, 0)),
+            Svec(3, (768, 768), (-256, -256), (0, 0)),
+            Vctr(3, (-2, -1), (-163, -123), (0, 7)),
+            Repeat(0, 1),
         ],
-        window: Shown::Part(480, 540, 480, 530),
-        told: Told::Shape(25, 0x8B8, Key::Any, 0x8BA),
+        window: Shown::Clipped,
+        told: Told::Frame(Some(2), 44),
         ..PLAIN
     },
     Row {
-        lists: &[(0x001, 0x3FF)],
+        lists: &[(0x001, 0x1FF), (0x201, 0x3FF)],
         body: &[
-            Place((494, 494), (530, 531), &[0]),
-            Call(&[0x800, 0x840, 0x970]),
-            Place((503, 503), (505, 506), &[3]),
+            Vctr(0, (-3, -3), (0, 0), (0, 7)),
+            Place((25, 25), (709, 709), &[7, 13]),
+            Call(&[0x8A8, 0x8B8]),
+            Fixed(0xC860, 0x0000),
+            Either,
             Repeat(3, 3),
-            Either,
-            Place((514, 554), (486, 526), &[1, 2]),
-            Either,
+            Svec(4, (256, 512), (768, 768), (0, 7)),
         ],
-        window: Shown::Part(480, 540, 480, 530),
+        budget: 36,
+        told: Told::Frame(Some(0), 44),
+        ..PLAIN
+    },
+];
+
+/// Recipes of mixed parts that break a rule, most of them the budget.
+const REFUSES_WORDS: &[Row] = &[
+    Row {
+        lists: &[(0x000, 0x3FF)],
+        body: &[
+            Place((230, 231), (131, 131), &[0]),
+            Svec(5, (768, 768), (-512, -256), (7, 7)),
+            Call(&[0x830]),
+            Svec(4, (-768, -512), (-768, 768), (0, 7)),
+            Then,
+            Call(&[0x820, 0x8D0]),
+            Place((286, 326), (141, 141), &[0]),
+            Then,
+            Place((258, 298), (129, 129), &[7]),
+            Then,
+            Either,
+            Then,
+            Repeat(1, 3),
+        ],
+        window: Shown::Part(100, 300, 128, 895),
         told: Told::Frame(Some(1), 46),
         ..PLAIN
     },
     Row {
-        lists: &[(0x001, 0x00B)],
+        lists: &[(0x000, 0x01E)],
         body: &[
-            Place((983, 983), (15, 15), &[0]),
-            Call(&[0x8B8, 0x8D0]),
-            Repeat(1, 2),
-            Place((985, 986), (33, 73), &[2, 3]),
-            Vctr(8, (-11, -11), (94, 94), (0, 0)),
-        ],
-        budget: 11,
-        told: Told::Frame(Some(1), 48),
-        ..PLAIN
-    },
-    Row {
-        lists: &[(0x001, 0x3FF)],
-        body: &[
-            Place((116, 117), (133, 133), &[0]),
-            Fixed(0xA379, 0x0069),
-            Place((301, 341), (168, 168), &[3, 13]),
-            Then,
-            Call(&[0x820, 0x830, 0x898]),
-            Then,
-            Call(&[0x800, 0x860, 0x8B8]),
-            Either,
-            Repeat(0, 2),
-            Call(&[0x8A0, 0x8B8]),
-        ],
-        window: Shown::Part(100, 300, 128, 895),
-        told: Told::Shape(25, 0x860, Key::At(0), 0x862),
-        ..PLAIN
-    },
-    Row {
-        lists: &[(0x001, 0x3FF)],
-        body: &[
-            Place((0, 2), (986, 987), &[0]),
-            Place((36, 36), (13, 13), &[7]),
-            Place((0, 0), (30, 30), &[0]),
-            Vctr(9, (0, 0), (7, 7), (0, 0)),
-            Repeat(2, 4),
-            Then,
-            Vctr(9, (0, 0), (0, 0), (7, 7)),
-            Then,
-            Repeat(1, 1),
-        ],
-        budget: 17,
-        told: Told::Frame(Some(5), 48),
-        ..PLAIN
-    },
-    Row {
-        lists: &[(0x001, 0x3FF)],
-        body: &[
-            Place((490, 490), (101, 101), &[0]),
-            Place((1017, 1018), (161, 161), &[0]),
-            Place((1020, 1020), (16, 56), &[15]),
-            Place((998, 998), (1006, 1006), &[0]),
-            Fixed(0x9000, 0x0007),
-            Repeat(1, 4),
-            Then,
-            Vctr(9, (0, 0), (0, 0), (7, 7)),
-            Then,
-            Then,
-            Repeat(1, 1),
-        ],
-        budget: 17,
-        told: Told::Frame(Some(5), 46),
-        ..PLAIN
-    },
-    Row {
-        lists: &[(0x000, 0x01F)],
-        body: &[
-            Place((502, 504), (490, 490), &[0]),
-            Call(&[0x800, 0x810]),
-            Svec(4, (768, 768), (768, 768), (0, 0)),
-            Place((526, 527), (502, 542), &[3, 15]),
-            Repeat(1, 2),
-            Place((479, 479), (464, 464), &[0]),
-            Vctr(9, (7, 7), (0, 0), (0, 0)),
-            Repeat(2, 2),
-            Then,
-            Fixed(0x9000, 0x7000),
-            Then,
-        ],
-        budget: 51,
-        window: Shown::Part(480, 540, 480, 530),
-        told: Told::Frame(Some(6), 46),
-        ..PLAIN
-    },
-    Row {
-        lists: &[(0x005, 0x024)],
-        body: &[
-            Place((1020, 1020), (1013, 1053), &[1, 14]),
-            Fixed(0xA000, 0x001E),
-            Fixed(0x9007, 0x0000),
+            Place((27, 27), (24, 24), &[0]),
+            Place((829, 829), (5, 45), &[13, 15]),
+            Vctr(9, (25, 26), (25, 25), (7, 7)),
             Repeat(2, 3),
-            Then,
-            Vctr(9, (0, 0), (0, 0), (7, 7)),
-            Then,
-            Either,
-        ],
-        budget: 11,
-        told: Told::Frame(Some(4), 48),
-        ..PLAIN
-    },
-    Row {
-        lists: &[(0x000, 0x3FF)],
-        body: &[
-            Place((996, 997), (1009, 1009), &[0]),
-            Place((33, 33), (486, 486), &[2, 14]),
-            Place((1014, 1015), (-3, -3), &[7]),
-            Vctr(3, (-85, -85), (184, 184), (0, 7)),
-            Place((28, 28), (669, 669), &[14]),
-            Call(&[0x890]),
-            Then,
-            Vctr(0, (18, 18), (144, 184), (0, 0)),
-            Then,
-            Either,
-            Repeat(0, 1),
-        ],
-        budget: 7,
-        told: Told::Unmade(5, 0x890, Key::At(14), EntryFault::Deep),
-        ..PLAIN
-    },
-    Row {
-        lists: &[(0x000, 0x3FF)],
-        body: &[
-            Vctr(9, (34, 35), (-33, -32), (7, 7)),
-            Vctr(8, (119, 120), (107, 107), (0, 0)),
-            Then,
+            Vctr(0, (29, 29), (9, 10), (7, 7)),
             Call(&[0x830]),
-            Then,
-            Repeat(0, 2),
-            Vctr(0, (-92, -52), (-53, -53), (0, 7)),
-            Repeat(0, 1),
-            Either,
-            Fixed(0xA3E8, 0x03F7),
-            Fixed(0x9000, 0x0007),
-            Repeat(1, 1),
-            Then,
-            Fixed(0x9000, 0x7000),
-            Then,
         ],
-        told: Told::Unmade(2, 0x830, Key::Any, EntryFault::Unstraight { word: 0x800 }),
-        ..PLAIN
-    },
-    Row {
-        lists: &[(0x000, 0x3FF)],
-        body: &[
-            Place((220, 222), (161, 161), &[0]),
-            Place((191, 191), (860, 900), &[7]),
-            Call(&[0x890, 0x970]),
-            Repeat(0, 1),
-            Place((99, 99), (150, 150), &[2]),
-            Vctr(3, (6, 7), (194, 194), (0, 0)),
-        ],
-        window: Shown::Part(100, 300, 128, 895),
-        told: Told::Unmade(2, 0x890, Key::At(7), EntryFault::Deep),
-        ..PLAIN
-    },
-    Row {
-        lists: &[(0x000, 0x3FF)],
-        body: &[
-            Place((1002, 1003), (6, 7), &[0]),
-            Svec(4, (768, 768), (-768, -512), (0, 0)),
-            Vctr(9, (98, 138), (169, 209), (0, 7)),
-            Vctr(8, (-19, -19), (5, 5), (7, 7)),
-            Then,
-            Place((517, 517), (30, 31), &[3]),
-            Then,
-            Either,
-            Svec(5, (256, 256), (256, 512), (0, 0)),
-        ],
-        budget: 33,
-        told: Told::Frame(Some(2), 46),
+        budget: 21,
+        told: Told::Frame(Some(4), 48),
         ..PLAIN
     },
     Row {
         lists: &[(0x000, 0x018)],
         body: &[
-            Place((511, 511), (490, 492), &[0]),
-            Fixed(0xA22A, 0x0206),
-            Fixed(0x9000, 0x0407),
-            Repeat(0, 2),
+            Place((320, 320), (897, 897), &[0]),
+            Place((1023, 1023), (0, 0), &[0]),
+            Fixed(0x9007, 0x0000),
+            Repeat(1, 2),
             Then,
             Vctr(9, (0, 0), (0, 0), (7, 7)),
             Then,
         ],
-        budget: 13,
-        window: Shown::Part(480, 540, 480, 530),
+        budget: 10,
+        told: Told::Frame(Some(4), 48),
+        ..PLAIN
+    },
+    Row {
+        lists: &[(0x001, 0x3FF)],
+        body: &[
+            Place((273, 273), (857, 859), &[0]),
+            Fixed(0xA086, 0x0113),
+            Fixed(0x9407, 0x0000),
+            Repeat(1, 4),
+            Then,
+            Vctr(9, (0, 0), (0, 0), (7, 7)),
+            Then,
+        ],
+        window: Shown::Part(100, 300, 128, 895),
         told: Told::Frame(Some(3), 46),
         ..PLAIN
     },
     Row {
         lists: &[(0x001, 0x3FF)],
         body: &[
-            Place((164, 166), (883, 883), &[0]),
-            Call(&[0x820, 0x8A8]),
-            Fixed(0xA2A7, 0xD074),
-            Repeat(1, 2),
-            Call(&[0x840]),
-            Place((105, 105), (858, 858), &[1, 2]),
-            Place((104, 144), (861, 901), &[0]),
-            Then,
-            Repeat(1, 1),
-            Repeat(1, 1),
-        ],
-        window: Shown::Part(100, 300, 128, 895),
-        told: Told::Frame(Some(1), 46),
-        ..PLAIN
-    },
-    Row {
-        lists: &[(0x000, 0x3FF)],
-        body: &[
-            Place((533, 533), (491, 491), &[0]),
-            Place((504, 544), (502, 502), &[0, 14]),
-            Repeat(0, 1),
-            Place((480, 520), (489, 489), &[3, 14]),
-        ],
-        budget: 6,
-        window: Shown::Part(480, 540, 480, 530),
-        told: Told::Frame(Some(3), 48),
-        ..PLAIN
-    },
-    Row {
-        lists: &[(0x005, 0x01C)],
-        body: &[
-            Place((278, 318), (365, 365), &[2, 7]),
-            Place((127, 167), (140, 180), &[0]),
-            Either,
-            Repeat(0, 1),
-            Svec(3, (-768, -512), (-512, -512), (0, 7)),
-            Place((274, 274), (859, 860), &[15]),
-            Then,
-            Repeat(1, 2),
-            Svec(2, (0, 768), (512, 768), (7, 7)),
-            Then,
-            Call(&[0x800]),
-            Place((137, 137), (152, 192), &[0, 2]),
-            Then,
-            Repeat(1, 1),
-            Then,
-            Repeat(1, 1),
-        ],
-        window: Shown::Part(100, 300, 128, 895),
-        told: Told::Frame(Some(2), 44),
-        ..PLAIN
-    },
-    Row {
-        lists: &[(0x000, 0x3FF)],
-        body: &[
-            Place((9, 11), (989, 989), &[0]),
-            Call(&[0x860, 0x898, 0x8D0]),
-            Repeat(1, 1),
-            Vctr(3, (0, 0), (1, 2), (7, 7)),
-            Call(&[0x840]),
-            Either,
-        ],
-        budget: 16,
-        told: Told::Yes(8, 16, 4),
-        ..PLAIN
-    },
-    Row {
-        lists: &[(0x005, 0x00B)],
-        body: &[
-            Place((1023, 1023), (1023, 1023), &[0]),
-            Fixed(0xC8B0, 0x2BE1),
-            Repeat(1, 1),
-            Place((-1015, -975), (-999, -959), &[3, 15]),
-            Call(&[0x810, 0x860, 0x8A8]),
-        ],
-        budget: 20,
-        window: Shown::Clipped,
-        told: Told::Yes(9, 20, 2),
-        ..PLAIN
-    },
-    Row {
-        lists: &[(0x001, 0x1FF), (0x201, 0x3FF)],
-        body: &[
-            Place((1023, 1023), (1023, 1023), &[0]),
-            Vctr(9, (-22, -22), (2, 2), (7, 7)),
-            Call(&[0x820, 0x898, 0x8D0]),
-            Call(&[0x840, 0x8A0, 0x8B0]),
-            Vctr(7, (-2, -1), (-3, -3), (7, 7)),
-            Then,
-            Vctr(9, (35, 35), (-3, 37), (0, 7)),
-            Either,
-            Place((2026, 2027), (1833, 1834), &[7]),
-            Either,
-        ],
-        window: Shown::Clipped,
-        told: Told::Yes(14, 28, 4),
-        ..PLAIN
-    },
-    Row {
-        lists: &[(0x001, 0x1FF), (0x201, 0x3FF)],
-        body: &[
-            Place((247, 248), (857, 858), &[0]),
-            Vctr(7, (10, 10), (35, 75), (0, 0)),
-            Call(&[0x830, 0x8D0, 0x9E0]),
-            Place((109, 109), (891, 891), &[13]),
-            Repeat(3, 3),
-        ],
-        window: Shown::Part(100, 300, 128, 895),
-        told: Told::Yes(6, 114, 2),
-        ..PLAIN
-    },
-    Row {
-        lists: &[(0x001, 0x1FF), (0x201, 0x3FF)],
-        body: &[
-            Place((857, 857), (987, 989), &[0]),
-            Place((33, 73), (25, 26), &[13]),
-            Call(&[0x860, 0x898]),
-            Repeat(0, 2),
-        ],
-        budget: 54,
-        told: Told::Yes(10, 24, 4),
-        ..PLAIN
-    },
-    Row {
-        lists: &[(0x001, 0x3FF)],
-        body: &[
-            Place((843, 843), (17, 17), &[0]),
-            Call(&[0x800]),
-            Svec(2, (768, 768), (256, 512), (0, 7)),
-            Place((1022, 1022), (36, 76), &[1]),
-            Repeat(2, 2),
-            Place((991, 991), (19, 20), &[0]),
-            Then,
-            Either,
-            Vctr(8, (1, 1), (0, 0), (0, 0)),
-            Either,
-        ],
-        told: Told::Yes(1, 13, 1),
-        ..PLAIN
-    },
-    Row {
-        lists: &[(0x000, 0x01C)],
-        body: &[
-            Place((29, 31), (618, 619), &[0]),
-            Place((999, 999), (991, 1031), &[0]),
-            Place((6, 7), (21, 22), &[15]),
-            Fixed(0xFB79, 0x0000),
-            Then,
-            Repeat(1, 1),
-            Then,
-            Call(&[0x860, 0x8A0]),
-            Then,
-            Repeat(1, 1),
-        ],
-        jumps: &[(
-            (0x1AE, 0x3FF),
-            &[Place((994, 1034), (1012, 1013), &[0]), Repeat(1, 2)],
-        )],
-        told: Told::Yes(4, 20, 3),
-        ..PLAIN
-    },
-    Row {
-        lists: &[(0x000, 0x3FF)],
-        body: &[
-            Place((0, 0), (0, 2), &[0]),
-            Vctr(7, (-11, -10), (-37, -37), (7, 7)),
-            Svec(3, (768, 768), (768, 768), (0, 7)),
-            Call(&[0x830, 0x850]),
-            Place((2014, 2015), (1004, 1004), &[15]),
-            Call(&[0x8A8, 0x9E0]),
-            Either,
-        ],
-        window: Shown::Clipped,
-        told: Told::Yes(10, 136, 2),
-        ..PLAIN
-    },
-    Row {
-        lists: &[(0x005, 0x016)],
-        body: &[
-            Place((0, 0), (0, 1), &[0]),
-            Vctr(9, (0, 0), (3, 3), (0, 7)),
-            Vctr(0, (123, 123), (43, 83), (0, 0)),
-            Then,
-            Call(&[0x8A0, 0x8B0, 0x8B8]),
-            Then,
-            Repeat(0, 1),
-        ],
-        window: Shown::Clipped,
-        told: Told::Yes(6, 18, 3),
-        ..PLAIN
-    },
-    Row {
-        lists: &[(0x000, 0x3FF)],
-        body: &[
-            Place((23, 24), (30, 31), &[0]),
-            Vctr(9, (-8, -8), (-26, -26), (0, 7)),
-            Call(&[0x820, 0x898, 0x8B8]),
-            Either,
-            Place((35, 75), (31, 31), &[2, 3]),
-        ],
-        budget: 24,
-        told: Told::Yes(8, 18, 4),
-        ..PLAIN
-    },
-    Row {
-        lists: &[(0x000, 0x026)],
-        body: &[
-            Place((1023, 1023), (895, 896), &[0]),
-            Place((0, 0), (0, 0), &[0]),
-            Vctr(9, (-7, -7), (0, 0), (0, 0)),
-            Repeat(2, 3),
+            Place((103, 103), (891, 892), &[0]),
+            Place((150, 150), (163, 163), &[14]),
+            Call(&[0x820, 0x840]),
+            Place((326, 326), (866, 866), &[0]),
+            Vctr(9, (7, 7), (0, 0), (0, 0)),
+            Repeat(2, 4),
             Then,
             Fixed(0x9000, 0x7000),
             Then,
-            Call(&[0x840, 0x8A0]),
-            Call(&[0x840]),
+            Call(&[0x830]),
+        ],
+        window: Shown::Part(100, 300, 128, 895),
+        told: Told::Frame(Some(5), 46),
+        ..PLAIN
+    },
+    Row {
+        lists: &[(0x000, 0x00E)],
+        body: &[
+            Fixed(0xA082, 0x007A),
+            Call(&[0x8A0, 0x970]),
+            Place((253, 253), (878, 878), &[14]),
+            Place((239, 239), (245, 245), &[14]),
             Then,
-            Place((-634, -633), (-1011, -1011), &[7]),
+            Either,
+            Repeat(1, 3),
+        ],
+        budget: 8,
+        window: Shown::Part(100, 300, 128, 895),
+        told: Told::Frame(Some(1), 48),
+        ..PLAIN
+    },
+    Row {
+        lists: &[(0x001, 0x1FF), (0x201, 0x3FF)],
+        body: &[
+            Place((2026, 2026), (-1013, -1012), &[13, 14]),
+            Call(&[0x820, 0x898, 0x9E0]),
+            Fixed(0xA3FF, 0x03FF),
+            Fixed(0x9007, 0x0000),
+            Repeat(0, 1),
+            Then,
+            Vctr(9, (0, 0), (0, 0), (7, 7)),
+            Then,
+        ],
+        budget: 23,
+        window: Shown::Clipped,
+        told: Told::Frame(Some(1), 48),
+        ..PLAIN
+    },
+    Row {
+        lists: &[(0x000, 0x023)],
+        body: &[
+            Svec(4, (0, 768), (-512, -512), (0, 7)),
+            Call(&[0x9E0]),
+            Fixed(0xA3FF, 0x0000),
+            Fixed(0x9407, 0x0000),
+            Repeat(2, 3),
+            Then,
+            Vctr(9, (0, 0), (0, 0), (7, 7)),
+            Then,
+            Call(&[0x830, 0x898, 0x8A8]),
+        ],
+        budget: 6,
+        window: Shown::Clipped,
+        told: Told::Frame(Some(0), 44),
+        ..PLAIN
+    },
+];
+
+/// Recipes of mixed parts whose calls are refused.
+const REFUSES_CALLS: &[Row] = &[
+    Row {
+        lists: &[(0x001, 0x1FF), (0x201, 0x3FF)],
+        body: &[
+            Place((526, 526), (492, 494), &[0]),
+            Fixed(0xA1EF, 0x31F3),
+            Place((512, 512), (526, 527), &[14]),
+            Then,
+            Call(&[0x8D0, 0x9E0]),
+            Call(&[0x860, 0x8D0]),
+            Then,
+            Either,
+            Call(&[0x820, 0x8B8, 0x9E0]),
+            Either,
+            Vctr(9, (42, 43), (-132, -132), (0, 7)),
+            Then,
+            Repeat(1, 3),
+        ],
+        budget: 18,
+        window: Shown::Part(480, 540, 480, 530),
+        told: Told::Shape(25, 0x8B8, Key::At(0), 0x8BA),
+        ..PLAIN
+    },
+    Row {
+        lists: &[(0x005, 0x01F)],
+        body: &[Place((295, 297), (500, 502), &[0]), Call(&[0x850, 0x8B0])],
+        jumps: &[(
+            (0x373, 0x3FF),
+            &[
+                Place((108, 148), (865, 865), &[1]),
+                Place((273, 274), (162, 162), &[3]),
+                Either,
+                Call(&[0x970]),
+                Call(&[0x810]),
+                Then,
+                Either,
+            ],
+        )],
+        window: Shown::Part(100, 300, 128, 895),
+        told: Told::Shape(25, 0x850, Key::At(0), 0x852),
+        ..PLAIN
+    },
+    Row {
+        lists: &[(0x001, 0x1FF), (0x201, 0x3FF)],
+        body: &[
+            Place((543, 545), (519, 519), &[0]),
+            Svec(5, (-768, -768), (-512, -512), (0, 7)),
+            Svec(5, (512, 768), (256, 768), (0, 0)),
+            Repeat(2, 2),
+            Svec(2, (512, 768), (-768, 768), (7, 7)),
+            Repeat(3, 3),
+            Then,
+            Repeat(1, 1),
+            Place((483, 483), (488, 528), &[0, 14]),
+            Fixed(0xC8B8, 0x0000),
+            Vctr(7, (-3, 37), (1, 2), (0, 7)),
+            Then,
+            Repeat(0, 2),
+            Repeat(2, 2),
+        ],
+        window: Shown::Part(480, 540, 480, 530),
+        told: Told::Shape(25, 0x8B8, Key::At(0), 0x8BA),
+        ..PLAIN
+    },
+    Row {
+        lists: &[(0x001, 0x00F)],
+        body: &[
+            Place((540, 542), (507, 509), &[0]),
+            Place((485, 485), (514, 554), &[2]),
+            Call(&[0x800, 0x870, 0x8A0]),
+            Place((489, 489), (496, 536), &[7]),
+            Call(&[0x810, 0x840, 0x9E0]),
+            Then,
+            Either,
+            Svec(4, (256, 256), (512, 512), (7, 7)),
+            Then,
+            Place((478, 478), (531, 531), &[0, 13]),
             Either,
         ],
-        window: Shown::Clipped,
-        told: Told::Yes(5, 24, 3),
+        window: Shown::Part(480, 540, 480, 530),
+        told: Told::Unmade(2, 0x870, Key::At(2), EntryFault::Unstraight { word: 0x870 }),
+        ..PLAIN
+    },
+    Row {
+        lists: &[(0x001, 0x3FF)],
+        body: &[
+            Place((38, 40), (22, 24), &[0]),
+            Place((0, 0), (1005, 1005), &[0]),
+            Vctr(9, (0, 0), (7, 7), (0, 0)),
+            Repeat(2, 4),
+            Then,
+            Fixed(0x9000, 0x7000),
+            Then,
+            Call(&[0x878]),
+            Repeat(0, 3),
+            Repeat(2, 3),
+        ],
+        told: Told::Unmade(4, 0x878, Key::At(0), EntryFault::Unstraight { word: 0x87A }),
         ..PLAIN
     },
     Row {
         lists: &[(0x000, 0x3FF)],
         body: &[
-            Place((699, 701), (302, 303), &[0]),
-            Call(&[0x8A0]),
-            Place((39, 79), (427, 428), &[13, 14]),
-            Then,
-            Call(&[0x898, 0x9E0]),
-            Then,
-            Place((998, 999), (985, 985), &[2]),
+            Place((501, 503), (477, 479), &[0]),
+            Svec(5, (-768, 768), (-512, -512), (0, 0)),
+            Call(&[0x8B8]),
+            Call(&[0x830, 0x840, 0x878]),
+            Fixed(0xC850, 0x981B),
             Either,
-            Repeat(0, 1),
-        ],
-        told: Told::Yes(13, 114, 4),
-        ..PLAIN
-    },
-    Row {
-        lists: &[(0x005, 0x024)],
-        body: &[
-            Vctr(9, (-1, 39), (0, 0), (7, 7)),
-            Vctr(3, (-28, 12), (2, 42), (7, 7)),
-            Call(&[0x860]),
-            Repeat(0, 1),
-            Place((-1027, -987), (620, 620), &[7, 15]),
-            Then,
-            Repeat(0, 3),
-            Vctr(8, (-34, -33), (26, 27), (0, 7)),
-            Repeat(1, 1),
-        ],
-        window: Shown::Clipped,
-        told: Told::Frame(Some(0), 44),
-        ..PLAIN
-    },
-    Row {
-        lists: &[(0x001, 0x3FF)],
-        body: &[
-            Svec(2, (768, 768), (-768, -512), (0, 7)),
-            Place((24, 64), (360, 400), &[14]),
+            Place((508, 508), (483, 483), &[15]),
             Either,
-            Vctr(3, (-27, 13), (44, 44), (0, 7)),
+            Either,
+            Place((527, 528), (499, 500), &[3, 7]),
         ],
-        told: Told::Frame(Some(0), 44),
+        window: Shown::Part(480, 540, 480, 530),
+        told: Told::Unmade(3, 0x878, Key::At(0), EntryFault::Unstraight { word: 0x87A }),
         ..PLAIN
     },
     Row {
-        lists: &[(0x001, 0x3FF)],
+        lists: &[(0x000, 0x3FF)],
         body: &[
-            Vctr(7, (-170, -169), (-193, -192), (0, 7)),
+            Place((478, 478), (26, 26), &[0]),
+            Call(&[0x860, 0x890]),
+            Place((0, 0), (997, 997), &[0]),
+            Vctr(9, (-7, -7), (0, 0), (0, 0)),
+            Repeat(0, 1),
+            Then,
+            Vctr(9, (0, 0), (0, 0), (7, 7)),
+            Then,
+            Place((0, 0), (992, 993), &[0, 15]),
+            Repeat(2, 2),
+            Vctr(7, (1, 2), (2, 42), (0, 0)),
+        ],
+        budget: 18,
+        told: Told::Unmade(1, 0x890, Key::At(0), EntryFault::Deep),
+        ..PLAIN
+    },
+    Row {
+        lists: &[(0x001, 0x1FF), (0x201, 0x3FF)],
+        body: &[
+            Place((336, 336), (1002, 1003), &[0]),
+            Call(&[0x890, 0x898]),
+            Place((-3, 37), (1016, 1056), &[7, 15]),
             Repeat(3, 3),
-            Place((-999, -998), (2042, 2047), &[3, 13]),
-            Place((-713, -713), (-62, -22), &[1]),
+            Repeat(1, 1),
+            Svec(3, (-768, -768), (256, 256), (7, 7)),
+            Vctr(9, (-2, 38), (1, 1), (7, 7)),
         ],
-        budget: 22,
-        window: Shown::Clipped,
-        told: Told::Frame(Some(0), 44),
+        budget: 9,
+        told: Told::Unmade(1, 0x890, Key::At(0), EntryFault::Deep),
         ..PLAIN
     },
 ];
@@ -1882,8 +1904,28 @@ fn judges_windows(rt: HostRuntime) {
 }
 
 #[test]
-fn judges_mixed_parts(rt: HostRuntime) {
-    expect_told(&rt, rt.alloc(), ROM, JUDGES_MIXED_PARTS);
+fn accepts_some(rt: HostRuntime) {
+    expect_told(&rt, rt.alloc(), ROM, ACCEPTS_SOME);
+}
+
+#[test]
+fn accepts_others(rt: HostRuntime) {
+    expect_told(&rt, rt.alloc(), ROM, ACCEPTS_OTHERS);
+}
+
+#[test]
+fn refuses_places(rt: HostRuntime) {
+    expect_told(&rt, rt.alloc(), ROM, REFUSES_PLACES);
+}
+
+#[test]
+fn refuses_words(rt: HostRuntime) {
+    expect_told(&rt, rt.alloc(), ROM, REFUSES_WORDS);
+}
+
+#[test]
+fn refuses_calls(rt: HostRuntime) {
+    expect_told(&rt, rt.alloc(), ROM, REFUSES_CALLS);
 }
 
 /// The recipe of a place at some scales, and a call of each word from 800 to BFF.
