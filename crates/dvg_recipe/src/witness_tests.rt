@@ -80,6 +80,8 @@ fn found(
 ) -> Option<Vec<u8>>
     requires { budget ≤ MOST_WORDS }
 {
+    // Its clause says that the list is that of a certificate.
+    let _entries = cert.entries();
     let asked = Asked {
         budget,
         window: SCREEN,
