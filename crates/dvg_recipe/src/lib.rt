@@ -32,8 +32,6 @@ mod verdict;
 #[cfg(test)]
 mod verdict_tests;
 mod witness;
-#[cfg(test)]
-mod witness_tests;
 
 pub use belonging::{Leaving, NotMember, belongs};
 pub use confirmed::{RefusedFrame, find_deepest, find_longest, find_refused};
