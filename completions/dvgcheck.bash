@@ -11,24 +11,27 @@ _dvgcheck() {
   fi
   case $before in
     # a file, or a word that nobody can guess
-    --cert | --list | --labels | --frame | -o | --output | --budget | --window | --rom | --start) return ;;
+    --cert | --list | --labels | --frame | -o | --output | --print | --budget | --window | --rom | --start) return ;;
   esac
   case $command in
-    '') options='frames check make places diff explain rules help -h --help -V --version' ;;
+    '') options='frames check make places diff recipe belongs explain rules help -h --help -V --version' ;;
     frames) options='--board --rom --cert --budget --window --clip --start --labels --list --null --only-refused --summary -h --help' ;;
     check) options='--board --budget --window --clip --exact -h --help' ;;
     make) options='--board --frame --rom --labels -o --output -h --help' ;;
     places) options='--board --frame --rom --labels --window --clip -h --help' ;;
     diff) options='--board --frame --rom --labels -h --help' ;;
-    explain) options='frames check make help -h --help' ;;
+    recipe) options='--board --rom --budget --window --clip --labels -o --output --print -h --help' ;;
+    belongs) options='--board --rom --labels --list --null --only-outside --summary -h --help' ;;
+    explain) options='frames check make belongs help -h --help' ;;
     'explain frames') options='--board --rom --cert --budget --window --clip --start --labels -h --help' ;;
     'explain check') options='--board --budget --window --clip --exact --labels -h --help' ;;
     'explain make') options='--board --frame --rom --labels -h --help' ;;
+    'explain belongs') options='--board --rom --labels -h --help' ;;
     rules) options='-h --help' ;;
-    help | 'explain help') options='frames check make places diff explain rules' ;;
+    help | 'explain help') options='frames check make places diff recipe belongs explain rules' ;;
   esac
   case $command,$word in
-    frames,[!-]* | check,[!-]* | make,[!-]* | places,[!-]* | diff,[!-]* | explain\ *,[!-]*) return ;;
+    frames,[!-]* | check,[!-]* | make,[!-]* | places,[!-]* | diff,[!-]* | recipe,[!-]* | belongs,[!-]* | explain\ *,[!-]*) return ;;
   esac
   # shellcheck disable=SC2207
   COMPREPLY=($(compgen -W "$options" -- "$word"))

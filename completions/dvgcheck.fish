@@ -22,6 +22,8 @@ complete -c dvgcheck -n '__dvgcheck_in only' -a check -d 'Judges a frame by a ce
 complete -c dvgcheck -n '__dvgcheck_in only' -a make -d 'Makes a certificate of shapes'
 complete -c dvgcheck -n '__dvgcheck_in only' -a places -d 'Prints where calls stay within the window'
 complete -c dvgcheck -n '__dvgcheck_in only' -a diff -d 'Prints which shapes and frames a changed ROM touches'
+complete -c dvgcheck -n '__dvgcheck_in only' -a recipe -d 'Judges all frames of a recipe'
+complete -c dvgcheck -n '__dvgcheck_in only' -a belongs -d 'Tells which frames are a recipe\'s'
 complete -c dvgcheck -n '__dvgcheck_in only' -a explain -d 'Explains the answer of a command'
 complete -c dvgcheck -n '__dvgcheck_in only' -a rules -d 'Prints what each number means'
 complete -c dvgcheck -n '__dvgcheck_in only' -a help -d 'Prints help'
@@ -67,11 +69,31 @@ complete -c dvgcheck -n '__dvgcheck_in diff' -l rom -x -d 'The word addresses of
 complete -c dvgcheck -n '__dvgcheck_in diff' -l labels -r -F -d 'The labels of the program'
 complete -c dvgcheck -n '__dvgcheck_in diff' -s h -l help -d 'Prints help'
 
+complete -c dvgcheck -n '__dvgcheck_in recipe' -l board -d 'Changes nothing'
+complete -c dvgcheck -n '__dvgcheck_in recipe' -l rom -x -d 'The word addresses of the ROM\'s first and last word'
+complete -c dvgcheck -n '__dvgcheck_in recipe' -l budget -x -d 'How many words a frame may take at most'
+complete -c dvgcheck -n '__dvgcheck_in recipe' -l window -x -d 'Where the screen may be lit'
+complete -c dvgcheck -n '__dvgcheck_in recipe' -l clip -d 'Lets lit strokes reach from -1024 to 2047'
+complete -c dvgcheck -n '__dvgcheck_in recipe' -l labels -r -F -d 'The labels of the program'
+complete -c dvgcheck -n '__dvgcheck_in recipe' -s o -l output -r -F -d 'Writes a frame that shows a refusal to this file'
+complete -c dvgcheck -n '__dvgcheck_in recipe' -l print -r -F -d 'Prints the one spelling of this recipe'
+complete -c dvgcheck -n '__dvgcheck_in recipe' -s h -l help -d 'Prints help'
+
+complete -c dvgcheck -n '__dvgcheck_in belongs' -l board -d 'Changes nothing'
+complete -c dvgcheck -n '__dvgcheck_in belongs' -l rom -x -d 'The word addresses of the ROM\'s first and last word'
+complete -c dvgcheck -n '__dvgcheck_in belongs' -l labels -r -F -d 'The labels of the program'
+complete -c dvgcheck -n '__dvgcheck_in belongs' -l list -r -F -d 'Judges the frames that this file names'
+complete -c dvgcheck -n '__dvgcheck_in belongs' -l null -d 'Names in the list end with NUL'
+complete -c dvgcheck -n '__dvgcheck_in belongs' -l only-outside -d 'Leaves out the lines of frames that belong'
+complete -c dvgcheck -n '__dvgcheck_in belongs' -l summary -d 'Ends with a line of counts'
+complete -c dvgcheck -n '__dvgcheck_in belongs' -s h -l help -d 'Prints help'
+
 complete -c dvgcheck -n '__dvgcheck_in only explain' -f
 complete -c dvgcheck -n '__dvgcheck_in only explain' -s h -l help -d 'Prints help'
 complete -c dvgcheck -n '__dvgcheck_in only explain' -a frames -d 'Judges frames over a vector ROM'
 complete -c dvgcheck -n '__dvgcheck_in only explain' -a check -d 'Judges a frame by a certificate'
 complete -c dvgcheck -n '__dvgcheck_in only explain' -a make -d 'Makes a certificate of shapes'
+complete -c dvgcheck -n '__dvgcheck_in only explain' -a belongs -d 'Tells where frames leave a recipe'
 complete -c dvgcheck -n '__dvgcheck_in only explain' -a help -d 'Prints help'
 
 complete -c dvgcheck -n '__dvgcheck_in explain frames' -l board -d 'Judges for a board of the DVG'
@@ -97,6 +119,11 @@ complete -c dvgcheck -n '__dvgcheck_in explain make' -l frame -r -F -d 'A frame;
 complete -c dvgcheck -n '__dvgcheck_in explain make' -l rom -x -d 'The word addresses of the ROM\'s first and last word'
 complete -c dvgcheck -n '__dvgcheck_in explain make' -l labels -r -F -d 'The labels of the program'
 complete -c dvgcheck -n '__dvgcheck_in explain make' -s h -l help -d 'Prints help'
+
+complete -c dvgcheck -n '__dvgcheck_in explain belongs' -l board -d 'Changes nothing'
+complete -c dvgcheck -n '__dvgcheck_in explain belongs' -l rom -x -d 'The word addresses of the ROM\'s first and last word'
+complete -c dvgcheck -n '__dvgcheck_in explain belongs' -l labels -r -F -d 'The labels of the program'
+complete -c dvgcheck -n '__dvgcheck_in explain belongs' -s h -l help -d 'Prints help'
 
 complete -c dvgcheck -n '__dvgcheck_in rules' -f
 complete -c dvgcheck -n '__dvgcheck_in rules' -s h -l help -d 'Prints help'

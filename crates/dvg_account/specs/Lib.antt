@@ -1,6 +1,7 @@
 pub mod Building
 pub mod Machines
 pub mod Items
+pub mod Leaving
 pub mod Why
 pub mod Plain
 pub mod Furthest

@@ -2,7 +2,7 @@
 //!
 //! An account is a list of [`Line`]s, each with the value that it tells. [`verdict_lines`], [`frame_lines`] and [`own_lines`]
 //! answer the lines of a verdict, [`made_lines`] and [`unmade_lines`] those of an answer of the maker, [`plain_lines`] those of a
-//! refusal before any item was judged, and their contracts say which lines there are. Beside each of them stands a call that answers
+//! refusal before any item was judged, [`leaving_lines`] that of a frame that leaves a recipe, and their contracts say which lines there are. Beside each of them stands a call that answers
 //! the same account as a text, such as [`verdict_text`].
 #![tactic(auto)]
 
@@ -13,6 +13,7 @@ mod expecting;
 mod furthest;
 mod inputs;
 mod item;
+mod leaving;
 mod line;
 mod lines;
 mod making;
@@ -32,6 +33,7 @@ mod zeros;
 pub use answers::verdict_lines;
 pub use cure::MakerCure;
 pub use inputs::{Inputs, PlainWhy, plain_lines};
+pub use leaving::leaving_lines;
 pub use line::{
     AcceptedLine, EntryName, Instruction, ItemLine, Line, MadeLine, MakerChain, PathLine, Role,
     Words, Zeros,
@@ -42,6 +44,7 @@ pub use own::{frame_lines, own_lines};
 pub use remarks::{Beginning, Remark};
 pub use swapped::{Swapped, find_swapped};
 pub use texts::{
-    certificate_text, frame_text, made_text, own_text, plain_text, unmade_text, verdict_text,
+    certificate_text, frame_text, leaving_text, made_text, own_text, plain_text, unmade_text,
+    verdict_text,
 };
 pub use why::{Addresses, Bounds, ClaimWhy, Corner, Difference, InputWhy, MakerWhy, Owner, Why};

@@ -51,6 +51,8 @@ pub enum Line {
     MadeForOther(Machine),
     /// The keys of the entries that the certificate has for the called shape.
     ClaimedScales(Vec<Key>),
+    /// The lines of a recipe's text, counted from 1, of which an item could stand where a frame leaves the recipe.
+    CouldStand(Vec<u32>),
     /// What to do about this number.
     WhatToDo(u8),
     /// What to do about this number in the last word of a frame, which may be meant as its end.

@@ -158,6 +158,7 @@ fn push_line(text: &mut Text, telling: Telling, line: &Line) {
         Line::Made(line) => push_made_line(text, *line),
         Line::MadeForOther(machine) => push_other_machine(text, *machine),
         Line::ClaimedScales(keys) => push_scales(text, keys),
+        Line::CouldStand(lines) => push_could_stand(text, lines),
         Line::WhatToDo(number) => push_cure(text, telling, *number, ""),
         Line::EndWithHalt(number) => push_cure(text, telling, *number, OR_HALT),
         Line::MakerCure(cure) => push_maker_cure(text, telling, *cure),
@@ -266,6 +267,13 @@ fn push_scales(text: &mut Text, keys: &[Key]) {
     } else {
         "\n"
     });
+}
+
+/// The lines of a recipe of which an item could stand somewhere.
+fn push_could_stand(text: &mut Text, lines: &[u32]) {
+    for line in lines {
+        push_count(text, "could stand: recipe line ", *line, "");
+    }
 }
 
 /// What to do about an entry that can't be made.

@@ -2,6 +2,7 @@
 
 use crate::answers::verdict_lines;
 use crate::inputs::{Inputs, PlainWhy, plain_lines};
+use crate::leaving::leaving_lines;
 use crate::making::{made_lines, unmade_lines};
 use crate::own::{frame_lines, own_lines};
 use crate::spelling::{Telling, text_of};
@@ -95,6 +96,18 @@ pub fn plain_text(
     labels: Option<&Labels>,
 ) -> Result<String, AllocError> {
     let lines = plain_lines(machine, alloc, number, why)?;
+    text_of(alloc, Telling::of_own(None), &lines, labels)
+}
+
+/// The account of [`leaving_lines`] as a text.
+pub fn leaving_text(
+    alloc: Global,
+    frame: &FrameImage,
+    at: u16,
+    could_stand: Vec<u32>,
+    labels: Option<&Labels>,
+) -> Result<String, AllocError> {
+    let lines = leaving_lines(alloc, frame, at, could_stand)?;
     text_of(alloc, Telling::of_own(None), &lines, labels)
 }
 

@@ -1,11 +1,12 @@
 //! What a run writes of an answer: its line, or its line and an account of it.
 
 ghost use Rattle.std.specs.Prelude.{◌≡◌, None, IfOk, OnErr};
-ghost use Rattle.dvg_cmd.specs.Detail.{IsBehind, behind_text};
+ghost use Rattle.dvg_cmd.specs.Detail.{IsBehind, behind_text, frame_outcome_behind};
 ghost use Rattle.dvg_cmd.specs.declared.detail.Detail.TheVariants as details;
 ghost use Rattle.dvg_cmd.specs.declared.detail.Behind.TheVariants as behinds;
 
 use dvg_labels::Labels;
+use dvg_spelling::FrameOutcome;
 use std::alloc::AllocError;
 
 /// What a run writes of an answer.
@@ -63,6 +64,16 @@ impl Behind {
             Behind::Nothing => "",
             Behind::Account(text) => text.as_str(),
             Behind::NoMemory => NO_ACCOUNT,
+        }
+    }
+
+    /// What the line of a frame that comes to this and the text come to.
+    pub fn frame_outcome(&self, line: FrameOutcome) -> FrameOutcome
+        ensures { result ≡ frame_outcome_behind self.now line }
+    {
+        match self {
+            Behind::Nothing | Behind::Account(_) => line,
+            Behind::NoMemory => line.or_worse(FrameOutcome::NoMemory),
         }
     }
 }

@@ -19,9 +19,13 @@ use dvg_words::Machine;
 use std::alloc::Global;
 use std::io;
 
-/// The bytes of a frame, up to one past its limit, with the jump to its start in place of word 000, if one is given.
+/// The bytes of a frame, up to one past its limit, which is 2048, with the jump to its start in place of word 000, if one is given. Fails
+/// as the reader does. Takes no memory.
 #[tactic(auto, using(crate::proofs::Answers::reads_frame))]
-fn read_started<R: CountedRead>(frame: &mut R, start: Option<u16>) -> io::Result<ArrayVec<u8, 2049>>
+pub fn read_started<R: CountedRead>(
+    frame: &mut R,
+    start: Option<u16>,
+) -> io::Result<ArrayVec<u8, 2049>>
     ensures bytes { IfOk result (λ image. ReadsFrame (R.remaining frame.old) start image.items) }
     ensures read { OnOk result (IsReadTo MOST_FRAME_READ (R.remaining frame.old) (R.remaining frame.new)) }
     ensures count { R.failures frame.new ≡ count_after (is_err result) (R.failures frame.old) }
@@ -31,16 +35,27 @@ fn read_started<R: CountedRead>(frame: &mut R, start: Option<u16>) -> io::Result
     Ok(bytes)
 }
 
-/// What the detail asks for behind the line of a frame that can't be opened or read.
-pub fn unread_account(machine: Machine, alloc: Global, detail: Detail) -> Behind
+/// What the detail asks for behind the line of an answer with this number, for which no item was looked at.
+pub fn plain_account(
+    machine: Machine,
+    alloc: Global,
+    number: u8,
+    why: PlainWhy,
+    detail: Detail,
+) -> Behind
     ensures { IsBehind detail.entry result }
 {
     match detail {
         Detail::Line => Behind::Nothing,
-        Detail::Account(labels) => {
-            Behind::of(plain_text(machine, alloc, 71, PlainWhy::Nothing, labels))
-        }
+        Detail::Account(labels) => Behind::of(plain_text(machine, alloc, number, why, labels)),
     }
+}
+
+/// What the detail asks for behind the line of a frame that can't be opened or read.
+pub fn unread_account(machine: Machine, alloc: Global, detail: Detail) -> Behind
+    ensures { IsBehind detail.entry result }
+{
+    plain_account(machine, alloc, 71, PlainWhy::Nothing, detail)
 }
 
 /// Reads a frame and judges it: the answer, and what the detail asks for behind its line.
@@ -69,17 +84,6 @@ pub fn answer_of<J: FrameJudge, R: CountedRead>(
     }
 }
 
-/// What the line of an answer and the text behind it come to.
-pub fn outcome_of(answer: &FrameAnswer, behind: &Behind) -> FrameOutcome
-    ensures { result ≡ frame_outcome_behind behind.now (frame_outcome_of answer.now) }
-{
-    let outcome = frame_outcome_of(answer);
-    match behind {
-        Behind::Nothing | Behind::Account(_) => outcome,
-        Behind::NoMemory => outcome.or_worse(FrameOutcome::NoMemory),
-    }
-}
-
 /// Writes the line of an answer, and a text behind it.
 pub fn write_answer<W: CountedWrite>(
     name: &str,
@@ -100,5 +104,5 @@ pub fn write_answer<W: CountedWrite>(
     let report = frame_report_of(answer);
     let text = behind.text();
     write_lines(name.as_bytes(), report.as_bytes(), text.as_bytes(), out)?;
-    Ok(outcome_of(answer, behind))
+    Ok(behind.frame_outcome(frame_outcome_of(answer)))
 }

@@ -15,9 +15,10 @@ use dvg_text::{CertReader, CountedRead};
 use std::alloc::Global;
 use std::io;
 
-/// Fills the buffer, or less of it where the reader ends before.
+/// Fills the buffer, or less of it where the reader ends before: answers how many bytes of it are filled. Reads no further, and fails as
+/// the reader does.
 #[tactic(auto, using(crate::proofs::Pieces::take_filled, std::proofs::lemmas::Grind::common_steps))]
-fn fill<R: CountedRead>(reader: &mut R, buf: &mut [u8]) -> io::Result<usize>
+pub fn fill<R: CountedRead>(reader: &mut R, buf: &mut [u8]) -> io::Result<usize>
     ensures within { IfOk result (λ n. n ≤ length buf.new) }
     ensures bytes { IfOk result (λ n. Consumes (R.remaining reader.old) (R.remaining reader.new) (take n buf.new)) }
     ensures end { IfOk result (λ n. n < length buf.new → IsAtEnd (R.remaining reader.new)) }

@@ -15,14 +15,14 @@ ghost use Rattle.dvg_cmd.specs.Private.Named.{WritesLineOf, WritesLineOfPrefix};
 
 use crate::detail::{Behind, Detail};
 use crate::frame_judge::{FrameJudge, GivenCertificate};
-use crate::frame_run::{answer_of, outcome_of, unread_account, write_answer};
+use crate::frame_run::{answer_of, unread_account, write_answer};
 use crate::listing::Listing;
 use crate::running::{text_account, write_report};
 use dvg_account::{Inputs, verdict_text};
 use dvg_cert::{Cert, CertFault, HashIndex};
 use dvg_check::{JudgedShapes, Mode, Refusal, RomFinding};
 use dvg_form::TextWatch;
-use dvg_spelling::{FrameAnswer, FrameOutcome, RunFault, Tally, summary_of};
+use dvg_spelling::{FrameAnswer, FrameOutcome, RunFault, Tally, frame_outcome_of, summary_of};
 use dvg_text::{CountedRead, CountedWrite, write_lines};
 use dvg_words::{Machine, RomImage, Window};
 use std::alloc::Global;
@@ -90,7 +90,7 @@ fn write_listed<W: CountedWrite>(
     ensures fault { IfErr result (λ fault. fault ≡ RunFault.Write) }
     ensures count { W.failures out.new ≡ count_after (is_err result) (W.failures out.old) }
 {
-    let outcome = outcome_of(answer, behind);
+    let outcome = behind.frame_outcome(frame_outcome_of(answer));
     if listing.has(outcome) {
         write_answer(name, answer, behind, out)
     } else {

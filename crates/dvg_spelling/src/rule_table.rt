@@ -317,6 +317,69 @@ pub const INDEX_MEMORY: Rule = Rule {
     cure: "give the program more memory: shapes and frame were not judged",
 };
 
+pub const RECIPE_FORM: Rule = Rule {
+    number: 51,
+    meaning: "no line of this form may stand here",
+    line: "refused 51 recipe line 1",
+    heading: "Shortest recipe",
+    input: "one LF",
+    cure: "spell the line as the grammar says: one space between two words, numbers as in certificates, addresses of three hexadecimal digits; each line ends with LF alone",
+};
+
+pub const RECIPE_NAME: Rule = Rule {
+    number: 52,
+    meaning: "a name is not defined above, is defined twice, or is that of labels at several words",
+    line: "refused 52 recipe line 3",
+    heading: "Shortest recipe",
+    input: "`dvgrecipe 1` LF `list 000 3FF` LF `call A` LF",
+    cure: "define the name by `shapes` above, once, or give the file of labels that has it by `--labels`",
+};
+
+pub const RECIPE_UNENDED: Rule = Rule {
+    number: 53,
+    meaning: "the text ends before the line `halt`, or within a line",
+    line: "refused 53 recipe line 1",
+    heading: "Shortest recipe",
+    input: "an empty file",
+    cure: "the text was cut off, or its last LF is missing; close each block by `end`, and end the recipe with `halt`",
+};
+
+pub const RECIPE_TRAILING: Rule = Rule {
+    number: 54,
+    meaning: "something stands behind `halt`",
+    line: "refused 54 recipe line 4",
+    heading: "Shortest recipe",
+    input: "`dvgrecipe 1` LF `list 000 3FF` LF `halt` LF `a` LF",
+    cure: "end the text with the LF of `halt`; comments go above it",
+};
+
+pub const RECIPE_TOO_LONG: Rule = Rule {
+    number: 55,
+    meaning: "the line has 200 bytes and no LF yet, or would have when printed; or it is the 4,097th; or its block is in sixteen others; or a piece of it is the 4,097th",
+    line: "refused 55 recipe line 1",
+    heading: "Shortest recipe",
+    input: "200 bytes `a`",
+    cure: "look for a missing LF; spell several addresses by a name of `shapes`; split the recipe where its frames differ",
+};
+
+pub const RECIPE_MEMORY: Rule = Rule {
+    number: 56,
+    meaning: "there was no memory for the line",
+    line: "refused 56 recipe line L",
+    heading: "Shortest recipe",
+    input: "no file alone",
+    cure: "the text may be right: give the program more memory",
+};
+
+pub const RECIPE_AREA: Rule = Rule {
+    number: 57,
+    meaning: "the longest list, jumps and HALT among its words, passes the end of its area at this line",
+    line: "refused 57 recipe line 4",
+    heading: "Shortest recipe",
+    input: "`dvgrecipe 1` LF `list 000 000` LF `call 800` LF `halt` LF",
+    cure: "let the area reach further, where the program leaves room there; or allow fewer turns: one `repeat` of an `either` where objects share slots",
+};
+
 pub const MAKER_NO_SHAPE: Rule = Rule {
     number: 60,
     meaning: "the item is missing, odd or HALT, or it lights something at a lost place or at unknown scale; or a root has this address, outside the ROM",

@@ -108,10 +108,10 @@ fn shape_rule(number: u8) -> Option<Rule>
     }
 }
 
-/// Of frames: 40 to 48, and 49 and 50.
+/// Of frames: 40 to 48, and 49 and 50; of recipes: 51 to 57.
 fn frame_rule(number: u8) -> Option<Rule>
     ensures some { IfSome result (λ rule. rule.number ≡ number) }
-    ensures known { is_some result ≡ is_within 40 50 number }
+    ensures known { is_some result ≡ is_within 40 57 number }
 {
     match number {
         40 => Some(table::FRAME_MISSING),
@@ -125,6 +125,13 @@ fn frame_rule(number: u8) -> Option<Rule>
         48 => Some(table::FRAME_OVER_BUDGET),
         49 => Some(table::BUDGET_RANGE),
         50 => Some(table::INDEX_MEMORY),
+        51 => Some(table::RECIPE_FORM),
+        52 => Some(table::RECIPE_NAME),
+        53 => Some(table::RECIPE_UNENDED),
+        54 => Some(table::RECIPE_TRAILING),
+        55 => Some(table::RECIPE_TOO_LONG),
+        56 => Some(table::RECIPE_MEMORY),
+        57 => Some(table::RECIPE_AREA),
         _ => None,
     }
 }

@@ -5,8 +5,12 @@ use crate::form::Form;
 use crate::input::Input;
 use crate::labels::{LabelsFault, load_labels};
 use crate::options::{
-    CHECK_OPTIONS, FRAMES_OPTIONS, LABELS_OPTIONS, LIST_OPTIONS, MAKER_OPTIONS, OUTPUT_OPTIONS,
-    Told, WINDOW_OPTIONS,
+    BELONGS_LIST_OPTIONS, BELONGS_OPTIONS, CHECK_OPTIONS, FRAMES_OPTIONS, LABELS_OPTIONS,
+    LIST_OPTIONS, MAKER_OPTIONS, OUTPUT_OPTIONS, RECIPE_OPTIONS, Told, WINDOW_OPTIONS,
+};
+use crate::recipe_arguments::{
+    BelongsArgs, RecipeArgs, belongs_args, belongs_command, belongs_listing,
+    explain_belongs_command, recipe_args, recipe_command,
 };
 use clap::error::ErrorKind;
 use clap::{Arg, ArgMatches, Command, value_parser};
@@ -45,6 +49,10 @@ pub enum ArgumentFault<'a> {
     StandardInputTwice,
     /// No rule has the number.
     Number,
+    /// A frame is to be written for several recipes.
+    SeveralRecipes,
+    /// A frame is to be written to standard output, where the lines go.
+    OutputStandard,
 }
 
 impl<'a> ArgumentFault<'a> {
@@ -57,6 +65,8 @@ impl<'a> ArgumentFault<'a> {
             ArgumentFault::NoRoot => "dvgcheck: no root: a ROOT, as 800/0, or --frame FRAME wanted",
             ArgumentFault::StandardInputTwice => "dvgcheck: standard input is given twice",
             ArgumentFault::Number => "dvgcheck: no such number",
+            ArgumentFault::SeveralRecipes => "dvgcheck: -o takes one recipe",
+            ArgumentFault::OutputStandard => "dvgcheck: -o takes a file, not -",
         };
         String::from_str(alloc, line)
     }
@@ -94,6 +104,11 @@ pub enum Request<'a> {
     Diff(MakeArgs<'a>, Input<'a>),
     /// `explain make`.
     ExplainMake(MakeArgs<'a>),
+    Recipe(RecipeArgs<'a>),
+    /// `recipe --print` with the labels.
+    Print(Named<'a>, Option<&'a Labels>),
+    /// `belongs`, or `explain belongs`.
+    Belongs(BelongsArgs<'a>),
     /// `rules` with the rule of this number, or with all rules.
     Rules(Option<Rule>),
 }
@@ -109,17 +124,21 @@ enum Task {
     Make,
     Places,
     Diff,
+    Recipe,
+    Belongs,
     Explain,
     Rules,
 }
 
 impl Task {
-    const ALL: [Task; 7] = [
+    const ALL: [Task; 9] = [
         Task::Frames,
         Task::Check,
         Task::Make,
         Task::Places,
         Task::Diff,
+        Task::Recipe,
+        Task::Belongs,
         Task::Explain,
         Task::Rules,
     ];
@@ -132,6 +151,8 @@ impl Task {
             "make" => Some(Task::Make),
             "places" => Some(Task::Places),
             "diff" => Some(Task::Diff),
+            "recipe" => Some(Task::Recipe),
+            "belongs" => Some(Task::Belongs),
             "explain" => Some(Task::Explain),
             "rules" => Some(Task::Rules),
             _ => None,
@@ -156,6 +177,11 @@ impl Task {
                 told.with(alloc, command, &WINDOW_OPTIONS)
             }
             Task::Diff => told.with(alloc, command, &MAKER_OPTIONS),
+            Task::Recipe => told.with(alloc, command, &RECIPE_OPTIONS),
+            Task::Belongs => {
+                let command = told.with(alloc, command, &BELONGS_OPTIONS)?;
+                told.with(alloc, command, &BELONGS_LIST_OPTIONS)
+            }
             Task::Explain | Task::Rules => Ok(command),
         }
     }
@@ -168,6 +194,8 @@ impl Task {
             Task::Make => make_command(alloc),
             Task::Places => places_command(alloc),
             Task::Diff => diff_command(alloc),
+            Task::Recipe => recipe_command(alloc),
+            Task::Belongs => belongs_command(alloc),
             Task::Explain => explain_command(alloc),
             Task::Rules => rules_command(alloc),
         }
@@ -249,16 +277,16 @@ pub fn arguments(rt: &HostRuntime) -> Result<Vec<String>, Usage<'static>> {
 /// The arguments of `make`, of `explain make` and of `places` that name files to read.
 const MAKER_FILES: [&str; 3] = ["ROM", "frame", "labels"];
 
-const INPUT_HELP: &str = "One of the files that are read may be -, which is standard input";
+pub const INPUT_HELP: &str = "One of the files that are read may be -, which is standard input";
 
-const ROM_HELP: &str = "The vector ROM: two bytes for each of its words, low byte first";
+pub const ROM_HELP: &str = "The vector ROM: two bytes for each of its words, low byte first";
 
-const FRAME_HELP: &str = "The frame: 2 to 2048 bytes of vector RAM, from word 000 on";
+pub const FRAME_HELP: &str = "The frame: 2 to 2048 bytes of vector RAM, from word 000 on";
 
 /// How many words a frame may take if `--budget` does not say.
 const USUAL_BUDGET: u32 = 20_000;
 
-fn frames_argument<'a>(alloc: Global) -> Result<Arg<'a>, AllocError> {
+pub fn frames_argument<'a>(alloc: Global) -> Result<Arg<'a>, AllocError> {
     let frames = Arg::new(alloc, "FRAME").help(FRAME_HELP).num_args(1..);
     frames
         .required_unless_present("list")?
@@ -266,7 +294,7 @@ fn frames_argument<'a>(alloc: Global) -> Result<Arg<'a>, AllocError> {
 }
 
 /// The command with the argument ROM, and what its help says of files.
-fn with_rom<'a>(alloc: Global, command: Command<'a>) -> Result<Command<'a>, AllocError> {
+pub fn with_rom<'a>(alloc: Global, command: Command<'a>) -> Result<Command<'a>, AllocError> {
     command
         .after_help(INPUT_HELP)
         .arg(needed(alloc, "ROM", ROM_HELP))
@@ -358,7 +386,8 @@ fn explain_command<'a>(alloc: Global) -> Result<Command<'a>, AllocError> {
         .arg_required_else_help(true)
         .subcommand(explain_frames_command(alloc)?)?
         .subcommand(explain_check_command(alloc)?)?
-        .subcommand(explain_make_command(alloc)?)
+        .subcommand(explain_make_command(alloc)?)?
+        .subcommand(Told::All.with(alloc, explain_belongs_command(alloc)?, &BELONGS_OPTIONS)?)
 }
 
 /// What the shortest inputs of rules leave out.
@@ -390,7 +419,7 @@ fn command<'a>(alloc: Global) -> Result<Command<'a>, AllocError> {
     Ok(command)
 }
 
-fn needed<'a>(alloc: Global, name: &'a str, help: &'a str) -> Arg<'a> {
+pub fn needed<'a>(alloc: Global, name: &'a str, help: &'a str) -> Arg<'a> {
     Arg::new(alloc, name).required(true).help(help)
 }
 
@@ -403,7 +432,7 @@ fn machine_of_args<'a>(args: &ArgMatches<'a>) -> Machine {
 }
 
 /// What may be lit: the zone that a board clips, or the window that is given.
-fn window_of_args<'a>(args: &ArgMatches<'a>) -> Result<Window, ArgumentFault<'a>> {
+pub fn window_of_args<'a>(args: &ArgMatches<'a>) -> Result<Window, ArgumentFault<'a>> {
     if args.get_flag("clip") {
         return Ok(CLIPPED);
     }
@@ -413,11 +442,11 @@ fn window_of_args<'a>(args: &ArgMatches<'a>) -> Result<Window, ArgumentFault<'a>
     }
 }
 
-fn budget_of_args<'a>(args: &ArgMatches<'a>) -> u32 {
+pub fn budget_of_args<'a>(args: &ArgMatches<'a>) -> u32 {
     args.get_one::<u32>("budget").unwrap_or(USUAL_BUDGET)
 }
 
-fn map_of_args<'a>(args: &ArgMatches<'a>) -> Result<RomMap, ArgumentFault<'a>> {
+pub fn map_of_args<'a>(args: &ArgMatches<'a>) -> Result<RomMap, ArgumentFault<'a>> {
     match args.get_str("rom") {
         Some(map) => map_of(map).ok_or(ArgumentFault::Word(Form::Map, map)),
         None => Ok(ASTEROIDS),
@@ -450,12 +479,12 @@ fn start_of_args<'a>(
 }
 
 /// The file that this argument names.
-fn file_of<'a>(rt: &HostRuntime, args: &ArgMatches<'a>, name: &str) -> Input<'a> {
+pub fn file_of<'a>(rt: &HostRuntime, args: &ArgMatches<'a>, name: &str) -> Input<'a> {
     Input::named(rt, args.get_str(name).unwrap_or(""))
 }
 
 /// The files that this argument names, each with the name that lines show.
-fn files_of<'a>(
+pub fn files_of<'a>(
     rt: &HostRuntime,
     args: &ArgMatches<'a>,
     name: &str,
@@ -490,7 +519,10 @@ fn standard_inputs<'a>(args: &ArgMatches<'a>, name: &str) -> usize {
 }
 
 /// Refuses arguments if more than one of the files that they name is standard input.
-fn one_standard_input<'a>(args: &ArgMatches<'a>, names: &[&str]) -> Result<(), ArgumentFault<'a>> {
+pub fn one_standard_input<'a>(
+    args: &ArgMatches<'a>,
+    names: &[&str],
+) -> Result<(), ArgumentFault<'a>> {
     let mut given = 0usize;
     for name in names {
         given = given.saturating_add(standard_inputs(args, name));
@@ -523,7 +555,7 @@ fn frame_options<'a>(
 }
 
 /// The frames that the arguments name.
-fn frame_names<'a>(
+pub fn frame_names<'a>(
     rt: &HostRuntime,
     args: &ArgMatches<'a>,
     detail: Detail,
@@ -556,7 +588,7 @@ fn listing_of_args<'a>(args: &ArgMatches<'a>) -> Listing<'a> {
     }
 }
 
-/// What `explain frames` writes of a frame.
+/// What `explain frames` and `explain belongs` write of a frame.
 fn explained(labels: Option<&Labels>) -> Listing<'_> {
     Listing {
         detail: Detail::Account(labels),
@@ -693,6 +725,10 @@ fn explain_request<'a>(
             None,
             labels,
         )?)),
+        Some(("belongs", args)) => {
+            let args = belongs_args(rt, args, explained(labels), labels)?;
+            Ok(Request::Belongs(args))
+        }
         _ => Err(Usage::Argument(ArgumentFault::Unreadable)),
     }
 }
@@ -702,6 +738,21 @@ fn rule_of_args<'a>(args: &ArgMatches<'a>) -> Result<Option<Rule>, ArgumentFault
         Some(number) => Ok(Some(rule_of(number).ok_or(ArgumentFault::Number)?)),
         None => Ok(None),
     }
+}
+
+/// What `recipe` asks for.
+fn recipe_request<'a>(
+    rt: &HostRuntime,
+    args: &ArgMatches<'a>,
+    labels: Option<&'a Labels>,
+) -> Result<Request<'a>, Usage<'a>> {
+    let Some(path) = args.get_str("print") else {
+        return Ok(Request::Recipe(recipe_args(rt, args, labels)?));
+    };
+    one_standard_input(args, &["print", "labels"])?;
+    let input = Input::named(rt, path);
+    let name = shown(rt.alloc(), path)?;
+    Ok(Request::Print(Named { input, name }, labels))
 }
 
 /// What a subcommand with these arguments asks for.
@@ -732,6 +783,11 @@ fn request_of<'a>(
             let files = ["ROM", "OTHER", "frame", "labels"];
             let args_of_maker = make_args(rt, args, &files, None, labels)?;
             Ok(Request::Diff(args_of_maker, file_of(rt, args, "OTHER")))
+        }
+        Task::Recipe => recipe_request(rt, args, labels),
+        Task::Belongs => {
+            let listing = belongs_listing(args);
+            Ok(Request::Belongs(belongs_args(rt, args, listing, labels)?))
         }
         Task::Explain => explain_request(rt, args, labels),
         Task::Rules => Ok(Request::Rules(rule_of_args(args)?)),
@@ -820,7 +876,8 @@ impl<'a> Parsed<'a> {
     /// The path of the file of labels, if one is given.
     fn labels_path(&self) -> Option<&'a str> {
         match self.task {
-            Task::Frames | Task::Make | Task::Places | Task::Diff => self.matches.get_str("labels"),
+            Task::Frames | Task::Make | Task::Places | Task::Diff | Task::Recipe | Task::Belongs =>
+                self.matches.get_str("labels"),
             Task::Explain => {
                 let (_, args) = self.matches.subcommand()?;
                 args.get_str("labels")

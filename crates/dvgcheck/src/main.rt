@@ -1,7 +1,7 @@
 //! `dvgcheck`: checks frames and vector ROMs of Atari's Digital Vector Generator, prints the report, explains it, makes certificates,
-//! and tells where calls may stand and what a change of a ROM touches.
+//! tells where calls may stand and what a change of a ROM touches, judges recipes, and tells which frames are theirs.
 //!
-//! Thin over `dvg_cmd`: it reads the command line, opens the files and says how it went.
+//! Thin over `dvg_cmd` and `dvg_recipe_cmd`: it reads the command line, opens the files and says how it went.
 #![tactic(auto)]
 
 ghost use Rattle.std.specs.Iterator.{IsFinite};
@@ -14,6 +14,8 @@ mod labels;
 mod list;
 mod options;
 mod output;
+mod recipe_arguments;
+mod recipes;
 
 use command::{
     Asked, Certificates, CheckArgs, FrameNames, FramesArgs, MakeArgs, Named, Parsed, Request, Usage,
@@ -29,6 +31,7 @@ use dvg_cmd::{
 use input::{Input, Source};
 use list::{List, ListFault};
 use output::Output;
+use recipes::{run_belonging, run_print_of, run_recipe};
 use std::alloc::AllocError;
 use std::io;
 use std::process::ExitCode;
@@ -426,6 +429,9 @@ fn run_parsed<'a>(rt: &HostRuntime, parsed: Parsed<'a>, labels: &'a Option<Label
             tell_make(rt, &args.frames, &places(rt, &args, window))
         }
         Ok(Request::Diff(args, other)) => tell_diff(rt, &args.frames, &diff(rt, &args, other)),
+        Ok(Request::Recipe(args)) => run_recipe(rt, args),
+        Ok(Request::Print(recipe, labels)) => run_print_of(rt, &recipe, labels),
+        Ok(Request::Belongs(args)) => run_belonging(rt, args),
         Ok(Request::ExplainMake(args)) => explain_make(rt, &args),
         Ok(Request::Rules(rule)) => tell_text(rt, &rules(rt, rule)),
         Err(usage) => tell_usage(rt, &usage),

@@ -10,20 +10,30 @@ use std::alloc::{AllocError, Global};
 #[derive(Clone, Copy, PartialEq, Eq)]
 pub enum CommandOption {
     Board,
+    /// `--board` of a command that always takes the board.
+    BoardAlready,
     Budget,
     Cert,
     Clip,
+    /// `--clip` of a command that always takes the board.
+    ClipAlready,
     Exact,
     Frame,
     Labels,
     List,
     Map,
     Null,
+    OnlyOutside,
     OnlyRefused,
     Output,
+    Print,
+    /// `--labels` of a command whose recipes may have names from them.
+    RecipeLabels,
     Start,
     Summary,
     Window,
+    /// `--output` of `recipe`.
+    Witness,
 }
 
 /// The options of `frames` and of `explain frames`.
@@ -72,22 +82,51 @@ pub const LABELS_OPTIONS: [CommandOption; 1] = [CommandOption::Labels];
 /// The options of `make` that say where the certificate goes.
 pub const OUTPUT_OPTIONS: [CommandOption; 1] = [CommandOption::Output];
 
+/// The options of `recipe`.
+pub const RECIPE_OPTIONS: [CommandOption; 8] = [
+    CommandOption::BoardAlready,
+    CommandOption::Map,
+    CommandOption::Budget,
+    CommandOption::Window,
+    CommandOption::ClipAlready,
+    CommandOption::RecipeLabels,
+    CommandOption::Witness,
+    CommandOption::Print,
+];
+
+/// The options of `belongs` and of `explain belongs`.
+pub const BELONGS_OPTIONS: [CommandOption; 3] = [
+    CommandOption::BoardAlready,
+    CommandOption::Map,
+    CommandOption::RecipeLabels,
+];
+
+/// The options of `belongs` that say which frames are meant, and what is written of them.
+pub const BELONGS_LIST_OPTIONS: [CommandOption; 4] = [
+    CommandOption::List,
+    CommandOption::Null,
+    CommandOption::OnlyOutside,
+    CommandOption::Summary,
+];
+
 impl CommandOption {
     /// The name, which stands behind `--`.
     fn name(self) -> &'static str {
         match self {
-            CommandOption::Board => "board",
+            CommandOption::Board | CommandOption::BoardAlready => "board",
             CommandOption::Budget => "budget",
             CommandOption::Cert => "cert",
-            CommandOption::Clip => "clip",
+            CommandOption::Clip | CommandOption::ClipAlready => "clip",
             CommandOption::Exact => "exact",
             CommandOption::Frame => "frame",
-            CommandOption::Labels => "labels",
+            CommandOption::Labels | CommandOption::RecipeLabels => "labels",
             CommandOption::List => "list",
             CommandOption::Map => "rom",
             CommandOption::Null => "null",
+            CommandOption::OnlyOutside => "only-outside",
             CommandOption::OnlyRefused => "only-refused",
-            CommandOption::Output => "output",
+            CommandOption::Output | CommandOption::Witness => "output",
+            CommandOption::Print => "print",
             CommandOption::Start => "start",
             CommandOption::Summary => "summary",
             CommandOption::Window => "window",
@@ -100,7 +139,12 @@ impl CommandOption {
             CommandOption::Budget => Some("N"),
             CommandOption::Cert => Some("CERT"),
             CommandOption::Frame => Some("FRAME"),
-            CommandOption::Labels | CommandOption::List | CommandOption::Output => Some("FILE"),
+            CommandOption::Labels
+            | CommandOption::List
+            | CommandOption::RecipeLabels
+            | CommandOption::Output => Some("FILE"),
+            CommandOption::Print => Some("RECIPE"),
+            CommandOption::Witness => Some("FRAME"),
             CommandOption::Map => Some(Form::Map.pattern()),
             CommandOption::Start => Some(Form::Start.pattern()),
             CommandOption::Window => Some(Form::Window.pattern()),
@@ -113,10 +157,12 @@ impl CommandOption {
         match self {
             CommandOption::Board =>
                 "Judges for a board of the DVG: draws move by whole places, LABS has twelve bits",
+            CommandOption::BoardAlready =>
+                "Changes nothing: the frames of recipes are those of a board of the DVG",
             CommandOption::Budget => "How many words the frame may take at most [default: 20000]",
             CommandOption::Cert =>
                 "Judges all frames by this certificate of the ROM's shapes, which says where the ROM lies",
-            CommandOption::Clip =>
+            CommandOption::Clip | CommandOption::ClipAlready =>
                 "Lets lit strokes reach from -1024 to 2047, where the board blanks what is off the screen",
             CommandOption::Exact =>
                 "Takes the certificate's words and depths as exact, not as bounds",
@@ -127,16 +173,23 @@ impl CommandOption {
                 "Judges the frames that this file names, one a line, in place of FRAME",
             CommandOption::Map =>
                 "The word addresses of the ROM's first and last word, within 400 to BFF [default: 800/BFF]",
+            CommandOption::RecipeLabels =>
+                "The labels of the program, which name addresses in recipes",
             CommandOption::Null => "Names in the list end with NUL, not LF",
+            CommandOption::OnlyOutside => "Leaves out the lines of frames that belong",
             CommandOption::OnlyRefused => "Leaves out the lines of accepted frames",
             CommandOption::Output =>
                 "Writes the certificate to this file, which keeps what it holds until the new one is whole",
+            CommandOption::Print =>
+                "Prints the one spelling of this recipe, in place of judging any",
             CommandOption::Start =>
                 "Judges each frame as though its word 000 were the jump to this word address, or to this label of --labels",
             CommandOption::Summary =>
                 "Ends with a line that counts the frames by what is said of them",
             CommandOption::Window =>
                 "Where the screen may be lit: from X0 to X1 across, from Y0 to Y1 up [default: 0,1023,0,1023]",
+            CommandOption::Witness =>
+                "Writes a frame that shows why the recipe is refused to this file, which keeps what it holds if there is none",
         }
     }
 
@@ -157,9 +210,15 @@ impl CommandOption {
             }
             CommandOption::Cert => arg.conflicts_with("rom"),
             CommandOption::Clip => arg.conflicts_with("window")?.requires_arg("board"),
+            CommandOption::ClipAlready => arg.conflicts_with("window"),
             CommandOption::Frame => Ok(arg.action(ArgAction::Append)),
             CommandOption::Null => arg.requires_arg("list")?.conflicts_with("FRAME"),
-            CommandOption::Output => Ok(arg.short('o')),
+            CommandOption::Output | CommandOption::Witness => Ok(arg.short('o')),
+            CommandOption::Print => {
+                arg.conflicts_with("ROM")?
+                    .conflicts_with("RECIPE")?
+                    .conflicts_with("output")
+            }
             _ => Ok(arg),
         }
     }
@@ -177,7 +236,7 @@ impl CommandOption {
     fn may_be(self, word: &str) -> bool {
         match word.strip_prefix("--") {
             Some(name) => name.starts_with(self.name()),
-            None => self == CommandOption::Output && word.starts_with("-o"),
+            None => self.name() == "output" && word.starts_with("-o"),
         }
     }
 

@@ -1,0 +1,5 @@
+pub mod Common
+pub mod Lines
+pub mod FrameLines
+pub mod RecipeLines
+pub mod Verdicts

@@ -1,0 +1,124 @@
+-- What a run writes that tells of frames whether they are a recipe's. All of it is this project's own.
+use Rattle.std.specs.Prelude.{◌≡◌, ℕ, Bool, true, false, List, [], ◌∷◌, ◌++◌, codes, length, Option, None, Some, Result, Ok, Err, string_bytes}
+use Rattle.std.specs.Io.KnownBytes.{Appends}
+use Rattle.dvg_words.specs.Values.{MemoryMap}
+use Rattle.dvg_words.specs.Memory.{IsRomLength}
+use Rattle.dvg_text.specs.Devices.{AppendsPrefix, TakesOneWrite, count_after}
+use Rattle.dvg_recipe.specs.Recipes.{Recipe}
+use Rattle.dvg_recipe.specs.Lengths.{FitsAreas}
+use Rattle.dvg_recipe_text.specs.declared.reader.ReadRecipe.{ReadRecipe}
+use Rattle.dvg_recipe_text.specs.declared.fault.RecipeTextFault.{RecipeTextFault}
+use Rattle.dvg_cmd.specs.Frames.{FrameOutcome, ReadsFrame}
+use Rattle.dvg_cmd.specs.Runs.{MOST_FRAME_READ, IsReadTo}
+use Rattle.dvg_cmd.specs.Detail.{IsBehind, behind_text, frame_outcome_behind}
+use Rattle.dvg_cmd.specs.declared.detail.Detail.{Detail}
+use Rattle.dvg_cmd.specs.declared.detail.Behind.{Behind}
+use Rattle.dvg_cmd.specs.declared.listing.Listing.{Listing}
+use Rattle.dvg_cmd.specs.declared.several_frames.NamedFrame.{NamedFrame}
+use Rattle.dvg_recipe_cmd.specs.declared.answer.RecipeNo.{RecipeNo}
+use Rattle.dvg_recipe_cmd.specs.declared.answer.RecipeNo.TheVariants as no
+use Rattle.dvg_recipe_cmd.specs.declared.membership.Membership.{Membership}
+use Rattle.dvg_recipe_cmd.specs.declared.membership.Membership.TheVariants as member
+use Rattle.dvg_recipe_cmd.specs.declared.tally.BelongsTally.{BelongsTally}
+use Rattle.dvg_recipe_cmd.specs.Answers.{no_outcome, recipe_no_text, membership_line_text, membership_outcome, with_membership, belongs_summary_text}
+use Rattle.dvg_recipe_cmd.specs.Meanings.{IsMembership}
+use Rattle.dvg_recipe_cmd.specs.Runs.{Line, Telling}
+
+-- the answer is that the frame could not be read
+abbrev pub is_unread : Membership → Bool
+is_unread member.Unread = true
+is_unread membership = false
+
+-- what an answer says of what a reader held: it was read to its end or to one byte past the limit, and of these bytes the answer is so
+pub record SaysOf (recipe : Recipe) (old new : Option (List ℕ)) (bytes : List ℕ) (membership : Membership) : Type 0 where
+  pub read : IsReadTo MOST_FRAME_READ old new
+  pub from : ReadsFrame old None bytes
+  pub is : IsMembership recipe bytes membership
+
+-- `remaining` is what a reader still holds, and `failures` its count of failed reads
+module _ {R : Type 0} (remaining : R → Option (List ℕ)) (failures : R → ℕ) (recipe : Recipe) where
+  -- the answer to a frame: `Unread` if it can't be opened; else what is said of what its reader held, `Unread` exactly where a read failed
+  abbrev pub AnswersFrame : Option R → Membership → Type 0
+  AnswersFrame None membership = membership ≡ member.Unread
+  AnswersFrame (Some reader) membership =
+      (left : R) × (bytes : List ℕ) × (is_unread membership ≡ false → SaysOf recipe (remaining reader) (remaining left) bytes membership)
+      × (failures left ≡ count_after (is_unread membership) (failures reader))
+
+  -- the line of a frame: its name, the answer to it, and behind the line what the detail asks for
+  pub record IsLineOfFrame (listing : Listing) (frame : NamedFrame R) (line : Line (Membership × Behind)) : Type 0 where
+    pub name_is : line.name ≡ string_bytes frame.name
+    pub answers : AnswersFrame frame.reader line.answer.0
+    pub asked : IsBehind listing.detail line.answer.1
+
+-- the tally of no line
+abbrev pub no_frames : BelongsTally
+no_frames = record { belongs = 0; outside = 0; refused = 0; unread = 0; no_memory = 0 }
+
+-- what the answers of lines add to a tally, whether they are written or not
+abbrev pub tally_on : BelongsTally → List (Line (Membership × Behind)) → BelongsTally
+tally_on tally [] = tally
+tally_on tally (line ∷ rest) = tally_on (with_membership tally line.answer.0) rest
+
+-- the last text, if a summary is asked for
+abbrev pub summary_of : Bool → BelongsTally → List (List ℕ)
+summary_of true tally = belongs_summary_text tally ∷ []
+summary_of false tally = []
+
+-- how it is told of frames
+abbrev pub of_frames : Listing → Telling (Membership × Behind)
+of_frames listing =
+    record {
+      text = λ answer. membership_line_text answer.0 ++ behind_text answer.1;
+      outcome = λ answer. frame_outcome_behind answer.1 (membership_outcome answer.0);
+      shown = listing.lines;
+      last = λ lines. summary_of listing.summary (tally_on no_frames lines);
+    }
+
+-- ---- a refusal for which no frame is taken
+
+-- of the recipe's text, of the ROM's length, or of the longest list's, which is told at a line
+abbrev pub RefusesRecipe : List ℕ → MemoryMap → Result ReadRecipe RecipeTextFault → RecipeNo → Type 0
+RefusesRecipe rom map (Err fault) refusal = refusal ≡ no.Text fault
+RefusesRecipe rom map (Ok read) no.RomLength = IsRomLength map (length rom) → ⊥
+RefusesRecipe rom map (Ok read) (no.TooLong line) = IsRomLength map (length rom) × (FitsAreas read.recipe → ⊥)
+RefusesRecipe rom map (Ok read) refusal = ⊥
+
+-- none applies to this recipe
+pub record TakesRecipe (rom : List ℕ) (map : MemoryMap) (given : Result ReadRecipe RecipeTextFault) (read : ReadRecipe) : Type 0 where
+  pub given_is : given ≡ Ok read
+  pub rom_length : IsRomLength map (length rom)
+  pub fits : FitsAreas read.recipe
+
+-- the line of a refusal, which names no recipe, and what is behind it
+abbrev pub refusal_text : RecipeNo → Behind → List ℕ
+refusal_text refusal what = recipe_no_text refusal ++ codes "\n" ++ behind_text what
+
+-- they were written, and nothing else, by one write if they fit one
+pub record WritesRefusal
+    (detail : Detail) (refusal : RecipeNo) (old new : Option (List ℕ)) (writes writes_after : ℕ) (end : FrameOutcome) : Type 0 where
+  pub behind : Behind
+  pub asked : IsBehind detail behind
+  pub written : Appends old new (refusal_text refusal behind)
+  pub one_write : TakesOneWrite (refusal_text refusal behind) writes writes_after
+  pub outcome_is : end ≡ frame_outcome_behind behind (no_outcome refusal)
+
+-- a prefix of them was written
+pub record WritesRefusalPrefix (detail : Detail) (refusal : RecipeNo) (old new : Option (List ℕ)) : Type 0 where
+  pub behind : Behind
+  pub asked : IsBehind detail behind
+  pub written : AppendsPrefix old new (refusal_text refusal behind)
+
+-- such a refusal was written
+pub record ReportsRefusal
+    (rom : List ℕ) (map : MemoryMap) (given : Result ReadRecipe RecipeTextFault) (detail : Detail) (old new : Option (List ℕ))
+    (writes writes_after : ℕ) (end : FrameOutcome) : Type 0 where
+  pub refusal : RecipeNo
+  pub refuses : RefusesRecipe rom map given refusal
+  pub writes_it : WritesRefusal detail refusal old new writes writes_after end
+
+-- a prefix of one was written
+pub record ReportsRefusalPrefix
+    (rom : List ℕ) (map : MemoryMap) (given : Result ReadRecipe RecipeTextFault) (detail : Detail) (old new : Option (List ℕ)) : Type 0 where
+  pub refusal : RecipeNo
+  pub refuses : RefusesRecipe rom map given refusal
+  pub writes_it : WritesRefusalPrefix detail refusal old new

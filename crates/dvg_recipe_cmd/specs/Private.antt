@@ -1,0 +1,4 @@
+-- Definitions for the code alone; no clause of a public call uses them.
+pub mod Judging
+pub mod Reading
+pub mod SoFar

@@ -1,0 +1,81 @@
+-- What a run writes that judges recipes. All of it is this project's own.
+use Rattle.std.specs.Prelude.{◌≡◌, ◌≤◌, ◌<◌, ℕ, Bool, true, false, List, [], length, Option, None, Some, Result, Ok, Err, string_bytes}
+use Rattle.std.specs.Io.KnownBytes.{Consumes, IsAtEnd}
+use Rattle.dvg_words.specs.declared.machine.Machine.TheVariants.{Board}
+use Rattle.dvg_words.specs.Memory.{IsRomLength, rom_on}
+use Rattle.dvg_cert.specs.declared.limits.TheConstants.{MOST_WORDS}
+use Rattle.dvg_text.specs.Devices.{count_after}
+use Rattle.dvg_recipe.specs.declared.verdict.RecipeYes.{RecipeYes}
+use Rattle.dvg_recipe.specs.Recipes.{Recipe}
+use Rattle.dvg_recipe.specs.Lengths.{FitsAreas}
+use Rattle.dvg_recipe.specs.Means.{AllMean}
+use Rattle.dvg_cmd.specs.declared.listing.Lines.TheVariants as which
+use Rattle.dvg_recipe_cmd.specs.declared.answer.RecipeNo.{RecipeNo}
+use Rattle.dvg_recipe_cmd.specs.declared.answer.RecipeNo.TheVariants as no
+use Rattle.dvg_recipe_cmd.specs.declared.answer.RecipeAnswer.{RecipeAnswer}
+use Rattle.dvg_recipe_cmd.specs.declared.answer.RecipeAnswer.TheVariants.{Judged, NoMemory, Unread}
+use Rattle.dvg_recipe_cmd.specs.declared.judging.RecipeOptions.{RecipeOptions}
+use Rattle.dvg_recipe_cmd.specs.declared.recipes.NamedRecipe.{NamedRecipe}
+use Rattle.dvg_recipe_cmd.specs.Answers.{recipe_line_text, recipe_outcome}
+use Rattle.dvg_recipe_cmd.specs.Runs.{Line, Telling}
+
+-- how many bytes of a recipe are read at most: more than any text has that is read
+abbrev pub MOST_RECIPE_READ : ℕ
+MOST_RECIPE_READ = 823296
+
+-- these bytes were read of a reader, to its end or so many of them
+pub record ReadsRecipe (old new : Option (List ℕ)) (text : List ℕ) : Type 0 where
+  pub read : Consumes old new text
+  pub few : length text ≤ MOST_RECIPE_READ
+  pub end : length text < MOST_RECIPE_READ → IsAtEnd new
+
+-- the yes is about some recipe whose longest list fits: each of its frames over the ROM on the board is all that a yes means. That
+-- it is the recipe of the text is only tested
+pub record IsAcceptedRecipe (rom : List ℕ) (options : RecipeOptions) (counts : RecipeYes) : Type 0 where
+  pub recipe : Recipe
+  pub rom_length : IsRomLength options.map (length rom)
+  pub budget : options.budget ≤ MOST_WORDS
+  pub fits : FitsAreas recipe
+  pub means : AllMean (rom_on Board options.map rom) recipe options.window counts.words counts.depth
+
+-- what a verdict on the text of a recipe says: a yes is about a recipe, 1 comes only where the ROM has a wrong length, and 49 only where
+-- the budget is 0 or over 1,000,000
+abbrev pub IsVerdict : List ℕ → RecipeOptions → Result RecipeYes RecipeNo → Type 0
+IsVerdict rom options (Ok counts) = IsAcceptedRecipe rom options counts
+IsVerdict rom options (Err no.RomLength) = IsRomLength options.map (length rom) → ⊥
+IsVerdict rom options (Err no.BudgetRange) = (0 < options.budget) × (options.budget ≤ MOST_WORDS) → ⊥
+IsVerdict rom options (Err refusal) = Unit {0}
+
+-- the answer is that the recipe could not be read
+abbrev pub is_unread : RecipeAnswer → Bool
+is_unread Unread = true
+is_unread answer = false
+
+-- what an answer says of what a reader held
+abbrev pub SaysOf : List ℕ → RecipeOptions → Option (List ℕ) → Option (List ℕ) → RecipeAnswer → Type 0
+SaysOf rom options old new (Judged verdict) = ((text : List ℕ) × ReadsRecipe old new text) × IsVerdict rom options verdict
+SaysOf rom options old new answer = Unit {0}
+
+-- `remaining` is what a reader still holds, and `failures` its count of failed reads
+module _ {R : Type 0} (remaining : R → Option (List ℕ)) (failures : R → ℕ) (rom : List ℕ) (options : RecipeOptions) where
+  -- the answer to a recipe: `Unread` if it can't be opened; else what is said of what its reader held, `Unread` exactly where a read failed
+  abbrev pub AnswersRecipe : Option R → RecipeAnswer → Type 0
+  AnswersRecipe None answer = answer ≡ Unread
+  AnswersRecipe (Some reader) answer =
+      (left : R) × SaysOf rom options (remaining reader) (remaining left) answer
+      × (failures left ≡ count_after (is_unread answer) (failures reader))
+
+  -- the line of a recipe
+  pub record IsLineOfRecipe (recipe : NamedRecipe R) (line : Line RecipeAnswer) : Type 0 where
+    pub name_is : line.name ≡ string_bytes recipe.name
+    pub answers : AnswersRecipe recipe.reader line.answer
+
+-- how it is told of recipes: each has its line
+abbrev pub of_recipes : Telling RecipeAnswer
+of_recipes =
+    record {
+      text = recipe_line_text;
+      outcome = recipe_outcome;
+      shown = which.All;
+      last = λ lines. [];
+    }

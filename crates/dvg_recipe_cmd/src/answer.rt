@@ -1,0 +1,196 @@
+//! What is said of a recipe, and its line.
+
+ghost use Rattle.std.specs.Prelude.{◌≡◌, ◌+◌, ◌≤◌, ◌++◌, length, codes};
+ghost use Rattle.dvg_recipe_cmd.specs.Answers.{recipe_no_text, recipe_yes_text, recipe_line_text, unmade_text, for_line_text, at_line_text, no_outcome, recipe_outcome};
+
+use crate::line::Line;
+use dvg_check::{FrameWhy, ShapeFault};
+use dvg_make::{EntryFault, MakeFault};
+use dvg_recipe::RecipeYes;
+use dvg_recipe_text::{RecipeTextFault, RecipeTextWhy};
+use dvg_spelling::FrameOutcome;
+
+/// Why a recipe is not accepted, by the lines of its text.
+#[derive(Clone, Copy, Debug)]
+pub enum RecipeNo {
+    /// 51 to 56: a line of its text is wrong.
+    Text(RecipeTextFault),
+    /// 49: the budget is 0, or over 1,000,000.
+    BudgetRange,
+    /// 1: the ROM has a wrong length.
+    RomLength,
+    /// 57: the longest list passes the end of its area at this line.
+    TooLong { line: u32 },
+    /// 60 to 62: the entry can't be made that the call of this line needs.
+    Make { why: EntryFault, line: u32 },
+    /// 25: a shape that the recipe calls lights outside the window.
+    Shape(ShapeFault),
+    /// 44 to 48: some frame breaks a rule at this line.
+    Frame { why: FrameWhy, line: u32 },
+    /// There was no memory to judge it.
+    NoMemory,
+}
+
+/// What a line says of a recipe.
+#[derive(Clone, Copy, Debug)]
+pub enum RecipeAnswer {
+    /// The verdict on it.
+    Judged(Result<RecipeYes, RecipeNo>),
+    /// There was no memory for its text.
+    NoMemory,
+    /// It could not be opened or read.
+    Unread,
+}
+
+impl RecipeNo {
+    /// The number of the refusal. 63 where there was no memory to judge it.
+    pub fn number(&self) -> u8 {
+        match *self {
+            RecipeNo::Text(fault) => fault.number(),
+            RecipeNo::BudgetRange => 49,
+            RecipeNo::RomLength => 1,
+            RecipeNo::TooLong { .. } => 57,
+            RecipeNo::Make { why, .. } => MakeFault::from(why).number(),
+            RecipeNo::Shape(fault) => fault.number(),
+            RecipeNo::Frame { why, .. } => why.number(),
+            RecipeNo::NoMemory => 63,
+        }
+    }
+}
+
+/// What was reported by the line of a refusal.
+pub fn refusal_outcome_of(no: &RecipeNo) -> FrameOutcome
+    ensures { result ≡ no_outcome no.now }
+{
+    match no {
+        RecipeNo::Text(fault) if fault.why == RecipeTextWhy::Memory => FrameOutcome::NoMemory,
+        RecipeNo::Make {
+            why: EntryFault::Memory,
+            ..
+        } => FrameOutcome::NoMemory,
+        RecipeNo::NoMemory => FrameOutcome::NoMemory,
+        RecipeNo::Text(_)
+        | RecipeNo::BudgetRange
+        | RecipeNo::RomLength
+        | RecipeNo::TooLong { .. }
+        | RecipeNo::Make { .. }
+        | RecipeNo::Shape(_)
+        | RecipeNo::Frame { .. } => FrameOutcome::Refused,
+    }
+}
+
+/// What was reported by the line of an answer.
+pub fn recipe_outcome_of(answer: &RecipeAnswer) -> FrameOutcome
+    ensures { result ≡ recipe_outcome answer.now }
+{
+    match answer {
+        RecipeAnswer::Judged(Ok(_)) => FrameOutcome::Accepted,
+        RecipeAnswer::Judged(Err(no)) => refusal_outcome_of(no),
+        RecipeAnswer::NoMemory => FrameOutcome::NoMemory,
+        RecipeAnswer::Unread => FrameOutcome::Unread,
+    }
+}
+
+/// Puts the counts of what is accepted behind a line.
+fn push_yes(line: &mut Line, yes: &RecipeYes)
+    requires { length line.old ≤ 2 }
+    ensures text { line.new ≡ line.old ++ recipe_yes_text yes.now }
+    ensures short { length line.new ≤ 127 }
+{
+    line.push_count(b"accepted shapes=", yes.shapes);
+    line.push_count(b" words=", yes.words);
+    line.push_count(b" depth=", u32::from(yes.depth));
+}
+
+/// Puts a number and a line of the recipe behind a line.
+fn push_at_line(line: &mut Line, number: u8, at: u32)
+    requires { length line.old ≤ 2 }
+    ensures text { line.new ≡ line.old ++ at_line_text number at }
+    ensures short { length line.new ≤ 127 }
+{
+    line.push_count(b"refused ", u32::from(number));
+    line.push_count(b" recipe line ", at);
+}
+
+/// Puts the line of a call behind a line.
+fn push_for_line(line: &mut Line, at: u32)
+    requires { length line.old ≤ 60 }
+    ensures text { line.new ≡ line.old ++ for_line_text at }
+    ensures short { length line.new ≤ 127 }
+{
+    line.push_count(b" for recipe line ", at);
+}
+
+/// Puts why the entry of a call can't be made, and the line of the call, behind a line.
+#[tactic(auto, using(std::proofs::Common::append_assoc))]
+fn push_unmade(line: &mut Line, why: EntryFault, at: u32)
+    requires { length line.old ≤ 2 }
+    ensures text { line.new ≡ line.old ++ unmade_text why at }
+    ensures short { length line.new ≤ 127 }
+{
+    match why {
+        EntryFault::Unstraight { word } => {
+            line.push_address(b"refused 60 at ", word);
+            push_for_line(line, at);
+        }
+        EntryFault::Deep => {
+            line.push(b"refused 61");
+            push_for_line(line, at);
+        }
+        EntryFault::TooManyWords => {
+            line.push(b"refused 62");
+            push_for_line(line, at);
+        }
+        EntryFault::TooManyEntries => {
+            line.push(b"refused 62 by entries");
+            push_for_line(line, at);
+        }
+        EntryFault::Memory => line.push(b"out of memory"),
+    }
+}
+
+/// Puts why a recipe is not accepted behind a line.
+pub fn push_no(line: &mut Line, no: &RecipeNo)
+    requires { length line.old ≤ 2 }
+    ensures text { line.new ≡ line.old ++ recipe_no_text no.now }
+    ensures short { length line.new ≤ 127 }
+{
+    match *no {
+        RecipeNo::Text(fault) => push_at_line(line, fault.number(), fault.line),
+        RecipeNo::BudgetRange => line.push(b"refused 49"),
+        RecipeNo::RomLength => line.push(b"refused 1"),
+        RecipeNo::TooLong { line: at } => push_at_line(line, 57, at),
+        RecipeNo::Make { why, line: at } => push_unmade(line, why, at),
+        RecipeNo::Shape(fault) => {
+            line.push_count(b"refused ", u32::from(fault.number()));
+            line.push_entry(b" shape ", fault.addr, fault.key);
+            line.push_address(b" at ", fault.word);
+        }
+        RecipeNo::Frame { why, line: at } => push_at_line(line, why.number(), at),
+        RecipeNo::NoMemory => line.push(b"out of memory"),
+    }
+}
+
+/// The line of a refusal for which no recipe is named, with its LF. Takes no memory.
+pub fn refusal_line_of(no: &RecipeNo) -> Line
+    ensures { result ≡ recipe_no_text no.now ++ codes "\n" }
+{
+    let mut line = Line::new();
+    push_no(&mut line, no);
+    line.ended()
+}
+
+/// The line of an answer, from behind the recipe's name on, with its LF: 128 bytes at most. Takes no memory.
+pub fn recipe_line_of(answer: &RecipeAnswer) -> Line
+    ensures text { result ≡ recipe_line_text answer.now }
+{
+    let mut line = Line::new();
+    line.push(b": ");
+    match answer {
+        RecipeAnswer::Judged(Ok(yes)) => push_yes(&mut line, yes),
+        RecipeAnswer::Judged(Err(no)) => push_no(&mut line, no),
+        RecipeAnswer::NoMemory => line.push(b"out of memory"),
+        RecipeAnswer::Unread => line.push(b"cannot read"),
+    }
+    line.ended()
+}

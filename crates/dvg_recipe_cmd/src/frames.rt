@@ -1,0 +1,319 @@
+//! Telling of frames, one after another, whether they are a recipe's.
+
+ghost use Rattle.std.specs.Prelude.{◌≡◌, ◌⊎◌, ◌∷◌, [], false, IfOk, IfErr, OnOk, OnErr, is_err};
+ghost use Rattle.std.specs.Io.KnownBytes.{Appends};
+ghost use Rattle.std.specs.Iterator.{IsFinite};
+ghost use Rattle.dvg_text.specs.Devices.{AppendsPrefix, count_after};
+ghost use Rattle.dvg_cmd.specs.SeveralFrames.{joined, TakeOneWriteEach};
+ghost use Rattle.dvg_cmd.specs.Detail.{IsBehind, frame_outcome_behind};
+ghost use Rattle.dvg_cmd.specs.declared.detail.Behind.{Behind};
+ghost use Rattle.dvg_recipe_text.specs.declared.reader.ReadRecipe.{ReadRecipe};
+ghost use Rattle.dvg_recipe_cmd.specs.declared.membership.Membership.{Membership};
+ghost use Rattle.dvg_recipe_cmd.specs.Answers.{membership_outcome, with_membership};
+ghost use Rattle.dvg_recipe_cmd.specs.Meanings.{IsMembership};
+ghost use Rattle.dvg_recipe_cmd.specs.Runs.{HoldsOfAll, HoldsOfTaken, Reports, ReportsPrefix, line_texts};
+ghost use Rattle.dvg_recipe_cmd.specs.Frames.{AnswersFrame, IsLineOfFrame, RefusesRecipe, TakesRecipe, ReportsRefusal, ReportsRefusalPrefix, WritesRefusal, WritesRefusalPrefix, is_unread, of_frames, summary_of};
+ghost use Rattle.dvg_recipe_cmd.specs.Private.SoFar.{WritesLine, WritesLinePrefix};
+
+use crate::answer::{RecipeNo, refusal_line_of, refusal_outcome_of};
+use crate::judging::{board_image, line_of_piece};
+use crate::membership::{Membership, membership_line_of, membership_outcome_of};
+use crate::tally::{BelongsTally, belongs_summary_of};
+use dvg_account::leaving_text;
+use dvg_cmd::{
+    Behind, Detail, Listing, NamedFrame, PlainWhy, plain_account, read_started, unread_account,
+};
+use dvg_labels::Labels;
+use dvg_recipe::{Leaving, NotMember, belongs, too_long};
+use dvg_recipe_text::{ReadRecipe, RecipeTextFault};
+use dvg_spelling::{FrameOutcome, RunFault};
+use dvg_text::{CountedRead, CountedWrite, write_lines};
+use dvg_words::{FrameImage, Machine, RomMap};
+use std::alloc::{AllocError, Global};
+
+/// The bytes of a ROM, where they lie, and a recipe whose frames are over it, if its text is one's.
+#[derive(Clone, Copy)]
+pub struct Recorded<'a> {
+    pub rom: &'a [u8],
+    pub map: RomMap,
+    pub recipe: &'a Result<ReadRecipe, RecipeTextFault>,
+}
+
+/// The recipe, or the first that applies of 51 to 56, 1 and 57.
+fn recipe_of<'a>(given: &Recorded<'a>) -> Result<&'a ReadRecipe, RecipeNo>
+    ensures ok { IfOk result (λ read. TakesRecipe given.now.rom.now given.now.map given.now.recipe.now read.now) }
+    ensures err { IfErr result (λ no. RefusesRecipe given.now.rom.now given.now.map given.now.recipe.now no) }
+{
+    let read = match given.recipe {
+        Ok(read) => read,
+        Err(fault) => return Err(RecipeNo::Text(*fault)),
+    };
+    let _image = board_image(given.rom, given.map)?;
+    match too_long(&read.recipe) {
+        Some(piece) => Err(RecipeNo::TooLong {
+            line: line_of_piece(read, piece),
+        }),
+        None => Ok(read),
+    }
+}
+
+/// The account of a frame that leaves a recipe: the item there, and the lines of which an item could stand there.
+fn leaving_account(
+    alloc: Global,
+    read: &ReadRecipe,
+    frame: &FrameImage,
+    leaving: &Leaving,
+    labels: Option<&Labels>,
+) -> Result<String, AllocError> {
+    let mut lines = Vec::new(alloc);
+    for piece in &leaving.pieces {
+        lines.push(line_of_piece(read, *piece))?;
+    }
+    leaving_text(alloc, frame, leaving.at, lines, labels)
+}
+
+/// What the detail asks for behind the line of a frame of which this was found out.
+fn account_of(
+    alloc: Global,
+    read: &ReadRecipe,
+    frame: &FrameImage,
+    found: &Result<(), NotMember>,
+    detail: Detail,
+) -> Behind
+    ensures { IsBehind detail.entry result }
+{
+    let Detail::Account(labels) = detail else {
+        return Behind::Nothing;
+    };
+    Behind::of(match found {
+        Ok(()) => Ok(String::new(alloc)),
+        Err(NotMember::Leaves(leaving)) => leaving_account(alloc, read, frame, leaving, labels),
+        Err(NotMember::Memory) => Err(AllocError),
+    })
+}
+
+/// What is said of the bytes of a frame, and what the detail asks for behind its line.
+fn membership_of(
+    alloc: Global,
+    read: &ReadRecipe,
+    bytes: &[u8],
+    detail: Detail,
+) -> (Membership, Behind)
+    ensures membership { IsMembership read.now.recipe bytes.now result.0 }
+    ensures read { is_unread result.0 ≡ false }
+    ensures behind { IsBehind detail.entry result.1 }
+{
+    let Ok(frame) = FrameImage::from_bytes(bytes) else {
+        let why = PlainWhy::FrameLength { bytes: bytes.len() };
+        let behind = plain_account(Machine::Board, alloc, 2, why, detail);
+        return (Membership::WrongLength, behind);
+    };
+    let found = belongs(alloc, &read.recipe, &frame);
+    let behind = account_of(alloc, read, &frame, &found, detail);
+    let membership = match found {
+        Ok(()) => Membership::Belongs,
+        Err(NotMember::Leaves(leaving)) => Membership::Outside { at: leaving.at },
+        Err(NotMember::Memory) => Membership::NoMemory,
+    };
+    (membership, behind)
+}
+
+/// That a frame can't be opened or read, and what the detail asks for behind its line.
+fn unread(alloc: Global, detail: Detail) -> (Membership, Behind)
+    ensures membership { result.0 ≡ Membership.Unread }
+    ensures behind { IsBehind detail.entry result.1 }
+{
+    let behind = unread_account(Machine::Board, alloc, detail);
+    (Membership::Unread, behind)
+}
+
+/// What is said of a frame whose turn it is, and what the detail asks for behind its line.
+fn membership_read<R: CountedRead + Drop>(
+    alloc: Global,
+    read: &ReadRecipe,
+    reader: Option<R>,
+    detail: Detail,
+) -> (Membership, Behind)
+    ensures answers { AnswersFrame R.remaining R.failures read.now.recipe reader result.0 }
+    ensures behind { IsBehind detail.entry result.1 }
+{
+    let Some(mut reader) = reader else {
+        return unread(alloc, detail);
+    };
+    match read_started(&mut reader, None) {
+        Ok(bytes) => membership_of(alloc, read, bytes.as_slice(), detail),
+        Err(_) => unread(alloc, detail),
+    }
+}
+
+/// Writes the line of a frame, and a text behind it, if the listing has it; answers what they come to in any case.
+fn write_listed<W: CountedWrite>(
+    name: &str,
+    membership: Membership,
+    behind: &Behind,
+    listing: Listing,
+    out: &mut W,
+) -> Result<FrameOutcome, RunFault>
+    ensures outcome { IfOk result (λ end. end ≡ frame_outcome_behind behind.now (membership_outcome membership)) }
+    ensures written { OnOk result (Appends (W.contents out.old) (W.contents out.new)
+        (joined (line_texts (of_frames listing.entry) (record { name = name.now; answer = (membership, behind.now) } ∷ [])))) }
+    ensures one_write { OnOk result (TakeOneWriteEach (line_texts (of_frames listing.entry)
+        (record { name = name.now; answer = (membership, behind.now) } ∷ [])) (W.whole_writes out.old) (W.whole_writes out.new)) }
+    ensures prefix { OnErr result (AppendsPrefix (W.contents out.old) (W.contents out.new)
+        (joined (line_texts (of_frames listing.entry) (record { name = name.now; answer = (membership, behind.now) } ∷ [])))) }
+    ensures fault { IfErr result (λ fault. fault ≡ RunFault.Write) }
+    ensures count { W.failures out.new ≡ count_after (is_err result) (W.failures out.old) }
+{
+    let outcome = behind.frame_outcome(membership_outcome_of(membership));
+    if listing.has(outcome) {
+        let line = membership_line_of(membership);
+        write_lines(
+            name.as_bytes(),
+            line.as_bytes(),
+            behind.text().as_bytes(),
+            out,
+        )?;
+    }
+    Ok(outcome)
+}
+
+/// Tells of a frame whose turn it is whether it is one of the recipe's, counts its line, and writes it if the listing has it.
+fn run_named<R: CountedRead + Drop, W: CountedWrite>(
+    alloc: Global,
+    read: &ReadRecipe,
+    frame: NamedFrame<R>,
+    listing: Listing,
+    tally: &mut BelongsTally,
+    out: &mut W,
+) -> Result<FrameOutcome, RunFault>
+    ensures ok { IfOk result (λ end. (answer : Membership × Behind) × (tally.new ≡ with_membership tally.old answer.0)
+        × WritesLine (IsLineOfFrame R.remaining R.failures read.now.recipe listing.entry) (of_frames listing.entry) frame
+        (W.contents out.old) (W.contents out.new) (W.whole_writes out.old) (W.whole_writes out.new) answer end) }
+    ensures prefix { OnErr result (WritesLinePrefix (IsLineOfFrame R.remaining R.failures read.now.recipe listing.entry)
+        (of_frames listing.entry) frame (W.contents out.old) (W.contents out.new)) }
+    ensures fault { IfErr result (λ fault. fault ≡ RunFault.Write) }
+    ensures count { W.failures out.new ≡ count_after (is_err result) (W.failures out.old) }
+{
+    let NamedFrame { name, reader } = frame;
+    let (membership, behind) = membership_read(alloc, read, reader, listing.detail);
+    tally.add(membership);
+    write_listed(name.as_str(), membership, &behind, listing, out)
+}
+
+/// Writes the summary, if it is asked for.
+fn write_summary<W: CountedWrite>(
+    summary: bool,
+    tally: &BelongsTally,
+    out: &mut W,
+) -> Result<(), RunFault>
+    ensures written { OnOk result (Appends (W.contents out.old) (W.contents out.new) (joined (summary_of summary tally.now))) }
+    ensures one_write { OnOk result (TakeOneWriteEach (summary_of summary tally.now) (W.whole_writes out.old) (W.whole_writes out.new)) }
+    ensures prefix { OnErr result (AppendsPrefix (W.contents out.old) (W.contents out.new) (joined (summary_of summary tally.now))) }
+    ensures fault { IfErr result (λ fault. fault ≡ RunFault.Write) }
+    ensures count { W.failures out.new ≡ count_after (is_err result) (W.failures out.old) }
+{
+    if summary {
+        let line = belongs_summary_of(tally);
+        write_lines(line.as_bytes(), &[], &[], out)?;
+    }
+    Ok(())
+}
+
+/// Tells of frames, one after another, whether they are the recipe's, and writes the summary if it is asked for.
+fn run_frames_of<R: CountedRead + Drop, I: Iterator<Item = NamedFrame<R>> + Drop, W: CountedWrite>(
+    alloc: Global,
+    read: &ReadRecipe,
+    frames: I,
+    listing: Listing,
+    out: &mut W,
+) -> Result<FrameOutcome, RunFault>
+    requires can { I.can_next frames }
+    requires ends { IsFinite (I.remaining frames) }
+    ensures report { IfOk result (λ end. HoldsOfAll I.next_gives frames (λ taken.
+        Reports (IsLineOfFrame R.remaining R.failures read.now.recipe listing.entry) (of_frames listing.entry) taken (W.contents out.old) (W.contents out.new)
+        (W.whole_writes out.old) (W.whole_writes out.new) end)) }
+    ensures prefix { OnErr result (HoldsOfTaken I.next_gives frames (λ taken.
+        ReportsPrefix (IsLineOfFrame R.remaining R.failures read.now.recipe listing.entry) (of_frames listing.entry) taken
+        (W.contents out.old) (W.contents out.new))) }
+    ensures fault { IfErr result (λ fault. fault ≡ RunFault.Write) }
+    ensures count { W.failures out.new ≡ count_after (is_err result) (W.failures out.old) }
+{
+    let mut tally = BelongsTally::new();
+    let mut worst = FrameOutcome::Accepted;
+    for frame in frames {
+        worst = worst.or_worse(run_named(alloc, read, frame, listing, &mut tally, out)?);
+    }
+    write_summary(listing.summary, &tally, out)?;
+    Ok(worst)
+}
+
+/// Writes the line of a refusal for which no frame is taken, and what the detail asks for behind it.
+fn write_refusal<W: CountedWrite>(
+    alloc: Global,
+    no: &RecipeNo,
+    detail: Detail,
+    out: &mut W,
+) -> Result<FrameOutcome, RunFault>
+    ensures ok { IfOk result (λ end. WritesRefusal detail.entry no.now (W.contents out.old) (W.contents out.new)
+        (W.whole_writes out.old) (W.whole_writes out.new) end) }
+    ensures prefix { OnErr result (WritesRefusalPrefix detail.entry no.now (W.contents out.old) (W.contents out.new)) }
+    ensures fault { IfErr result (λ fault. fault ≡ RunFault.Write) }
+    ensures count { W.failures out.new ≡ count_after (is_err result) (W.failures out.old) }
+{
+    let behind = plain_account(
+        Machine::Board,
+        alloc,
+        no.number(),
+        PlainWhy::Nothing,
+        detail,
+    );
+    let line = refusal_line_of(no);
+    write_lines(line.as_bytes(), behind.text().as_bytes(), &[], out)?;
+    Ok(behind.frame_outcome(refusal_outcome_of(no)))
+}
+
+/// Tells of frames, one after another, whether they are one of a recipe's, and writes a line for each that the listing has: the name, which
+/// has no control characters, a colon, a space, and what is said of it; and an account of the answer behind it if the detail asks for one. At
+/// the end it writes the summary if it is asked for, and answers the worst outcome of all.
+///
+/// Where the recipe's text or the ROM's length is refused, or the longest list doesn't fit, it writes the line of that, and no frame is
+/// taken. A frame that can't be opened or read has a line, too. The next frame is taken once the line of the one before it is written.
+/// The only fault is 73, if the writer failed, and then a prefix of these lines was written.
+pub fn run_belongs<
+    R: CountedRead + Drop,
+    I: Iterator<Item = NamedFrame<R>> + Drop,
+    W: CountedWrite,
+>(
+    alloc: Global,
+    given: &Recorded,
+    frames: I,
+    listing: Listing,
+    out: &mut W,
+) -> Result<FrameOutcome, RunFault>
+    requires can { I.can_next frames }
+    requires ends { IsFinite (I.remaining frames) }
+
+    // The line of a refusal is written, or that of each frame that the listing has, in their order, and then the summary, each by one
+    // write if it fits one. Of each frame that is told to belong, or to be outside, that is so (`IsMembership`).
+    ensures report { IfOk result (λ end. ReportsRefusal given.now.rom.now given.now.map given.now.recipe.now listing.entry.detail
+        (W.contents out.old) (W.contents out.new) (W.whole_writes out.old) (W.whole_writes out.new) end
+        ⊎ ((read : ReadRecipe) × TakesRecipe given.now.rom.now given.now.map given.now.recipe.now read
+        × HoldsOfAll I.next_gives frames (λ taken.
+        Reports (IsLineOfFrame R.remaining R.failures read.recipe listing.entry) (of_frames listing.entry) taken (W.contents out.old) (W.contents out.new)
+        (W.whole_writes out.old) (W.whole_writes out.new) end))) }
+
+    // Where the writer failed, a prefix of them.
+    ensures prefix { OnErr result (ReportsRefusalPrefix given.now.rom.now given.now.map given.now.recipe.now listing.entry.detail
+        (W.contents out.old) (W.contents out.new)
+        ⊎ ((read : ReadRecipe) × TakesRecipe given.now.rom.now given.now.map given.now.recipe.now read
+        × HoldsOfTaken I.next_gives frames (λ taken.
+        ReportsPrefix (IsLineOfFrame R.remaining R.failures read.recipe listing.entry) (of_frames listing.entry) taken
+        (W.contents out.old) (W.contents out.new)))) }
+    ensures fault { IfErr result (λ fault. fault ≡ RunFault.Write) }
+    ensures count { W.failures out.new ≡ count_after (is_err result) (W.failures out.old) }
+{
+    match recipe_of(given) {
+        Ok(read) => run_frames_of(alloc, read, frames, listing, out),
+        Err(no) => write_refusal(alloc, &no, listing.detail, out),
+    }
+}

@@ -1,0 +1,30 @@
+//! Runs over recipes, and over frames that may be theirs, with readers and writers.
+//!
+//! [`run_recipes`] judges recipe after recipe over a vector ROM on the board, and writes a line for each. [`run_recipe_for_witness`] judges
+//! one, and writes a frame that shows why it is refused. [`run_belongs`] tells of frame after frame whether it is one of a recipe's, and
+//! [`run_print`] writes the one spelling of a recipe's text.
+#![tactic(auto)]
+
+mod answer;
+mod fault;
+mod frames;
+mod judging;
+mod line;
+mod membership;
+mod printing;
+mod reading;
+mod recipes;
+mod tally;
+
+pub use answer::{RecipeAnswer, RecipeNo, recipe_line_of, recipe_outcome_of};
+pub use dvg_recipe::RecipeYes;
+pub use dvg_recipe_text::{ReadRecipe, RecipeTextFault, RecipeTextWhy};
+pub use fault::{RecipeRunFault, recipe_message_of, recipe_status_of};
+pub use frames::{Recorded, run_belongs};
+pub use judging::RecipeOptions;
+pub use line::Line;
+pub use membership::{Membership, membership_line_of, membership_outcome_of};
+pub use printing::run_print;
+pub use reading::load_recipe;
+pub use recipes::{NamedRecipe, WitnessEnd, run_recipe_for_witness, run_recipes};
+pub use tally::{BelongsTally, belongs_summary_of};

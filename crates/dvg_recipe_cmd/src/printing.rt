@@ -1,0 +1,38 @@
+//! Writing the one spelling of a recipe's text.
+
+use crate::answer::{RecipeAnswer, RecipeNo, recipe_line_of, recipe_outcome_of};
+use crate::fault::RecipeRunFault;
+use crate::reading::read_text;
+use dvg_labels::Labels;
+use dvg_recipe_text::print_recipe;
+use dvg_spelling::{FrameOutcome, RunFault};
+use dvg_text::{CountedRead, CountedWrite, write_bytes, write_lines};
+use std::alloc::Global;
+
+/// Reads the text of a recipe, and writes its one spelling; or, to the other writer, the line of its refusal, which begins with the name.
+pub fn run_print<R: CountedRead, W: CountedWrite, E: CountedWrite>(
+    alloc: Global,
+    name: &str,
+    recipe: &mut R,
+    labels: Option<&Labels>,
+    out: &mut W,
+    refusals: &mut E,
+) -> Result<FrameOutcome, RecipeRunFault> {
+    let text = read_text(alloc, recipe)?;
+    match print_recipe(alloc, &text, labels) {
+        Ok(printed) => {
+            if write_bytes(&printed, out).is_err() {
+                return Err(RecipeRunFault::Plain(RunFault::Write));
+            }
+            Ok(FrameOutcome::Accepted)
+        }
+        Err(fault) => {
+            let answer = RecipeAnswer::Judged(Err(RecipeNo::Text(fault)));
+            let line = recipe_line_of(&answer);
+            if write_lines(name.as_bytes(), line.as_bytes(), &[], refusals).is_err() {
+                return Err(RecipeRunFault::Plain(RunFault::Write));
+            }
+            Ok(recipe_outcome_of(&answer))
+        }
+    }
+}

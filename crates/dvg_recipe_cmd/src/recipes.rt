@@ -1,0 +1,196 @@
+//! Judging recipes, one after another.
+
+ghost use Rattle.std.specs.Prelude.{◌≡◌, ◌∷◌, [], false, IfOk, IfErr, OnOk, OnErr, is_err};
+ghost use Rattle.std.specs.Io.KnownBytes.{Appends};
+ghost use Rattle.std.specs.Iterator.{IsFinite};
+ghost use Rattle.dvg_text.specs.Devices.{AppendsPrefix, count_after};
+ghost use Rattle.dvg_cmd.specs.SeveralFrames.{joined, TakeOneWriteEach};
+ghost use Rattle.dvg_recipe_cmd.specs.Answers.{recipe_outcome};
+ghost use Rattle.dvg_recipe_cmd.specs.Runs.{HoldsOfAll, HoldsOfTaken, Reports, ReportsPrefix, line_texts};
+ghost use Rattle.dvg_recipe_cmd.specs.Recipes.{SaysOf, AnswersRecipe, IsLineOfRecipe, is_unread, of_recipes};
+ghost use Rattle.dvg_recipe_cmd.specs.Private.SoFar.{WritesLine, WritesLinePrefix};
+ghost use Rattle.dvg_recipe_cmd.specs.declared.answer.RecipeAnswer.{RecipeAnswer};
+
+use crate::answer::{RecipeAnswer, recipe_line_of, recipe_outcome_of};
+use crate::judging::{RecipeOptions, Wanted, Witness, judge_text};
+use crate::reading::{Untaken, read_text};
+use dvg_labels::Labels;
+use dvg_spelling::{FrameOutcome, RunFault};
+use dvg_text::{CountedRead, CountedWrite, write_bytes, write_lines};
+use std::alloc::Global;
+
+/// A recipe whose turn it is.
+#[derive(Drop)]
+pub struct NamedRecipe<R> {
+    /// The name in the recipe's line, which has no control characters.
+    pub name: String,
+    /// The reader of its text, or `None` if it can't be opened.
+    pub reader: Option<R>,
+}
+
+/// What a run reported that looks for a witness, and whether it wrote one.
+#[derive(Clone, Copy, Debug, PartialEq, Eq)]
+pub struct WitnessEnd {
+    pub outcome: FrameOutcome,
+    pub is_written: bool,
+}
+
+/// The answer to the recipe whose text a reader holds, and what shows why it is refused.
+fn answer_read<R: CountedRead>(
+    alloc: Global,
+    rom: &[u8],
+    reader: &mut R,
+    options: &RecipeOptions,
+    labels: Option<&Labels>,
+    wanted: Wanted,
+) -> (RecipeAnswer, Witness)
+    ensures says { SaysOf rom.now options.now (R.remaining reader.old) (R.remaining reader.new) result.0 }
+    ensures count { R.failures reader.new ≡ count_after (is_unread result.0) (R.failures reader.old) }
+{
+    match read_text(alloc, reader) {
+        Ok(text) => {
+            let judged = judge_text(alloc, rom, &text, options, labels, wanted);
+            (RecipeAnswer::Judged(judged.verdict), judged.witness)
+        }
+        Err(Untaken::Unread) => (RecipeAnswer::Unread, Witness::Nothing),
+        Err(Untaken::NoMemory) => (RecipeAnswer::NoMemory, Witness::Nothing),
+    }
+}
+
+/// The answer to a recipe whose turn it is, and what shows why it is refused.
+fn answer_opened<R: CountedRead + Drop>(
+    alloc: Global,
+    rom: &[u8],
+    reader: Option<R>,
+    options: &RecipeOptions,
+    labels: Option<&Labels>,
+    wanted: Wanted,
+) -> (RecipeAnswer, Witness)
+    ensures { AnswersRecipe R.remaining R.failures rom.now options.now reader result.0 }
+{
+    match reader {
+        Some(mut reader) => answer_read(alloc, rom, &mut reader, options, labels, wanted),
+        None => (RecipeAnswer::Unread, Witness::Nothing),
+    }
+}
+
+/// Writes the line of an answer.
+fn write_answer<W: CountedWrite>(
+    name: &str,
+    answer: &RecipeAnswer,
+    out: &mut W,
+) -> Result<FrameOutcome, RunFault>
+    ensures outcome { IfOk result (λ end. end ≡ recipe_outcome answer.now) }
+    ensures written { OnOk result (Appends (W.contents out.old) (W.contents out.new)
+        (joined (line_texts of_recipes (record { name = name.now; answer = answer.now } ∷ [])))) }
+    ensures one_write { OnOk result (TakeOneWriteEach (line_texts of_recipes
+        (record { name = name.now; answer = answer.now } ∷ [])) (W.whole_writes out.old) (W.whole_writes out.new)) }
+    ensures prefix { OnErr result (AppendsPrefix (W.contents out.old) (W.contents out.new)
+        (joined (line_texts of_recipes (record { name = name.now; answer = answer.now } ∷ [])))) }
+    ensures fault { IfErr result (λ fault. fault ≡ RunFault.Write) }
+    ensures count { W.failures out.new ≡ count_after (is_err result) (W.failures out.old) }
+{
+    let line = recipe_line_of(answer);
+    write_lines(name.as_bytes(), line.as_bytes(), &[], out)?;
+    Ok(recipe_outcome_of(answer))
+}
+
+/// Judges a recipe whose turn it is, and writes its line.
+fn run_named<R: CountedRead + Drop, W: CountedWrite>(
+    alloc: Global,
+    rom: &[u8],
+    options: &RecipeOptions,
+    labels: Option<&Labels>,
+    recipe: NamedRecipe<R>,
+    wanted: Wanted,
+    out: &mut W,
+) -> Result<(FrameOutcome, Witness), RunFault>
+    ensures ok { IfOk result (λ end. (answer : RecipeAnswer)
+        × WritesLine (IsLineOfRecipe R.remaining R.failures rom.now options.now) of_recipes recipe
+        (W.contents out.old) (W.contents out.new) (W.whole_writes out.old) (W.whole_writes out.new) answer end.0) }
+    ensures prefix { OnErr result (WritesLinePrefix (IsLineOfRecipe R.remaining R.failures rom.now options.now) of_recipes recipe
+        (W.contents out.old) (W.contents out.new)) }
+    ensures fault { IfErr result (λ fault. fault ≡ RunFault.Write) }
+    ensures count { W.failures out.new ≡ count_after (is_err result) (W.failures out.old) }
+{
+    let NamedRecipe { name, reader } = recipe;
+    let (answer, witness) = answer_opened(alloc, rom, reader, options, labels, wanted);
+    let outcome = write_answer(name.as_str(), &answer, out)?;
+    Ok((outcome, witness))
+}
+
+/// Judges recipes over the bytes of a ROM on the board, one after another, and writes a line for each: the name, which has no control
+/// characters, a colon, a space, and what is said of it. Answers the worst outcome of all. Names that a recipe does not define are
+/// those of labels.
+///
+/// A recipe that can't be opened or read has a line, too. The next one is taken once the line of the one before it is written. The only
+/// fault is 73, if the writer failed, and then a prefix of these lines was written.
+pub fn run_recipes<
+    R: CountedRead + Drop,
+    I: Iterator<Item = NamedRecipe<R>> + Drop,
+    W: CountedWrite,
+>(
+    alloc: Global,
+    rom: &[u8],
+    options: &RecipeOptions,
+    labels: Option<&Labels>,
+    recipes: I,
+    out: &mut W,
+) -> Result<FrameOutcome, RunFault>
+    requires can { I.can_next recipes }
+    requires ends { IsFinite (I.remaining recipes) }
+
+    // A line is written for each recipe, in their order, each by one write if it fits one. What a yes means is said of some recipe
+    // (`IsAcceptedRecipe`).
+    ensures report { IfOk result (λ end. HoldsOfAll I.next_gives recipes (λ taken.
+        Reports (IsLineOfRecipe R.remaining R.failures rom.now options.now) of_recipes taken (W.contents out.old) (W.contents out.new)
+        (W.whole_writes out.old) (W.whole_writes out.new) end)) }
+
+    // Where the writer failed, a prefix of them.
+    ensures prefix { OnErr result (HoldsOfTaken I.next_gives recipes (λ taken.
+        ReportsPrefix (IsLineOfRecipe R.remaining R.failures rom.now options.now) of_recipes taken
+        (W.contents out.old) (W.contents out.new))) }
+    ensures fault { IfErr result (λ fault. fault ≡ RunFault.Write) }
+    ensures count { W.failures out.new ≡ count_after (is_err result) (W.failures out.old) }
+{
+    let mut worst = FrameOutcome::Accepted;
+    for recipe in recipes {
+        let (outcome, _) = run_named(alloc, rom, options, labels, recipe, Wanted::Verdict, out)?;
+        worst = worst.or_worse(outcome);
+    }
+    Ok(worst)
+}
+
+/// Judges one recipe as [`run_recipes`] does. If it is refused, and a frame shows why, the frame's bytes are written, too, behind the line.
+///
+/// The fault is 73, if a writer failed, or 74, if there was no memory to look for a frame; in both the line may have been written.
+#[tactic(auto, using(crate::proofs::RecipeLines::one_recipe))]
+pub fn run_recipe_for_witness<R: CountedRead + Drop, W: CountedWrite, F: CountedWrite>(
+    alloc: Global,
+    rom: &[u8],
+    options: &RecipeOptions,
+    labels: Option<&Labels>,
+    recipe: NamedRecipe<R>,
+    out: &mut W,
+    file: &mut F,
+) -> Result<WitnessEnd, RunFault>
+    // The recipe's line is written, by one write if it fits one.
+    ensures report { IfOk result (λ end. Reports (IsLineOfRecipe R.remaining R.failures rom.now options.now) of_recipes (recipe ∷ [])
+        (W.contents out.old) (W.contents out.new) (W.whole_writes out.old) (W.whole_writes out.new) end.outcome) }
+    // Nothing is written to the file where it is not said that a frame is.
+    ensures kept { IfOk result (λ end. end.is_written ≡ false → file.new ≡ file.old) }
+{
+    let (outcome, witness) = run_named(alloc, rom, options, labels, recipe, Wanted::Witness, out)?;
+    let is_written = match witness {
+        Witness::Nothing => false,
+        Witness::Frame(frame) => {
+            write_bytes(&frame, file)?;
+            true
+        }
+        Witness::NoMemory => return Err(RunFault::Memory),
+    };
+    Ok(WitnessEnd {
+        outcome,
+        is_written,
+    })
+}

@@ -1,0 +1,71 @@
+//! How many lines say what of frames and a recipe, and the line that tells it.
+
+ghost use Rattle.std.specs.Prelude.{◌≡◌, true};
+ghost use Rattle.dvg_text.specs.Devices.{count_after};
+ghost use Rattle.dvg_recipe_cmd.specs.Answers.{belongs_summary_text, with_membership};
+
+use crate::line::Line;
+use crate::membership::Membership;
+
+/// How many lines say what of frames. Each count stops at 4,294,967,295.
+#[derive(Clone, Copy, Debug, PartialEq, Eq)]
+pub struct BelongsTally {
+    /// How many frames belong.
+    pub belongs: u32,
+    /// How many frames are outside.
+    pub outside: u32,
+    /// How many frames have a wrong length, which is 2.
+    pub refused: u32,
+    /// How many frames could not be opened or read.
+    pub unread: u32,
+    /// How often memory was out.
+    pub no_memory: u32,
+}
+
+/// One more.
+fn count(counted: &mut u32)
+    ensures { counted.new ≡ count_after true counted.old }
+{
+    *counted = counted.saturating_add(1);
+}
+
+impl BelongsTally {
+    /// The tally of no line.
+    pub fn new() -> BelongsTally
+        ensures { result ≡ record { belongs = 0; outside = 0; refused = 0; unread = 0; no_memory = 0 } }
+    {
+        BelongsTally {
+            belongs: 0,
+            outside: 0,
+            refused: 0,
+            unread: 0,
+            no_memory: 0,
+        }
+    }
+
+    /// Counts the line of this answer.
+    pub fn add(&mut self, membership: Membership)
+        ensures { self.new ≡ with_membership self.old membership }
+    {
+        match membership {
+            Membership::Belongs => count(&mut self.belongs),
+            Membership::Outside { .. } => count(&mut self.outside),
+            Membership::WrongLength => count(&mut self.refused),
+            Membership::NoMemory => count(&mut self.no_memory),
+            Membership::Unread => count(&mut self.unread),
+        }
+    }
+}
+
+/// The line that tells a tally, with its LF. Takes no memory.
+pub fn belongs_summary_of(tally: &BelongsTally) -> Line
+    ensures { result ≡ belongs_summary_text tally.now }
+{
+    let mut line = Line::new();
+    line.push_count(b"belongs=", tally.belongs);
+    line.push_count(b" outside=", tally.outside);
+    line.push_count(b" refused-2=", tally.refused);
+    line.push_count(b" unreadable=", tally.unread);
+    line.push_count(b" out-of-memory=", tally.no_memory);
+    line.ended()
+}

@@ -1,0 +1,172 @@
+//! What a line says.
+
+use crate::head::{Head, head_of};
+use crate::names::is_name;
+use crate::words::Words;
+use dvg_recipe::{Area, DrawRange, MOST_TURNS, PlaceRange, Span};
+use dvg_words::Format;
+
+/// The places of a rectangle.
+#[derive(Clone, Copy)]
+pub struct Rectangle {
+    pub x: Span,
+    pub y: Span,
+}
+
+/// What a line says, by itself.
+#[derive(Clone, Copy)]
+pub enum Line<'a> {
+    List(Area),
+    /// A name, and the words of what it stands for.
+    Shapes(&'a [u8], Words<'a>),
+    Place(PlaceRange),
+    /// The words of what is called.
+    Call(Words<'a>),
+    /// The words of the instructions.
+    Words(Words<'a>),
+    /// A draw, and the rectangle to which it leads, if the line says one.
+    Draw(DrawRange, Option<Rectangle>),
+    Either,
+    Or,
+    End,
+    Repeat { least: u16, most: u16 },
+    Jump(Area),
+    Halt,
+}
+
+/// A line of one word, if no word is left.
+fn alone<'a>(words: &Words<'a>, line: Line<'a>) -> Option<Line<'a>> {
+    words.end()?;
+    Some(line)
+}
+
+fn area(words: &mut Words<'_>) -> Option<Area> {
+    let area = words.area()?;
+    words.end()?;
+    Some(area)
+}
+
+fn shapes<'a>(words: &mut Words<'a>) -> Option<Line<'a>> {
+    let name = words.next()?;
+    if is_name(name) {
+        Some(Line::Shapes(name, *words))
+    } else {
+        None
+    }
+}
+
+fn take_rectangle(words: &mut Words<'_>) -> Option<Rectangle> {
+    let x = words.span(-2048, 2047)?;
+    let y = words.span(-2048, 2047)?;
+    Some(Rectangle { x, y })
+}
+
+/// Global scales in ascending order, at least one.
+fn scales(words: &mut Words<'_>) -> Option<[bool; 16]> {
+    let mut scales = [false; 16];
+    let mut least = 0;
+    'taking: for _ in 0..16 {
+        let scale = words.natural(15)?;
+        if scale < least {
+            return None;
+        }
+        scales[usize::from(scale)] = true;
+        least = scale + 1;
+        if words.is_done() {
+            return Some(scales);
+        }
+    }
+    None
+}
+
+fn place<'a>(words: &mut Words<'a>) -> Option<Line<'a>> {
+    let Rectangle { x, y } = take_rectangle(words)?;
+    words.literal(b"scale")?;
+    let scales = scales(words)?;
+    Some(Line::Place(PlaceRange { x, y, scales }))
+}
+
+/// The sizes of a draw behind a word: of a VCTR as they are, of an SVEC in its steps of 256.
+fn sizes(words: &mut Words<'_>, axis: &[u8], format: Format) -> Option<Span> {
+    words.literal(axis)?;
+    match format {
+        Format::Long => words.span(-1023, 1023),
+        Format::Short => {
+            let Span { low, high } = words.span(-3, 3)?;
+            Some(Span {
+                low: 256 * low,
+                high: 256 * high,
+            })
+        }
+    }
+}
+
+fn lscale(words: &mut Words<'_>, format: Format) -> Option<u8> {
+    match format {
+        Format::Long => Some(words.natural(9)? as u8),
+        Format::Short => Some(words.natural(3)? as u8 + 2),
+    }
+}
+
+fn draw_range(words: &mut Words<'_>, format: Format) -> Option<DrawRange> {
+    let lscale = lscale(words, format)?;
+    let dx = sizes(words, b"x", format)?;
+    let dy = sizes(words, b"y", format)?;
+    words.literal(b"bright")?;
+    let bright = words.span(0, 15)?;
+    Some(DrawRange {
+        format,
+        lscale,
+        dx,
+        dy,
+        bright,
+    })
+}
+
+fn svec<'a>(words: &mut Words<'a>) -> Option<Line<'a>> {
+    let range = draw_range(words, Format::Short)?;
+    words.end()?;
+    Some(Line::Draw(range, None))
+}
+
+fn vctr<'a>(words: &mut Words<'a>) -> Option<Line<'a>> {
+    let range = draw_range(words, Format::Long)?;
+    if words.is_done() {
+        return Some(Line::Draw(range, None));
+    }
+    words.literal(b"to")?;
+    let to = take_rectangle(words)?;
+    words.end()?;
+    Some(Line::Draw(range, Some(to)))
+}
+
+fn repeat<'a>(words: &mut Words<'a>) -> Option<Line<'a>> {
+    let least = words.natural(MOST_TURNS)?;
+    let most = words.natural(MOST_TURNS)?;
+    words.end()?;
+    if least <= most && 0 < most {
+        Some(Line::Repeat { least, most })
+    } else {
+        None
+    }
+}
+
+/// What a line says, without the spaces before it. `None` if it is of none of the forms.
+pub fn read_line(line: &[u8]) -> Option<Line<'_>> {
+    let mut words = Words::of(line);
+    match head_of(words.next()?)? {
+        Head::List => Some(Line::List(area(&mut words)?)),
+        Head::Shapes => shapes(&mut words),
+        Head::Place => place(&mut words),
+        Head::Call => Some(Line::Call(words)),
+        Head::Words => Some(Line::Words(words)),
+        Head::Vctr => vctr(&mut words),
+        Head::Svec => svec(&mut words),
+        Head::Either => alone(&words, Line::Either),
+        Head::Or => alone(&words, Line::Or),
+        Head::End => alone(&words, Line::End),
+        Head::Repeat => repeat(&mut words),
+        Head::Jump => Some(Line::Jump(area(&mut words)?)),
+        Head::Halt => alone(&words, Line::Halt),
+    }
+}

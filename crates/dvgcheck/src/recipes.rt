@@ -1,0 +1,180 @@
+//! The runs of `recipe` and of `belongs`.
+
+ghost use Rattle.std.specs.Iterator.{IsFinite};
+
+use crate::command::{FrameNames, Named};
+use crate::input::{Input, Source};
+use crate::list::{List, ListFault};
+use crate::output::Output;
+use crate::recipe_arguments::{BelongsArgs, BelongsAsked, RecipeArgs};
+use crate::{open, opened, say, tell_frames, tell_list};
+use dvg_cmd::{Counted, FrameOutcome, Labels, NamedFrame, RunFault, load_rom};
+use dvg_recipe_cmd::{
+    NamedRecipe, RecipeOptions, RecipeRunFault, Recorded, WitnessEnd, load_recipe,
+    recipe_message_of, recipe_status_of, run_belongs, run_print, run_recipe_for_witness,
+    run_recipes,
+};
+use std::io;
+
+/// A recipe whose turn it is, opened.
+fn opened_recipe(rt: &HostRuntime, recipe: Named) -> NamedRecipe<Counted<Source>> {
+    let NamedFrame { name, reader } = opened(rt, recipe);
+    NamedRecipe { name, reader }
+}
+
+/// Tells how a run ended, by a fault's message and the exit status.
+fn tell(rt: &HostRuntime, end: &Result<FrameOutcome, RecipeRunFault>) -> u8 {
+    if let Err(fault) = end {
+        say(rt, recipe_message_of(fault));
+    }
+    recipe_status_of(end)
+}
+
+/// Judges recipes, and tells how that ended.
+pub fn run_recipe(rt: &HostRuntime, args: RecipeArgs) -> u8 {
+    tell_frames(rt, &judge(rt, args))
+}
+
+/// Reads the ROM, and then judges recipe after recipe: each file is opened when the one before it is closed.
+fn judge(rt: &HostRuntime, args: RecipeArgs) -> Result<FrameOutcome, RunFault> {
+    let RecipeArgs {
+        rom,
+        recipes,
+        options,
+        labels,
+        output,
+    } = args;
+    let rom = load_rom(&mut Counted::new(open(rt, rom, RunFault::ReadRom)?))?;
+    match output {
+        Some(path) => judge_for_witness(rt, rom.as_slice(), &options, labels, recipes, path),
+        None => run_recipes(
+            rt.alloc(),
+            rom.as_slice(),
+            &options,
+            labels,
+            recipes.into_iter().map(|recipe| opened_recipe(rt, recipe)),
+            &mut Counted::new(io::writer(rt)),
+        ),
+    }
+}
+
+/// Judges the one recipe, and has the frame that shows why it is refused at this path in the end, or, if there is none, what was there.
+fn judge_for_witness(
+    rt: &HostRuntime,
+    rom: &[u8],
+    options: &RecipeOptions,
+    labels: Option<&Labels>,
+    recipes: Vec<Named>,
+    path: &str,
+) -> Result<FrameOutcome, RunFault> {
+    let mut recipes = recipes;
+    let Some(recipe) = recipes.pop() else {
+        return Ok(FrameOutcome::Accepted);
+    };
+    let output = Output::open(rt, path).map_err(|error| unwritten(&error))?;
+    let judged = run_recipe_for_witness(
+        rt.alloc(),
+        rom,
+        options,
+        labels,
+        opened_recipe(rt, recipe),
+        &mut Counted::new(io::writer(rt)),
+        &mut Counted::new(output.file()),
+    );
+    match judged {
+        Ok(
+            WitnessEnd {
+                is_written: true,
+                ..
+            },
+        ) => output.keep(rt).map_err(|error| unwritten(&error))?,
+        _ => output.discard(rt),
+    }
+    Ok(judged?.outcome)
+}
+
+/// The fault of a file that could not be written.
+fn unwritten(error: &io::Error) -> RunFault {
+    if error.kind() == io::ErrorKind::OutOfMemory {
+        RunFault::Memory
+    } else {
+        RunFault::Write
+    }
+}
+
+/// Prints a recipe, and tells how that ended.
+pub fn run_print_of(rt: &HostRuntime, recipe: &Named, labels: Option<&Labels>) -> u8 {
+    tell(rt, &print(rt, recipe, labels))
+}
+
+fn print(
+    rt: &HostRuntime,
+    recipe: &Named,
+    labels: Option<&Labels>,
+) -> Result<FrameOutcome, RecipeRunFault> {
+    let file = open(rt, recipe.input, RecipeRunFault::ReadRecipe)?;
+    run_print(
+        rt.alloc(),
+        recipe.name.as_str(),
+        &mut Counted::new(file),
+        labels,
+        &mut Counted::new(io::writer(rt)),
+        &mut Counted::new(rt.stderr()),
+    )
+}
+
+/// Tells of frames whether they are a recipe's, and tells how that ended.
+pub fn run_belonging(rt: &HostRuntime, args: BelongsArgs) -> u8 {
+    let BelongsArgs { frames, asked } = args;
+    match frames {
+        FrameNames::Given(named) => {
+            let frames = named.into_iter().map(|frame| opened(rt, frame));
+            tell(rt, &belong(rt, &asked, frames))
+        }
+        FrameNames::Listed(input, end) => match List::open(rt, input, end) {
+            Ok(mut list) => {
+                // No list has so many names.
+                let frames = (0..u64::MAX).map_while(|_| list.next_frame(rt));
+                let end = belong(rt, &asked, frames);
+                tell_listed(rt, end, list.fault())
+            }
+            Err(fault) => tell_list(rt, fault),
+        },
+    }
+}
+
+/// Reads the ROM and the recipe, and then frame after frame.
+fn belong<I: Iterator<Item = NamedFrame<Counted<Source>>> + Drop>(
+    rt: &HostRuntime,
+    asked: &BelongsAsked,
+    frames: I,
+) -> Result<FrameOutcome, RecipeRunFault>
+    requires can { I.can_next frames }
+    requires ends { IsFinite (I.remaining frames) }
+{
+    let rom = load_rom(&mut Counted::new(open(rt, asked.rom, RunFault::ReadRom)?))?;
+    let file = open(rt, asked.recipe, RecipeRunFault::ReadRecipe)?;
+    let recipe = load_recipe(rt.alloc(), &mut Counted::new(file), asked.labels)?;
+    let given = Recorded {
+        rom: rom.as_slice(),
+        map: asked.map,
+        recipe: &recipe,
+    };
+    let mut out = Counted::new(io::writer(rt));
+    Ok(run_belongs(rt.alloc(), &given, frames, asked.listing, &mut out)?)
+}
+
+/// Tells how a run over the frames of a list ended, which gave no name behind this fault.
+fn tell_listed(
+    rt: &HostRuntime,
+    end: Result<FrameOutcome, RecipeRunFault>,
+    fault: Option<ListFault>,
+) -> u8 {
+    match (end, fault) {
+        (Ok(outcome), Some(fault)) => {
+            say(rt, fault.message());
+            recipe_status_of(&Ok(outcome.or_worse(fault.outcome())))
+        }
+        (end, _) => tell(rt, &end),
+    }
+}
