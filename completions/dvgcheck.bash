@@ -22,11 +22,12 @@ _dvgcheck() {
     diff) options='--board --frame --rom --labels -h --help' ;;
     recipe) options='--board --rom --budget --window --clip --labels -o --output --print -h --help' ;;
     belongs) options='--board --rom --labels --list --null --only-outside --summary -h --help' ;;
-    explain) options='frames check make belongs help -h --help' ;;
+    explain) options='frames check make belongs recipe help -h --help' ;;
     'explain frames') options='--board --rom --cert --budget --window --clip --start --labels -h --help' ;;
     'explain check') options='--board --budget --window --clip --exact --labels -h --help' ;;
     'explain make') options='--board --frame --rom --labels -h --help' ;;
     'explain belongs') options='--board --rom --labels -h --help' ;;
+    'explain recipe') options='--board --rom --budget --window --clip --labels -h --help' ;;
     rules) options='-h --help' ;;
     help | 'explain help') options='frames check make places diff recipe belongs explain rules' ;;
   esac

@@ -94,6 +94,7 @@ complete -c dvgcheck -n '__dvgcheck_in only explain' -a frames -d 'Judges frames
 complete -c dvgcheck -n '__dvgcheck_in only explain' -a check -d 'Judges a frame by a certificate'
 complete -c dvgcheck -n '__dvgcheck_in only explain' -a make -d 'Makes a certificate of shapes'
 complete -c dvgcheck -n '__dvgcheck_in only explain' -a belongs -d 'Tells where frames leave a recipe'
+complete -c dvgcheck -n '__dvgcheck_in only explain' -a recipe -d 'Tells why a recipe is refused, or what is known in it'
 complete -c dvgcheck -n '__dvgcheck_in only explain' -a help -d 'Prints help'
 
 complete -c dvgcheck -n '__dvgcheck_in explain frames' -l board -d 'Judges for a board of the DVG'
@@ -124,6 +125,14 @@ complete -c dvgcheck -n '__dvgcheck_in explain belongs' -l board -d 'Changes not
 complete -c dvgcheck -n '__dvgcheck_in explain belongs' -l rom -x -d 'The word addresses of the ROM\'s first and last word'
 complete -c dvgcheck -n '__dvgcheck_in explain belongs' -l labels -r -F -d 'The labels of the program'
 complete -c dvgcheck -n '__dvgcheck_in explain belongs' -s h -l help -d 'Prints help'
+
+complete -c dvgcheck -n '__dvgcheck_in explain recipe' -l board -d 'Changes nothing'
+complete -c dvgcheck -n '__dvgcheck_in explain recipe' -l rom -x -d 'The word addresses of the ROM\'s first and last word'
+complete -c dvgcheck -n '__dvgcheck_in explain recipe' -l budget -x -d 'How many words a frame may take at most'
+complete -c dvgcheck -n '__dvgcheck_in explain recipe' -l window -x -d 'Where the screen may be lit'
+complete -c dvgcheck -n '__dvgcheck_in explain recipe' -l clip -d 'Lets lit strokes reach from -1024 to 2047'
+complete -c dvgcheck -n '__dvgcheck_in explain recipe' -l labels -r -F -d 'The labels of the program'
+complete -c dvgcheck -n '__dvgcheck_in explain recipe' -s h -l help -d 'Prints help'
 
 complete -c dvgcheck -n '__dvgcheck_in rules' -f
 complete -c dvgcheck -n '__dvgcheck_in rules' -s h -l help -d 'Prints help'

@@ -6,6 +6,7 @@ An item is a tuple: ("vctr", scale, x, y, bright), ("svec", code, x, y, bright) 
 
 MISSING = ("missing",)
 LONG = ("vctr", "labs")
+FIXED = (*LONG, "svec", "jsrl")     # what a line `words` may have
 
 
 def length(item):
@@ -85,6 +86,15 @@ def item_at(words, index):
     is_last = index + 1 == len(words)
     item = item_of(words[index], 0 if is_last else words[index + 1])
     return MISSING if is_last and length(item) == 2 else item
+
+
+def fixed(words):
+    """The items of these words, each of four hexadecimal digits."""
+    numbers, at, items = [int(word, 16) for word in words], 0, []
+    while at < len(numbers):
+        items.append(item_at(numbers, at))
+        at += length(items[-1])
+    return items
 
 
 def frame_items(words):

@@ -1,10 +1,10 @@
-"""Holds `dvgcheck recipe` and `dvgcheck belongs` to every member of small random recipes:
+"""Holds `dvgcheck recipe`, `explain recipe` and `dvgcheck belongs` to every member of small random recipes:
 model.py --frames 'PROGRAM' [--recipe 'PROGRAM'] [--count RECIPES] [--seed SEED] [--first LOT]
 
 Each member of a recipe is written out as a frame and judged by `frames --board`. From these answers follow that of `recipe`, which is to
-be just that line, and whether there is a witness; the witness is to be a member, refused with the same number at the same line. What
-`belongs` says of members, and of members with one word changed, is to be what their items say. The first difference ends the run; the
-lot that it names begins it again, by --first.
+be just that line, and whether there is a witness; the witness is to be a member, refused with the same number at the same line. The
+account is to tell of all members what accounts.py finds. What `belongs` says of members, and of members with one word changed, is to be
+what their items say. The first difference ends the run; the lot that it names begins it again, by --first.
 """
 
 import argparse
@@ -14,6 +14,7 @@ import sys
 import tempfile
 from typing import NamedTuple
 
+from accounts import account
 from answers import Shapes, Strange, answer, length_refusal, refusal
 from chances import FIRST, Asked, Chance, Rom, some_question, some_recipe, some_rom
 from items import as_bytes, as_long, as_words, frame_items
@@ -162,6 +163,17 @@ def try_recipe(programs, lot, case, wanted):
     return words
 
 
+def try_account(programs, lot, case, wanted, witness):
+    """Compares the account of `explain recipe`: all of it for an accepted recipe, else the lines that no other account has."""
+    words = [*programs.recipe, "explain", "recipe", "--rom", lot.rom.map(), *lot.asked.options, "rom", case.name + ".recipe"]
+    line, *found = programs.run(words).stdout.splitlines()
+    told = account(case, lot.rom, wanted, witness)
+    if wanted.number:
+        found = found[:len(told)]
+    if line != f"{case.name}.recipe: {wanted.told}" or found != told:
+        differs(lot, case, "the account of `explain recipe`", "\n".join([wanted.told, *told]), "\n".join([line, *found]))
+
+
 def try_witness(lot, case, wanted, words, told, shapes):
     """Whether a witness, of which `frames` says this, is a member that is refused as the recipe is."""
     items = tuple(item for _, item in frame_items(words))
@@ -262,6 +274,8 @@ def try_lot(programs, lot):
     wanted = [wanted_answer(lot, case, lines, shapes) for case, lines in zip(lot.cases, told)]
     witnesses = [try_recipe(programs, lot, case, one) for case, one in zip(lot.cases, wanted)]
     try_witnesses(programs, lot, wanted, witnesses, shapes)
+    for case, one, witness in zip(lot.cases, wanted, witnesses):
+        try_account(programs, lot, case, one, witness)
     for case, one in zip(lot.cases, wanted):
         if one.number == 57:
             try_too_long(programs, lot, case, one)

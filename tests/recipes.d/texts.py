@@ -1,9 +1,10 @@
-"""The text of a recipe, read into what it says. No fault is looked for: the model writes the texts itself."""
+"""The text of a recipe, read into what it says."""
 
 from itertools import product
 from typing import NamedTuple
 
-from items import item_at, length
+import grammar
+from items import fixed
 
 
 class Leaf(NamedTuple):
@@ -50,21 +51,11 @@ def places(words):
     return [("labs", x, y, int(scale)) for x, y, scale in product(span(words[1:3]), span(words[3:5]), words[6:])]
 
 
-def fixed(words):
-    """The items of a `words` line."""
-    numbers, at, items = [int(word, 16) for word in words[1:]], 0, []
-    while at < len(numbers):
-        items.append(item_at(numbers, at))
-        at += length(items[-1])
-    return items
-
-
 class Reader:
     """Goes over the lines."""
 
     def __init__(self, text):
-        said = [(number, line.split()) for number, line in enumerate(text.splitlines(), 1)]
-        self.left = [(line, words) for line, words in said[1:] if words and not words[0].startswith(";")]
+        self.left = [(line.number, line.words) for line in grammar.read(text.encode(), {})[1:]]
         self.lists, self.areas, self.names, self.pieces = [], {}, {}, 0
 
     def recipe(self):
@@ -117,7 +108,7 @@ class Reader:
     def choices(self, words):
         """What each item of the line may be."""
         if words[0] == "words":
-            return [[item] for item in fixed(words)]
+            return [[item] for item in fixed(words[1:])]
         if words[0] == "call":
             return [[("jsrl", address) for address in self.addresses(words[1:])]]
         if words[0] == "jump":

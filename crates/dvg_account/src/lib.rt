@@ -2,8 +2,9 @@
 //!
 //! An account is a list of [`Line`]s, each with the value that it tells. [`verdict_lines`], [`frame_lines`] and [`own_lines`]
 //! answer the lines of a verdict, [`made_lines`] and [`unmade_lines`] those of an answer of the maker, [`plain_lines`] those of a
-//! refusal before any item was judged, [`leaving_lines`] that of a frame that leaves a recipe, and their contracts say which lines there are. Beside each of them stands a call that answers
-//! the same account as a text, such as [`verdict_text`].
+//! refusal before any item was judged, [`leaving_lines`] that of a frame that leaves a recipe, and their contracts say which lines there
+//! are. Beside each of them stands a call that answers the same account as a text, such as [`verdict_text`]. [`recipe_text`] spells the
+//! lines of a recipe's account, which the caller finds.
 #![tactic(auto)]
 
 mod accepted;
@@ -20,6 +21,7 @@ mod making;
 mod meant;
 mod middle;
 mod own;
+mod recipes;
 mod refused;
 mod remarks;
 mod sentences;
@@ -41,6 +43,7 @@ pub use line::{
 pub use making::{made_lines, unmade_lines};
 pub use middle::Middle;
 pub use own::{frame_lines, own_lines};
+pub use recipes::{KnownBefore, RecipeLine, recipe_text};
 pub use remarks::{Beginning, Remark};
 pub use swapped::{Swapped, find_swapped};
 pub use texts::{

@@ -179,3 +179,7 @@ recipe_those recipe items here between after h k l =
 pub if_ok_on : {X Y : Type 0} → (r : Result X Y) (P Q : X → Type 0) → ((x : X) → P x → Q x) → IfOk r P → IfOk r Q
 if_ok_on (Ok x) P Q h k = h x k
 if_ok_on (Err e) P Q h k = tt
+
+pub if_ok_both : {X Y : Type 0} → (r : Result X Y) (P Q : X → Type 0) → IfOk r P → IfOk r Q → IfOk r (λ x. P x × Q x)
+if_ok_both (Ok x) P Q h k = (h, k)
+if_ok_both (Err e) P Q h k = tt

@@ -6,7 +6,7 @@ use Rattle.dvg_recipe.specs.Limits.{PartFits, RowFits, JumpsFit, MOST_LEVELS, MO
 use Rattle.dvg_recipe.specs.Recipes.{Part, Row, Then', Either', Repeat', Piece, Jump, Area, AddsRow, AddsJump, Spells, SpellsJumps, Times, BeginsAt}
 use Rattle.dvg_recipe.specs.Private.Hulls.{Hull, AreUnder, LeadOn}
 use Rattle.dvg_recipe.specs.Private.Judging.{Adds, Both, Turns, IsTaken, IsJump, IsGoodFront, Carries, IsWithin, IsFirst, AreListStarts, IsCounted}
-use Rattle.dvg_recipe.proofs.Judging.{extends_part, good_under, carries_both, carries_under, carries_either, carries_piece, carries_jump, carries_row_next, turn_next, turns_more, carries_jumps_next}
+use Rattle.dvg_recipe.proofs.Judging.{extends_part, good_under, carries_same, carries_row_whole, carries_both, carries_under, carries_either, carries_piece, carries_jump, carries_row_next, turn_next, turns_more, carries_jumps_next}
 
 -- ---- hulls behind hulls
 
@@ -36,6 +36,12 @@ module _ (w : Window) (list : List Entry) (budget : ℕ) where
   pub row_next : (row : List Piece) (i n : ℕ) (d : Piece) (xs ys zs : List Hull) → n ≡ suc i → i < length row → Carries w list budget (AddsRow (take i row)) xs ys → LeadOn w list budget (IsTaken (get_or row i d).kind) ys zs → Carries w list budget (AddsRow (take n row)) xs zs
   row_next row i n d xs ys zs is lt h on = carries_row_next w list budget row i n d xs ys zs is lt h (carries_piece w list budget (get_or row i d) ys zs on)
 
+  pub row_one : (row : List Piece) (d : Piece) (xs ys : List Hull) → length row ≡ 1 → LeadOn w list budget (IsTaken (get_or row 0 d).kind) xs ys → Carries w list budget (AddsRow row) xs ys
+  row_one row d xs ys one on = carries_row_whole w list budget row xs ys 1 (omega (arith, one)) (row_next row 0 1 d xs xs ys refl (omega (arith, one)) (carries_same w list budget xs) on)
+
+  pub behind_under : (R : Adds) (xs ys all : List Hull) → AreUnder ys all → Carries w list budget R xs ys → Carries w list budget R xs all
+  behind_under R xs ys all u h = carries_under w list budget R xs ys all u h
+
   pub then_both : (a b : Part) (xs ys zs : List Hull) → Carries w list budget (Spells a) xs ys → Carries w list budget (Spells b) ys zs → Carries w list budget (Both (Spells a) (Spells b)) xs zs
   then_both a b xs ys zs h k = carries_both w list budget (Spells a) (Spells b) xs ys zs (extends_part b) h k
 
@@ -46,9 +52,12 @@ module _ (w : Window) (list : List Entry) (budget : ℕ) where
     pub one_turn : (n m : ℕ) (xs ys zs : List Hull) → m ≡ suc n → Carries w list budget (Times n (Spells body)) xs ys → Carries w list budget (Spells body) ys zs → Carries w list budget (Times m (Spells body)) xs zs
     one_turn n m xs ys zs is h k = turn_next w list budget (Spells body) n m xs ys zs is (extends_part body) h k
 
-    pub least_turns : (least : ℕ) (xs ys zs : List Hull) → ys ≡ zs → Carries w list budget (Times least (Spells body)) xs ys → Carries w list budget (Turns least least (Spells body)) xs zs
-    least_turns least xs ys zs is h =
-        subst (λ (l : List Hull). Carries w list budget (Turns least least (Spells body)) xs l) is
+    pub times_none : (xs ys : List Hull) → xs ≡ ys → Carries w list budget (Times 0 (Spells body)) xs ys
+    times_none xs ys is = subst (λ (l : List Hull). Carries w list budget (Times 0 (Spells body)) xs l) is (carries_same w list budget xs)
+
+    pub least_turns : (least : ℕ) (xs ys zs : List Hull) → AreUnder ys zs → Carries w list budget (Times least (Spells body)) xs ys → Carries w list budget (Turns least least (Spells body)) xs zs
+    least_turns least xs ys zs u h =
+        carries_under w list budget (Turns least least (Spells body)) xs ys zs u
         (record { each = λ words before after t f good. h.each words before after (subst (λ n. Times n (Spells body) before after) (omega (arith, t.1, t.2)) t.3) f good })
 
     pub more_turns : (least n m : ℕ) (xs here next more : List Hull) → m ≡ suc n → Carries w list budget (Turns least n (Spells body)) xs next → Carries w list budget (Times m (Spells body)) xs here → AreUnder next more → AreUnder here more → Carries w list budget (Turns least m (Spells body)) xs more

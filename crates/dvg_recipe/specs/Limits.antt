@@ -1,5 +1,6 @@
 -- Limits of recipes. All of it is this project's own.
-use Rattle.std.specs.Prelude.{◌≡◌, ◌⊎◌, ◌≤◌, ◌<◌, ◌≤ℤ◌, ◌-◌, ℕ, suc, ℤ, pos, negsuc, true, List, [], ◌∷◌, Contains, Some, length}
+use Rattle.std.specs.Prelude.{◌≡◌, ◌⊎◌, ◌≤◌, ◌<◌, ◌≤ℤ◌, ◌+◌, ◌*◌, ◌-◌, ℕ, suc, ℤ, pos, negsuc, true, List, [], ◌∷◌, Contains, Some, length, min}
+use Rattle.std.specs.List.{sum_by}
 use Rattle.dvg_words.specs.declared.machine.Machine.TheVariants.{Board}
 use Rattle.dvg_words.specs.declared.instruction.Instr.TheVariants.{Draw as Draws, Labs, Jsrl}
 use Rattle.dvg_words.specs.declared.instruction.Format.{Format}
@@ -10,6 +11,7 @@ use Rattle.dvg_words.specs.declared.map.TheConstants.{ADDRESS_END, RAM_WORDS}
 use Rattle.dvg_words.specs.Decoding.{cell_of_words}
 use Rattle.dvg_recipe.specs.Recipes.{Recipe, Area, Span, DrawRange, Piece, PieceKind, Place, Call, Draw, Fixed, Part, Row, Then', Either', Repeat', Jump}
 pub use Rattle.dvg_recipe.specs.declared.limits.TheConstants.{MOST_LISTS, MOST_PIECES, MOST_TURNS, MOST_LEVELS, MOST_NESTED}
+pub use Rattle.dvg_recipe.specs.declared.options.TheConstants.{MOST_OPTIONS}
 
 -- ---- pieces
 
@@ -93,6 +95,26 @@ Numbered (Then' p a q b) n m = (k : ℕ) × Numbered a n k × Numbered b k m
 Numbered (Either' p a q b) n m = (k : ℕ) × Numbered a n k × Numbered b k m
 Numbered (Repeat' least most p body) n m = Numbered body n m
 
+-- ---- options
+
+-- for how many instructions to choose from the piece counts: each address of a call, each of the 16 global scales of a place (profile)
+abbrev pub piece_options : PieceKind → ℕ
+piece_options (Place r) = 16
+piece_options (Call targets) = length targets.items
+piece_options (Draw r) = 1
+piece_options (Fixed first second) = 1
+
+-- those of the part in so many turns, with its repeats written out, but in no more turns than a list has words (profile)
+abbrev pub options : ℕ → Part → ℕ
+options turns (Row row) = turns * sum_by (λ (piece : Piece). piece_options piece.kind) row.items
+options turns (Then' p a q b) = options turns a + options turns b
+options turns (Either' p a q b) = options turns a + options turns b
+options turns (Repeat' least most p body) = options (min (turns * most) MOST_TURNS) body
+
+-- those of all parts
+abbrev pub all_options : Part → List Jump → ℕ
+all_options body jumps = options 1 body + sum_by (λ (jump : Jump). options 1 jump.body) jumps
+
 -- ---- areas
 
 -- the area has words, is in vector RAM, and begins at a word address or behind it (profile)
@@ -130,3 +152,4 @@ pub record IsRecipe (recipe : Recipe) : Type 0 where
   pub numbered : Numbered recipe.body 0 number
   pub jumps : JumpsFit recipe.jumps word number recipe.halt
   pub pieces : recipe.halt < MOST_PIECES
+  pub options : all_options recipe.body recipe.jumps ≤ MOST_OPTIONS

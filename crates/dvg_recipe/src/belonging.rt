@@ -75,6 +75,7 @@ fn past_piece(
 }
 
 /// The indices behind the items that a row allows.
+#[inline(never)]
 fn past_row(
     alloc: Global,
     items: &[Item],
@@ -124,6 +125,7 @@ fn past_part(
 
 /// The indices behind `least` to `most` turns of a part.
 #[cycle(past_part)]
+#[inline(never)]
 fn past_repeat(
     body: &Part,
     alloc: Global,

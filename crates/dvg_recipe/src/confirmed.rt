@@ -7,12 +7,12 @@ ghost use Rattle.dvg_cert.specs.declared.limits.TheConstants.{MOST_WORDS};
 ghost use Rattle.dvg_check.specs.declared.verdict.Yes.{Yes as YesValue};
 ghost use Rattle.dvg_recipe.specs.Members.{IsMemberVerdict, judged_number, recipe_number};
 
-use crate::belonging::belongs;
+use crate::belonging::{NotMember, belongs};
 use crate::judge::Asked;
 use crate::recipe::Recipe;
 use crate::roots::roots_of;
 use crate::verdict::RecipeRefusal;
-use crate::witness::{Stop, find};
+use crate::witness::{LeadingFrame, Stop, find};
 use dvg_cert::{Cert, HashIndex, Key};
 use dvg_check::{ShapeFault, Yes};
 use dvg_make::{FrameRefusal, MakeFault, judge, make};
@@ -26,6 +26,15 @@ pub struct RefusedFrame {
     pub frame: Vec<u8>,
     /// How [`judge`] refuses it.
     pub refusal: FrameRefusal,
+    /// In which turns, counted from 1, the repeats around the piece are by which the recipe is refused, the outermost first (only tested).
+    pub turns: Vec<u16>,
+}
+
+/// A frame that is not confirmed yet.
+#[derive(Drop)]
+struct FoundFrame {
+    frame: Vec<u8>,
+    turns: Vec<u16>,
 }
 
 /// The bytes of words, the low byte of each word first.
@@ -39,24 +48,30 @@ fn bytes_of(alloc: Global, words: &[u16]) -> Result<Vec<u8>, AllocError> {
     Ok(bytes)
 }
 
-/// How [`judge`] answers for the frame of these bytes. `None` if it is not known to be one of the recipe's.
+/// How [`judge`] answers for the frame of these bytes. `None` if it is not one of the recipe's. An `Err` says that there was no memory to find
+/// out.
 fn member_verdict(
     alloc: Global,
     rom: &RomImage,
     recipe: &Recipe,
     asked: &Asked,
     bytes: &[u8],
-) -> Option<Result<Yes, FrameRefusal>>
+) -> Result<Option<Result<Yes, FrameRefusal>>, AllocError>
     requires budget { asked.now.budget ≤ MOST_WORDS }
-    ensures { IfSome result (IsMemberVerdict rom.now recipe.now asked.now.window asked.now.budget bytes.now) }
+    ensures { IfOk result (λ found. IfSome found (IsMemberVerdict rom.now recipe.now asked.now.window asked.now.budget bytes.now)) }
 {
     let Ok(frame) = FrameImage::from_bytes(bytes) else {
-        return None;
+        return Ok(None);
     };
-    if belongs(alloc, recipe, &frame).is_err() {
-        return None;
+    match belongs(alloc, recipe, &frame) {
+        Ok(()) => {}
+        Err(NotMember::Leaves(_)) => return Ok(None),
+        Err(NotMember::Memory) => return Err(AllocError),
     }
-    Some(judge(alloc, rom, &frame, asked.budget, asked.window))
+    match judge(alloc, rom, &frame, asked.budget, asked.window) {
+        Err(FrameRefusal::NoMemory) => Err(AllocError),
+        verdict => Ok(Some(verdict)),
+    }
 }
 
 /// The number of a refusal by the judge of frames.
@@ -70,41 +85,47 @@ fn refusal_number(refusal: &FrameRefusal) -> u8
     }
 }
 
-/// A frame, if it is one of the recipe's and refused with this number.
+/// A frame, if it is one of the recipe's and refused with this number. An `Err` says that there was no memory to find out.
 fn refused_with(
     alloc: Global,
     rom: &RomImage,
     recipe: &Recipe,
     asked: &Asked,
-    frame: Vec<u8>,
+    found: FoundFrame,
     number: u8,
-) -> Option<RefusedFrame>
+) -> Result<Option<RefusedFrame>, AllocError>
     requires budget { asked.now.budget ≤ MOST_WORDS }
-    ensures { IfSome result (λ r. IsMemberVerdict rom.now recipe.now asked.now.window asked.now.budget r.frame.items (Err r.refusal) × (judged_number r.refusal ≡ number)) }
+    ensures { IfOk result (λ found. IfSome found (λ r. IsMemberVerdict rom.now recipe.now asked.now.window asked.now.budget r.frame.items (Err r.refusal) × (judged_number r.refusal ≡ number))) }
 {
-    match member_verdict(alloc, rom, recipe, asked, &frame) {
-        Some(Err(refusal)) if refusal_number(&refusal) == number => {
-            Some(RefusedFrame { frame, refusal })
-        }
-        _ => None,
+    let FoundFrame { frame, turns } = found;
+    match member_verdict(alloc, rom, recipe, asked, &frame)? {
+        Some(Err(refusal)) if refusal_number(&refusal) == number => Ok(Some(RefusedFrame {
+            frame,
+            refusal,
+            turns,
+        })),
+        _ => Ok(None),
     }
 }
 
-/// The bytes of a frame that leads to where it has to stop.
+/// A frame that leads to where it has to stop.
 fn find_bytes(
     alloc: Global,
     cert: &Cert,
     asked: &Asked,
     stop: &Stop,
     recipe: &Recipe,
-) -> Result<Option<Vec<u8>>, AllocError>
+) -> Result<Option<FoundFrame>, AllocError>
     requires budget { asked.now.budget ≤ MOST_WORDS }
 {
     // Its clause says that the list is that of a certificate.
     let _entries = cert.entries();
     let entries = HashIndex::new(alloc, cert)?;
     match find(alloc, &entries, asked, stop, recipe)? {
-        Some(words) => Ok(Some(bytes_of(alloc, &words)?)),
+        Some(LeadingFrame { words, turns }) => {
+            let frame = bytes_of(alloc, &words)?;
+            Ok(Some(FoundFrame { frame, turns }))
+        }
         None => Ok(None),
     }
 }
@@ -155,7 +176,8 @@ fn find_end(
     let Ok(cert) = make(alloc, rom, &roots.asked) else {
         return Err(AllocError);
     };
-    find_bytes(alloc, &cert, asked, stop, recipe)
+    let found = find_bytes(alloc, &cert, asked, stop, recipe)?;
+    Ok(found.map(|found| found.frame))
 }
 
 /// Where a frame has to stop to be refused so.
@@ -210,7 +232,7 @@ pub fn find_refused(
         return Err(AllocError);
     };
     match find_bytes(alloc, &cert, &asked, &stop, recipe)? {
-        Some(frame) => Ok(refused_with(alloc, rom, recipe, &asked, frame, number)),
+        Some(found) => refused_with(alloc, rom, recipe, &asked, found, number),
         None => Ok(None),
     }
 }
@@ -236,7 +258,7 @@ pub fn find_longest(
     let Some(frame) = find_end(alloc, rom, recipe, &asked, &Stop::MostWords)? else {
         return Ok(None);
     };
-    match member_verdict(alloc, rom, recipe, &asked, &frame) {
+    match member_verdict(alloc, rom, recipe, &asked, &frame)? {
         Some(Ok(yes)) if yes.words == words => Ok(Some(frame)),
         _ => Ok(None),
     }
@@ -259,7 +281,7 @@ pub fn find_deepest(
     let Some(frame) = find_end(alloc, rom, recipe, &asked, &Stop::MostDepth)? else {
         return Ok(None);
     };
-    match member_verdict(alloc, rom, recipe, &asked, &frame) {
+    match member_verdict(alloc, rom, recipe, &asked, &frame)? {
         Some(Ok(yes)) if yes.depth == depth => Ok(Some(frame)),
         _ => Ok(None),
     }

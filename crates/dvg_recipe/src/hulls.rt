@@ -9,7 +9,7 @@ use dvg_cert::Key;
 use std::alloc::AllocError;
 
 /// The least hull that has two others of one scale.
-fn joined(one: &Hull, other: &Hull) -> Hull
+pub fn joined(one: &Hull, other: &Hull) -> Hull
     ensures { result ≡ joined one.now other.now }
 {
     Hull {
@@ -20,10 +20,23 @@ fn joined(one: &Hull, other: &Hull) -> Hull
     }
 }
 
+/// Where the hull of a scale stands in a set that has a hull for each of the scales from 0 on.
+fn usual_index(scale: Key) -> usize {
+    match scale {
+        Key::At(scale) => usize::from(scale),
+        Key::Any => 0,
+    }
+}
+
 /// The hull of a scale, and its index.
 fn held(hulls: &[Hull], scale: Key) -> Option<(usize, Hull)>
     ensures { IfSome result (λ h. HasScaleAt hulls.now scale h.0 h.1) }
 {
+    let usual = usual_index(scale);
+    match hulls.get(usual) {
+        Some(hull) if hull.scale == scale => return Some((usual, *hull)),
+        _ => {}
+    }
     for (index, hull) in hulls.iter().enumerate() {
         if hull.scale == scale {
             return Some((index, *hull));
@@ -50,6 +63,7 @@ pub fn add(hulls: &mut Vec<Hull>, hull: &Hull) -> Result<(), AllocError>
 }
 
 /// Adds what other hulls have.
+#[inline(never)]
 pub fn add_all(hulls: &mut Vec<Hull>, more: &[Hull]) -> Result<(), AllocError>
     requires sound { AreSoundHulls hulls.old.items }
     requires more { AreSoundHulls more.now }

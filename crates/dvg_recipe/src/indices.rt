@@ -17,6 +17,7 @@ pub fn add(set: &mut Vec<usize>, index: usize) -> Result<(), AllocError>
 }
 
 /// Adds all indices of another set.
+#[inline(never)]
 pub fn add_all(set: &mut Vec<usize>, more: &[usize]) -> Result<(), AllocError>
     ensures { IfOk result (λ _. IsJoined set.old.items more.now set.new.items) }
 {

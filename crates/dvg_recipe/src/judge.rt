@@ -16,6 +16,7 @@ ghost use Rattle.dvg_recipe.specs.Private.Hulls.{AreUnder, AreSoundHulls, IsSoun
 use crate::changes::{changes_of, still};
 use crate::hull::{Change, Hull, Light, Places};
 use crate::hulls::{add, add_all};
+use crate::notes::{Notes, RecipeFault};
 use crate::piece::Piece;
 use crate::recipe::{Area, Jump, Part, Recipe};
 use crate::rectangles::{is_shown, moved, places_past};
@@ -30,21 +31,6 @@ use std::alloc::{AllocError, Global};
 pub struct Asked {
     pub budget: u32,
     pub window: Window,
-}
-
-/// The first piece, repeats written out, at which some frame of a recipe breaks a rule, and the rule of the lowest number.
-#[derive(Clone, Copy, Debug)]
-pub struct RecipeFault {
-    /// The number of the piece. `None` if it is the jump to a list, at word 000.
-    pub piece: Option<u16>,
-    pub why: FrameWhy,
-}
-
-/// The hulls behind the items of a piece, and the rule of the lowest number that one of them breaks.
-#[derive(Drop)]
-struct Next {
-    hulls: Vec<Hull>,
-    broken: Option<FrameWhy>,
 }
 
 /// The first rule that is broken by what is lit from some place.
@@ -107,94 +93,116 @@ fn lower(broken: Option<FrameWhy>, why: FrameWhy) -> FrameWhy {
     }
 }
 
-impl Next {
-    /// No hulls, and no rule that is broken.
-    fn new(alloc: Global) -> Next
-        ensures hulls { result.hulls.items ≡ [] }
-        ensures broken { result.broken ≡ None }
-    {
-        Next {
-            hulls: Vec::new(alloc),
-            broken: None,
-        }
+/// Adds what is known past a change from what a hull has to other hulls, and notes the rule that it breaks.
+fn put(
+    next: &mut Vec<Hull>,
+    broken: &mut Option<FrameWhy>,
+    asked: &Asked,
+    hull: &Hull,
+    change: &Change,
+) -> Result<(), AllocError>
+    requires budget { asked.now.budget ≤ MOST_WORDS }
+    requires hull { IsSoundHull hull.now }
+    requires change { IsSoundChange change.now }
+    requires sound { AreSoundHulls next.old.items }
+    ensures fine { IfOk result (λ _. broken.new ≡ None → broken.old ≡ None) }
+    ensures keeps { IfOk result (λ _. broken.new ≡ None → HullKeeps asked.now.window asked.now.budget hull.now change.now) }
+    ensures added { IfOk result (λ _. broken.new ≡ None → AreUnder (hull_past change.now hull.now ∷ []) next.new.items) }
+    ensures kept { IfOk result (λ _. AreUnder next.old.items next.new.items) }
+    ensures sound { IfOk result (λ _. AreSoundHulls next.new.items) }
+{
+    if let Some(why) = first_broken(asked, hull, change) {
+        *broken = Some(lower(*broken, why));
     }
+    if change.words + hull.words <= MOST_WORDS {
+        add(next, &hull_past(change, hull))?;
+    }
+    Ok(())
+}
 
-    /// Adds what is known past a change from what a hull has, and notes the rule that it breaks.
-    fn put(&mut self, asked: &Asked, hull: &Hull, change: &Change) -> Result<(), AllocError>
-        requires budget { asked.now.budget ≤ MOST_WORDS }
-        requires hull { IsSoundHull hull.now }
-        requires change { IsSoundChange change.now }
-        requires sound { AreSoundHulls self.old.hulls.items }
-        ensures fine { IfOk result (λ _. self.new.broken ≡ None → self.old.broken ≡ None) }
-        ensures keeps { IfOk result (λ _. self.new.broken ≡ None → HullKeeps asked.now.window asked.now.budget hull.now change.now) }
-        ensures added { IfOk result (λ _. self.new.broken ≡ None → AreUnder (hull_past change.now hull.now ∷ []) self.new.hulls.items) }
-        ensures kept { IfOk result (λ _. AreUnder self.old.hulls.items self.new.hulls.items) }
-        ensures sound { IfOk result (λ _. AreSoundHulls self.new.hulls.items) }
-    {
-        if let Some(why) = first_broken(asked, hull, change) {
-            self.broken = Some(lower(self.broken, why));
-        }
-        if change.words + hull.words <= MOST_WORDS {
-            add(&mut self.hulls, &hull_past(change, hull))?;
-        }
-        Ok(())
+/// Adds what is known past each of some changes to other hulls, and notes the rule of the lowest number that one of them breaks.
+fn put_all(
+    next: &mut Vec<Hull>,
+    broken: &mut Option<FrameWhy>,
+    asked: &Asked,
+    hull: &Hull,
+    changes: &[Change],
+) -> Result<(), AllocError>
+    requires budget { asked.now.budget ≤ MOST_WORDS }
+    requires hull { IsSoundHull hull.now }
+    requires changes { AreSoundChanges changes.now }
+    requires sound { AreSoundHulls next.old.items }
+    ensures fine { IfOk result (λ _. broken.new ≡ None → broken.old ≡ None) }
+    ensures put { IfOk result (λ _. broken.new ≡ None → AllPut asked.now.window asked.now.budget hull.now changes.now next.new.items) }
+    ensures kept { IfOk result (λ _. AreUnder next.old.items next.new.items) }
+    ensures sound { IfOk result (λ _. AreSoundHulls next.new.items) }
+{
+    for change in changes {
+        put(next, broken, asked, hull, change)?;
     }
-
-    /// Adds what is known past each of some changes.
-    fn put_all(&mut self, asked: &Asked, hull: &Hull, changes: &[Change]) -> Result<(), AllocError>
-        requires budget { asked.now.budget ≤ MOST_WORDS }
-        requires hull { IsSoundHull hull.now }
-        requires changes { AreSoundChanges changes.now }
-        requires sound { AreSoundHulls self.old.hulls.items }
-        ensures fine { IfOk result (λ _. self.new.broken ≡ None → self.old.broken ≡ None) }
-        ensures put { IfOk result (λ _. self.new.broken ≡ None → AllPut asked.now.window asked.now.budget hull.now changes.now self.new.hulls.items) }
-        ensures kept { IfOk result (λ _. AreUnder self.old.hulls.items self.new.hulls.items) }
-        ensures sound { IfOk result (λ _. AreSoundHulls self.new.hulls.items) }
-    {
-        for change in changes {
-            self.put(asked, hull, change)?;
-        }
-        Ok(())
-    }
-
-    /// The hulls behind a piece of this number. The first fault is noted.
-    fn done(self, fault: &mut Option<RecipeFault>, piece: Option<u16>) -> Vec<Hull>
-        ensures fine { IfFine fault.old fault.new (self.broken ≡ None) }
-        ensures hulls { result.items ≡ self.hulls.items }
-    {
-        if let (None, Some(why)) = (*fault, self.broken) {
-            *fault = Some(RecipeFault { piece, why });
-        }
-        self.hulls
-    }
+    Ok(())
 }
 
 /// The hulls behind a jump of this number. The first fault is noted.
 pub fn past_jump(
     alloc: Global,
     asked: &Asked,
-    fault: &mut Option<RecipeFault>,
+    notes: &mut Notes,
     number: Option<u16>,
     here: &[Hull],
 ) -> Result<Vec<Hull>, AllocError>
     requires budget { asked.now.budget ≤ MOST_WORDS }
     requires here { AreSoundHulls here.now }
-    ensures leads { IfOk result (λ next. IfFine fault.old fault.new ((list : List Entry) → LeadOn asked.now.window list asked.now.budget IsJump here.now next.items)) }
+    ensures leads { IfOk result (λ next. IfFine notes.old notes.new ((list : List Entry) → LeadOn asked.now.window list asked.now.budget IsJump here.now next.items)) }
     ensures sound { IfOk result (λ next. AreSoundHulls next.items) }
 {
-    let mut next = Next::new(alloc);
+    let mut next = Vec::new(alloc);
+    let mut broken = None;
     for hull in here {
-        next.put_all(asked, hull, &[still(hull.scale)])?;
+        notes.see(number, hull, &[]);
+        put_all(&mut next, &mut broken, asked, hull, &[still(hull.scale)])?;
     }
-    Ok(next.done(fault, number))
+    notes.end(number, broken);
+    Ok(next)
+}
+
+/// Adds the hulls behind the items of a piece to others. The first fault is noted.
+#[inline(never)]
+pub fn add_piece<E: Entries>(
+    alloc: Global,
+    entries: &E,
+    asked: &Asked,
+    notes: &mut Notes,
+    piece: &Piece,
+    here: &[Hull],
+    next: &mut Vec<Hull>,
+) -> Result<(), AllocError>
+    requires entries { IsSomeCertificate (E.list entries.now) }
+    requires budget { asked.now.budget ≤ MOST_WORDS }
+    requires fits { PieceFits piece.now.kind }
+    requires here { AreSoundHulls here.now }
+    requires next { AreSoundHulls next.old.items }
+    ensures leads { IfOk result (λ _. IfFine notes.old notes.new (LeadOn asked.now.window (E.list entries.now) asked.now.budget (IsTaken piece.now.kind) here.now next.new.items)) }
+    ensures kept { IfOk result (λ _. AreUnder next.old.items next.new.items) }
+    ensures sound { IfOk result (λ _. AreSoundHulls next.new.items) }
+{
+    let mut broken = None;
+    for hull in here {
+        let changes = changes_of(alloc, entries, &piece.kind, hull.scale)?;
+        notes.see(Some(piece.number), hull, &changes);
+        put_all(next, &mut broken, asked, hull, &changes)?;
+    }
+    notes.end(Some(piece.number), broken);
+    Ok(())
 }
 
 /// The hulls behind the items of a piece. The first fault is noted.
+#[tactic(auto, using(crate::proofs::Sounds::none_sound))]
 pub fn past_piece<E: Entries>(
     alloc: Global,
     entries: &E,
     asked: &Asked,
-    fault: &mut Option<RecipeFault>,
+    notes: &mut Notes,
     piece: &Piece,
     here: &[Hull],
 ) -> Result<Vec<Hull>, AllocError>
@@ -202,15 +210,12 @@ pub fn past_piece<E: Entries>(
     requires budget { asked.now.budget ≤ MOST_WORDS }
     requires fits { PieceFits piece.now.kind }
     requires here { AreSoundHulls here.now }
-    ensures leads { IfOk result (λ next. IfFine fault.old fault.new (LeadOn asked.now.window (E.list entries.now) asked.now.budget (IsTaken piece.now.kind) here.now next.items)) }
+    ensures leads { IfOk result (λ next. IfFine notes.old notes.new (LeadOn asked.now.window (E.list entries.now) asked.now.budget (IsTaken piece.now.kind) here.now next.items)) }
     ensures sound { IfOk result (λ next. AreSoundHulls next.items) }
 {
-    let mut next = Next::new(alloc);
-    for hull in here {
-        let changes = changes_of(alloc, entries, &piece.kind, hull.scale)?;
-        next.put_all(asked, hull, &changes)?;
-    }
-    Ok(next.done(fault, Some(piece.number)))
+    let mut next = Vec::new(alloc);
+    add_piece(alloc, entries, asked, notes, piece, here, &mut next)?;
+    Ok(next)
 }
 
 /// The hulls behind the items of a row. The first fault is noted.
@@ -218,7 +223,7 @@ fn past_row<E: Entries>(
     alloc: Global,
     entries: &E,
     asked: &Asked,
-    fault: &mut Option<RecipeFault>,
+    notes: &mut Notes,
     row: &[Piece],
     here: Vec<Hull>,
 ) -> Result<Vec<Hull>, AllocError>
@@ -226,81 +231,167 @@ fn past_row<E: Entries>(
     requires budget { asked.now.budget ≤ MOST_WORDS }
     requires fits { RowFits row.now }
     requires here { AreSoundHulls here.items }
-    ensures carries { IfOk result (λ next. IfFine fault.old fault.new (Carries asked.now.window (E.list entries.now) asked.now.budget (AddsRow row.now) here.items next.items)) }
+    ensures carries { IfOk result (λ next. IfFine notes.old notes.new (Carries asked.now.window (E.list entries.now) asked.now.budget (AddsRow row.now) here.items next.items)) }
     ensures sound { IfOk result (λ next. AreSoundHulls next.items) }
 {
     let mut here = here;
     for piece in row {
-        here = past_piece(alloc, entries, asked, fault, piece, &here)?;
+        here = past_piece(alloc, entries, asked, notes, piece, &here)?;
     }
     Ok(here)
 }
 
+/// Adds the hulls behind the items of a row to others. The first fault is noted.
+fn add_pieces<E: Entries>(
+    alloc: Global,
+    entries: &E,
+    asked: &Asked,
+    notes: &mut Notes,
+    row: &[Piece],
+    here: &[Hull],
+    next: &mut Vec<Hull>,
+) -> Result<(), AllocError>
+    requires entries { IsSomeCertificate (E.list entries.now) }
+    requires budget { asked.now.budget ≤ MOST_WORDS }
+    requires fits { RowFits row.now }
+    requires here { AreSoundHulls here.now }
+    requires next { AreSoundHulls next.old.items }
+    ensures carries { IfOk result (λ _. IfFine notes.old notes.new (Carries asked.now.window (E.list entries.now) asked.now.budget (AddsRow row.now) here.now next.new.items)) }
+    ensures kept { IfOk result (λ _. AreUnder next.old.items next.new.items) }
+    ensures sound { IfOk result (λ _. AreSoundHulls next.new.items) }
+{
+    let copy = Vec::from_slice(alloc, here)?;
+    let behind = past_row(alloc, entries, asked, notes, row, copy)?;
+    add_all(next, &behind)
+}
+
+/// Adds the hulls behind the items of a row to others. The first fault is noted.
+#[tactic(auto, using(crate::proofs::Sounds::piece_at))]
+#[inline(never)]
+fn add_row<E: Entries>(
+    alloc: Global,
+    entries: &E,
+    asked: &Asked,
+    notes: &mut Notes,
+    row: &[Piece],
+    here: &[Hull],
+    next: &mut Vec<Hull>,
+) -> Result<(), AllocError>
+    requires entries { IsSomeCertificate (E.list entries.now) }
+    requires budget { asked.now.budget ≤ MOST_WORDS }
+    requires fits { RowFits row.now }
+    requires here { AreSoundHulls here.now }
+    requires next { AreSoundHulls next.old.items }
+    ensures carries { IfOk result (λ _. IfFine notes.old notes.new (Carries asked.now.window (E.list entries.now) asked.now.budget (AddsRow row.now) here.now next.new.items)) }
+    ensures kept { IfOk result (λ _. AreUnder next.old.items next.new.items) }
+    ensures sound { IfOk result (λ _. AreSoundHulls next.new.items) }
+{
+    if row.len() == 1 {
+        return add_piece(alloc, entries, asked, notes, &row[0], here, next);
+    }
+    add_pieces(alloc, entries, asked, notes, row, here, next)
+}
+
+/// Adds the hulls behind the items of a part to others. The first fault is noted.
+#[tactic(auto, using(crate::proofs::Sounds::none_sound))]
+#[cycle(add_part)]
+pub fn add_part<E: Entries>(
+    part: &Part,
+    alloc: Global,
+    entries: &E,
+    asked: &Asked,
+    notes: &mut Notes,
+    here: &[Hull],
+    next: &mut Vec<Hull>,
+) -> Result<(), AllocError>
+    requires entries { IsSomeCertificate (E.list entries.now) }
+    requires budget { asked.now.budget ≤ MOST_WORDS }
+    requires fits { IsWithin part.now }
+    requires here { AreSoundHulls here.now }
+    requires next { AreSoundHulls next.old.items }
+    ensures carries { IfOk result (λ _. IfFine notes.old notes.new (Carries asked.now.window (E.list entries.now) asked.now.budget (Spells part.now) here.now next.new.items)) }
+    ensures kept { IfOk result (λ _. AreUnder next.old.items next.new.items) }
+    ensures sound { IfOk result (λ _. AreSoundHulls next.new.items) }
+{
+    match part {
+        Part::Row(row) => add_row(alloc, entries, asked, notes, row, here, next),
+        Part::Then(first, second) => {
+            let mut between = Vec::new(alloc);
+            add_part(first, alloc, entries, asked, notes, here, &mut between)?;
+            add_part(second, alloc, entries, asked, notes, &between, next)
+        }
+        Part::Either(one, other) => {
+            add_part(one, alloc, entries, asked, notes, here, next)?;
+            add_part(other, alloc, entries, asked, notes, here, next)
+        }
+        Part::Repeat { least, most, body } => {
+            add_repeat(
+                body, alloc, entries, asked, notes, *least, *most, here, next,
+            )
+        }
+    }
+}
+
+/// Adds the hulls behind `least` to `most` turns of a part to others. The first fault is noted.
+#[tactic(auto, using(crate::proofs::Sounds::none_sound))]
+#[cycle(add_part)]
+#[inline(never)]
+fn add_repeat<E: Entries>(
+    body: &Part,
+    alloc: Global,
+    entries: &E,
+    asked: &Asked,
+    notes: &mut Notes,
+    least: u16,
+    most: u16,
+    here: &[Hull],
+    next: &mut Vec<Hull>,
+) -> Result<(), AllocError>
+    requires entries { IsSomeCertificate (E.list entries.now) }
+    requires budget { asked.now.budget ≤ MOST_WORDS }
+    requires fits { IsWithin body.now }
+    requires turns { least ≤ most }
+    requires here { AreSoundHulls here.now }
+    requires next { AreSoundHulls next.old.items }
+    ensures carries { IfOk result (λ _. IfFine notes.old notes.new (Carries asked.now.window (E.list entries.now) asked.now.budget (Turns least most (Spells body.now)) here.now next.new.items)) }
+    ensures kept { IfOk result (λ _. AreUnder next.old.items next.new.items) }
+    ensures sound { IfOk result (λ _. AreSoundHulls next.new.items) }
+{
+    let mut there = Vec::from_slice(alloc, here)?;
+    for _ in 0..least {
+        let mut behind = Vec::new(alloc);
+        add_part(body, alloc, entries, asked, notes, &there, &mut behind)?;
+        there = behind;
+    }
+    add_all(next, &there)?;
+    for _ in least..most {
+        let mut behind = Vec::new(alloc);
+        add_part(body, alloc, entries, asked, notes, &there, &mut behind)?;
+        there = behind;
+        add_all(next, &there)?;
+    }
+    Ok(())
+}
+
 /// The hulls behind the items of a part. The first fault is noted.
-#[cycle(past_part)]
+#[tactic(auto, using(crate::proofs::Sounds::none_sound))]
 pub fn past_part<E: Entries>(
     part: &Part,
     alloc: Global,
     entries: &E,
     asked: &Asked,
-    fault: &mut Option<RecipeFault>,
-    here: Vec<Hull>,
+    notes: &mut Notes,
+    here: &[Hull],
 ) -> Result<Vec<Hull>, AllocError>
     requires entries { IsSomeCertificate (E.list entries.now) }
     requires budget { asked.now.budget ≤ MOST_WORDS }
     requires fits { IsWithin part.now }
-    requires here { AreSoundHulls here.items }
-    ensures carries { IfOk result (λ next. IfFine fault.old fault.new (Carries asked.now.window (E.list entries.now) asked.now.budget (Spells part.now) here.items next.items)) }
+    requires here { AreSoundHulls here.now }
+    ensures carries { IfOk result (λ next. IfFine notes.old notes.new (Carries asked.now.window (E.list entries.now) asked.now.budget (Spells part.now) here.now next.items)) }
     ensures sound { IfOk result (λ next. AreSoundHulls next.items) }
 {
-    match part {
-        Part::Row(row) => past_row(alloc, entries, asked, fault, row, here),
-        Part::Then(first, second) => {
-            let between = past_part(first, alloc, entries, asked, fault, here)?;
-            past_part(second, alloc, entries, asked, fault, between)
-        }
-        Part::Either(one, other) => {
-            let copy = Vec::from_slice(alloc, &here)?;
-            let mut next = past_part(one, alloc, entries, asked, fault, copy)?;
-            let more = past_part(other, alloc, entries, asked, fault, here)?;
-            add_all(&mut next, &more)?;
-            Ok(next)
-        }
-        Part::Repeat { least, most, body } => {
-            past_repeat(body, alloc, entries, asked, fault, *least, *most, here)
-        }
-    }
-}
-
-/// The hulls behind `least` to `most` turns of a part. The first fault is noted.
-#[cycle(past_part)]
-fn past_repeat<E: Entries>(
-    body: &Part,
-    alloc: Global,
-    entries: &E,
-    asked: &Asked,
-    fault: &mut Option<RecipeFault>,
-    least: u16,
-    most: u16,
-    here: Vec<Hull>,
-) -> Result<Vec<Hull>, AllocError>
-    requires entries { IsSomeCertificate (E.list entries.now) }
-    requires budget { asked.now.budget ≤ MOST_WORDS }
-    requires fits { IsWithin body.now }
-    requires turns { least ≤ most }
-    requires here { AreSoundHulls here.items }
-    ensures carries { IfOk result (λ next. IfFine fault.old fault.new (Carries asked.now.window (E.list entries.now) asked.now.budget (Turns least most (Spells body.now)) here.items next.items)) }
-    ensures sound { IfOk result (λ next. AreSoundHulls next.items) }
-{
-    let mut here = here;
-    for _ in 0..least {
-        here = past_part(body, alloc, entries, asked, fault, here)?;
-    }
-    let mut next = Vec::from_slice(alloc, &here)?;
-    for _ in least..most {
-        here = past_part(body, alloc, entries, asked, fault, here)?;
-        add_all(&mut next, &here)?;
-    }
+    let mut next = Vec::new(alloc);
+    add_part(part, alloc, entries, asked, notes, here, &mut next)?;
     Ok(next)
 }
 
@@ -309,7 +400,7 @@ fn past_jumps<E: Entries>(
     alloc: Global,
     entries: &E,
     asked: &Asked,
-    fault: &mut Option<RecipeFault>,
+    notes: &mut Notes,
     jumps: &[Jump],
     here: Vec<Hull>,
 ) -> Result<Vec<Hull>, AllocError>
@@ -317,13 +408,13 @@ fn past_jumps<E: Entries>(
     requires budget { asked.now.budget ≤ MOST_WORDS }
     requires fits { AreWithin jumps.now }
     requires here { AreSoundHulls here.items }
-    ensures carries { IfOk result (λ next. IfFine fault.old fault.new (Carries asked.now.window (E.list entries.now) asked.now.budget (SpellsJumps jumps.now) here.items next.items)) }
+    ensures carries { IfOk result (λ next. IfFine notes.old notes.new (Carries asked.now.window (E.list entries.now) asked.now.budget (SpellsJumps jumps.now) here.items next.items)) }
     ensures sound { IfOk result (λ next. AreSoundHulls next.items) }
 {
     let mut here = here;
     for jump in jumps {
-        let there = past_jump(alloc, asked, fault, Some(jump.number), &here)?;
-        here = past_part(&jump.body, alloc, entries, asked, fault, there)?;
+        let there = past_jump(alloc, asked, notes, Some(jump.number), &here)?;
+        here = past_part(&jump.body, alloc, entries, asked, notes, &there)?;
     }
     Ok(here)
 }
@@ -345,11 +436,11 @@ fn first_hull() -> Hull
 fn starts_in(
     alloc: Global,
     asked: &Asked,
-    fault: &mut Option<RecipeFault>,
+    notes: &mut Notes,
     area: &Area,
 ) -> Result<Vec<Hull>, AllocError>
     requires budget { asked.now.budget ≤ MOST_WORDS }
-    ensures starts { IfOk result (λ here. IfFine fault.old fault.new ((list : List Entry) → AreListStarts asked.now.window list asked.now.budget (area.now ∷ []) here.items)) }
+    ensures starts { IfOk result (λ here. IfFine notes.old notes.new ((list : List Entry) → AreListStarts asked.now.window list asked.now.budget (area.now ∷ []) here.items)) }
     ensures sound { IfOk result (λ here. AreSoundHulls here.items) }
 {
     if area.first == 0 {
@@ -357,23 +448,23 @@ fn starts_in(
         add(&mut here, &first_hull())?;
         return Ok(here);
     }
-    past_jump(alloc, asked, fault, None, &[first_hull()])
+    past_jump(alloc, asked, notes, None, &[first_hull()])
 }
 
 /// The hulls where lists begin. The first fault is noted.
 pub fn starts(
     alloc: Global,
     asked: &Asked,
-    fault: &mut Option<RecipeFault>,
+    notes: &mut Notes,
     lists: &[Area],
 ) -> Result<Vec<Hull>, AllocError>
     requires budget { asked.now.budget ≤ MOST_WORDS }
-    ensures starts { IfOk result (λ here. IfFine fault.old fault.new ((list : List Entry) → AreListStarts asked.now.window list asked.now.budget lists.now here.items)) }
+    ensures starts { IfOk result (λ here. IfFine notes.old notes.new ((list : List Entry) → AreListStarts asked.now.window list asked.now.budget lists.now here.items)) }
     ensures sound { IfOk result (λ here. AreSoundHulls here.items) }
 {
     let mut here = Vec::new(alloc);
     for area in lists {
-        let more = starts_in(alloc, asked, fault, area)?;
+        let more = starts_in(alloc, asked, notes, area)?;
         add_all(&mut here, &more)?;
     }
     Ok(here)
@@ -432,6 +523,7 @@ pub fn judge_over<E: Entries>(
     entries: &E,
     asked: &Asked,
     recipe: &Recipe,
+    notes: &mut Notes,
 ) -> Result<Accepted, RecipeRefusal>
     requires budget { asked.now.budget ≤ MOST_WORDS }
     requires list { IsSomeCertificate (E.list entries.now) }
@@ -442,9 +534,9 @@ pub fn judge_over<E: Entries>(
     // Their clauses say that the ROM is whole, and that the window is a part of the screen, or the zone.
     let _map = rom.map();
     let _fits = asked.window.is_for(Machine::Board);
-    let mut fault = None;
-    let here = starts(alloc, asked, &mut fault, recipe.lists())?;
-    let here = past_part(recipe.body(), alloc, entries, asked, &mut fault, here)?;
-    let here = past_jumps(alloc, entries, asked, &mut fault, recipe.jumps(), here)?;
-    accepted(asked, recipe.halt(), fault, counts(&here))
+    let here = starts(alloc, asked, notes, recipe.lists())?;
+    let here = past_part(recipe.body(), alloc, entries, asked, notes, &here)?;
+    let here = past_jumps(alloc, entries, asked, notes, recipe.jumps(), here)?;
+    notes.see_end(recipe.halt(), &here);
+    accepted(asked, recipe.halt(), notes.fault(), counts(&here))
 }

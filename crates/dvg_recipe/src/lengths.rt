@@ -10,6 +10,7 @@ use crate::piece::{Piece, PieceKind};
 use crate::recipe::{Area, Jump, Part, Recipe};
 use crate::takes::cell_of_words;
 use dvg_words::Cell;
+use std::alloc::{AllocError, Global};
 
 /// Where the counting of words stops: behind each word address that an area can have.
 const MOST_COUNTED: u32 = 65_536;
@@ -186,4 +187,34 @@ pub fn too_long(recipe: &Recipe) -> Option<u16>
         return Some(number);
     }
     jumps_past_end(recipe.jumps(), recipe.halt())
+}
+
+/// How many words of an area the longest list takes, its jump or its HALT among them.
+#[derive(Clone, Copy, Debug, PartialEq, Eq)]
+pub struct Room {
+    pub area: Area,
+    /// 65,537 at most.
+    pub words: u32,
+}
+
+/// How many words of an area the longest items of a part take, and an item of one word behind them.
+fn room_of(area: Area, body: &Part) -> Room
+    ensures { result ≡ record { area = area; words = min (longest body.now) MOST_COUNTED + 1 } }
+{
+    Room {
+        area,
+        words: longest(body) + 1,
+    }
+}
+
+/// How many words the longest list takes of the area of each list, and then of each jump (which areas are told is only tested).
+pub fn rooms(alloc: Global, recipe: &Recipe) -> Result<Vec<Room>, AllocError> {
+    let mut rooms = Vec::new(alloc);
+    for area in recipe.lists() {
+        rooms.push(room_of(*area, recipe.body()))?;
+    }
+    for jump in recipe.jumps() {
+        rooms.push(room_of(jump.area, &jump.body))?;
+    }
+    Ok(rooms)
 }

@@ -7,6 +7,7 @@ ghost use Rattle.dvg_words.specs.Decoding.{cell_of_words};
 ghost use Rattle.dvg_recipe.specs.Limits.{IsSpanBetween, IsSvecSize, SizesFit, LscaleFits, DrawRangeFits, IsStraight, AreAddresses, PieceFits, RowFits, HasPiece, PartFits, RowNumbered, Numbered, AreaFits, AreasFit, JumpFits, JumpsFit, IsRecipe};
 ghost use Rattle.dvg_recipe.specs.Recipes.{Piece, Place};
 
+use crate::options::has_few_options;
 use crate::piece::{DrawRange, Piece, PieceKind, PlaceRange, Span};
 use crate::recipe::{Area, Jump, Part};
 use crate::takes::cell_of_words;
@@ -264,5 +265,5 @@ pub fn is_recipe(lists: &[Area], body: &Part, jumps: &[Jump], halt: u16) -> bool
     let Some(number) = part_past(body, 0) else {
         return false;
     };
-    jumps_past(jumps, word, number) == Some(halt)
+    jumps_past(jumps, word, number) == Some(halt) && has_few_options(body, jumps)
 }

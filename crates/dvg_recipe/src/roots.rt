@@ -170,6 +170,7 @@ impl<'a> Roots<'a> {
     }
 
     /// The scales behind the items of a row.
+    #[inline(never)]
     fn past_row(&mut self, row: &[Piece], here: Keys) -> Result<Keys, RootsFault>
         requires fits { RowFits row.now }
     {
@@ -202,6 +203,7 @@ fn keys_past(part: &Part, roots: &mut Roots, here: Keys) -> Result<Keys, RootsFa
 
 /// The scales behind `least` to `most` turns of a part.
 #[cycle(keys_past)]
+#[inline(never)]
 fn repeat_past(
     body: &Part,
     roots: &mut Roots,

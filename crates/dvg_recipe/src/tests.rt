@@ -337,3 +337,27 @@ fn keeps_limits(rt: HostRuntime) {
     let recipe = recipe(rt.alloc(), 0x0FF).expect(&rt, "memory for the recipe");
     assert!(rt; recipe.is_none());
 }
+
+/// The recipe of a call of so many word addresses, up to 1,023 times.
+fn many_calls(alloc: Global, targets: u16) -> Result<Option<Recipe>, AllocError> {
+    let mut addresses = Vec::new(alloc);
+    for to in 0..targets {
+        addresses.push(to)?;
+    }
+    let calls = row(alloc, 0, PieceKind::Call(addresses))?;
+    let mut lists = Vec::new(alloc);
+    lists.push(Area {
+        first: 0,
+        last: 0x3FF,
+    })?;
+    Ok(Recipe::new(lists, repeat(alloc, 0, 1023, calls)?, Vec::new(alloc), 1))
+}
+
+#[test]
+fn limits_options(rt: HostRuntime) {
+    // 1,023 turns of 256 addresses are 261,888, and of 257 they are 262,911
+    for (targets, is_recipe) in [(256, true), (257, false)] {
+        let recipe = many_calls(rt.alloc(), targets).expect(&rt, "memory for the recipe");
+        expect_same(&rt, &recipe.is_some(), &is_recipe, &targets);
+    }
+}

@@ -21,6 +21,8 @@ pub struct Trail {
     /// The latest first.
     before: Vec<Written>,
     behind: Vec<Written>,
+    /// The turns of the repeats around the place, the innermost first.
+    turns: Vec<u16>,
 }
 
 /// What stands where nothing is written: HALT.
@@ -71,6 +73,7 @@ impl Trail {
             alloc,
             before: Vec::new(alloc),
             behind: Vec::new(alloc),
+            turns: Vec::new(alloc),
         }
     }
 
@@ -80,7 +83,21 @@ impl Trail {
         Ok(())
     }
 
+    /// Notes the turn, counted from 1, of the next repeat around the place.
+    pub fn push_turn(&mut self, turn: u16) -> Result<(), AllocError> {
+        self.turns.push(turn)?;
+        Ok(())
+    }
+
+    /// The turns of the repeats around the place, the outermost first.
+    pub fn into_turns(self) -> Vec<u16> {
+        let mut turns = self.turns;
+        turns.reverse();
+        turns
+    }
+
     /// Adds an item of each piece of a row behind all others.
+    #[inline(never)]
     pub fn push_row(&mut self, row: &[Piece]) -> Result<(), AllocError> {
         for piece in row {
             if let Some(words) = choices(self.alloc, &piece.kind)?.first() {

@@ -7,8 +7,9 @@ ghost use Rattle.dvg_recipe.specs.Means.{AllMean};
 ghost use Rattle.dvg_recipe.specs.Members.{recipe_number};
 ghost use Rattle.dvg_recipe.specs.Lengths.{FitsAreas};
 
-use crate::judge::{Asked, RecipeFault, judge_over};
+use crate::judge::{Asked, judge_over};
 use crate::lengths::too_long;
+use crate::notes::{Notes, RecipeFault, SeenPiece};
 use crate::recipe::Recipe;
 use crate::roots::{Unmade, roots_of};
 use dvg_cert::{Cert, HashIndex};
@@ -75,6 +76,7 @@ fn judge_by(
     cert: &Cert,
     asked: &Asked,
     recipe: &Recipe,
+    notes: &mut Notes,
 ) -> Result<Accepted, RecipeRefusal>
     requires budget { asked.now.budget ≤ MOST_WORDS }
     requires map { rom.now.map ≡ cert.now.map }
@@ -85,7 +87,41 @@ fn judge_by(
     let _entries = cert.entries();
     let entries = HashIndex::new(alloc, cert)?;
     check_shapes_exact(rom, cert, &entries, &asked.window)?;
-    judge_over(alloc, rom, &entries, asked, recipe)
+    judge_over(alloc, rom, &entries, asked, recipe, notes)
+}
+
+/// The verdict on all frames of a recipe, as [`judge_recipe`] answers it, and what is noted.
+fn judge_noting(
+    alloc: Global,
+    rom: &RomImage,
+    recipe: &Recipe,
+    asked: &Asked,
+    notes: &mut Notes,
+) -> Result<RecipeYes, RecipeRefusal>
+    requires budget { asked.now.budget ≤ MOST_WORDS }
+    requires board { rom.now.machine ≡ Board }
+    ensures means { IfOk result (λ yes. AllMean rom.now recipe.now asked.now.window yes.words yes.depth) }
+    ensures fits { IfOk result (λ yes. FitsAreas recipe.now) }
+{
+    if let Some(piece) = too_long(recipe) {
+        return Err(RecipeRefusal::TooLong { piece });
+    }
+    let Some(roots) = roots_of(alloc, rom, recipe) else {
+        return Err(RecipeRefusal::Memory);
+    };
+    if let Some(unmade) = roots.unmade {
+        return Err(RecipeRefusal::Make(unmade));
+    }
+    let Ok(cert) = make(alloc, rom, &roots.asked) else {
+        // Each of these entries was made before.
+        return Err(RecipeRefusal::Memory);
+    };
+    let yes = judge_by(alloc, rom, &cert, asked, recipe, notes)?;
+    Ok(RecipeYes {
+        shapes: cert.entries().len() as u32,
+        words: yes.words,
+        depth: yes.depth,
+    })
 }
 
 /// Judges all frames of a recipe over a vector ROM on the board, by the certificate that is made for all that they call.
@@ -109,23 +145,37 @@ pub fn judge_recipe(
     ensures means { IfOk result (λ yes. AllMean rom.now recipe.now window yes.words yes.depth) }
     ensures fits { IfOk result (λ yes. FitsAreas recipe.now) }
 {
-    if let Some(piece) = too_long(recipe) {
-        return Err(RecipeRefusal::TooLong { piece });
-    }
-    let Some(roots) = roots_of(alloc, rom, recipe) else {
-        return Err(RecipeRefusal::Memory);
-    };
-    if let Some(unmade) = roots.unmade {
-        return Err(RecipeRefusal::Make(unmade));
-    }
-    let Ok(cert) = make(alloc, rom, &roots.asked) else {
-        // Each of these entries was made before.
-        return Err(RecipeRefusal::Memory);
-    };
-    let yes = judge_by(alloc, rom, &cert, &Asked { budget, window }, recipe)?;
-    Ok(RecipeYes {
-        shapes: cert.entries().len() as u32,
-        words: yes.words,
-        depth: yes.depth,
+    let asked = Asked { budget, window };
+    judge_noting(alloc, rom, recipe, &asked, &mut Notes::new(alloc))
+}
+
+/// The verdict on a recipe, and what is seen of each of its pieces, by their numbers, the HALT the last; of none where a piece can't be
+/// come to, since 57, 60 to 62 or 25 is answered.
+#[derive(Drop)]
+pub struct SurveyedRecipe {
+    pub verdict: Result<RecipeYes, RecipeRefusal>,
+    pub seen: Vec<SeenPiece>,
+}
+
+/// Judges a recipe as [`judge_recipe`] does, and tells what is seen of each piece (only tested). An `Err` says that there was no memory to
+/// note it.
+pub fn survey_recipe(
+    alloc: Global,
+    rom: &RomImage,
+    recipe: &Recipe,
+    budget: u32,
+    window: Window,
+) -> Result<SurveyedRecipe, AllocError>
+    requires budget { budget ≤ MOST_WORDS }
+    requires board { rom.now.machine ≡ Board }
+    ensures means { IfOk result (λ told. IfOk told.verdict (λ yes. AllMean rom.now recipe.now window yes.words yes.depth)) }
+    ensures fits { IfOk result (λ told. IfOk told.verdict (λ yes. FitsAreas recipe.now)) }
+{
+    let mut notes = Notes::seeing(alloc, usize::from(recipe.halt()) + 1)?;
+    let asked = Asked { budget, window };
+    let verdict = judge_noting(alloc, rom, recipe, &asked, &mut notes);
+    Ok(SurveyedRecipe {
+        verdict,
+        seen: notes.into_seen(),
     })
 }

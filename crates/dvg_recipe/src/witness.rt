@@ -8,16 +8,15 @@ ghost use Rattle.dvg_cert.specs.declared.limits.TheConstants.{MOST_WORDS};
 ghost use Rattle.dvg_items.specs.Bounds.{IsSomeCertificate};
 ghost use Rattle.dvg_recipe.specs.Limits.{PieceFits, RowFits};
 ghost use Rattle.dvg_recipe.specs.Private.Judging.{IsWithin, AreWithin};
-ghost use Rattle.dvg_recipe.specs.Private.Hulls.{AreSoundHulls, IsSoundHull, AreSoundFronts, IsSoundSearch};
+ghost use Rattle.dvg_recipe.specs.Private.Hulls.{AreSoundHulls, IsSoundHull, AreSoundFronts};
 
 use crate::changes::words_change;
 use crate::choices::{Words, choices, jsrl};
 use crate::goal::{Goal, Number, goal_of_fault, most_depth, most_words};
 use crate::hull::{Change, Hull};
 use crate::hulls::add_all;
-use crate::judge::{
-    Asked, RecipeFault, first_broken, hull_past, past_jump, past_part, past_piece, starts,
-};
+use crate::judge::{Asked, first_broken, hull_past, past_jump, past_part, past_piece, starts};
+use crate::notes::{Notes, RecipeFault};
 use crate::piece::{Piece, PieceKind};
 use crate::recipe::{Area, Jump, Part, Recipe};
 use crate::takes::cell_of_words;
@@ -53,15 +52,6 @@ impl From<AllocError> for Unfound {
     fn from(_error: AllocError) -> Unfound {
         Unfound::Memory
     }
-}
-
-/// How the search of a part ends.
-#[derive(Drop)]
-pub enum Search {
-    /// The place is in the part, and this is what the items before the part have to lead to.
-    Found(Goal),
-    /// It is not, and these are the hulls behind the part.
-    Past(Vec<Hull>),
 }
 
 /// What an item does from what a hull has, and the hull past it.
@@ -120,6 +110,7 @@ fn item_before<E: Entries>(
 /// Adds items of a row that lead to a goal, in front of all others. `fronts` are the hulls before each piece. What the items before the
 /// row have to lead to.
 #[tactic(auto, using(crate::proofs::Sounds::fronts_last, crate::proofs::Sounds::fronts_rest))]
+#[inline(never)]
 fn row_back<E: Entries>(
     alloc: Global,
     entries: &E,
@@ -157,6 +148,7 @@ fn keep(fronts: &mut Vec<Vec<Hull>>, here: Vec<Hull>) -> Result<(), AllocError>
 
 /// The hulls before each piece of a row.
 #[tactic(auto, using(crate::proofs::Sounds::fronts_none, crate::proofs::Sounds::piece_at))]
+#[inline(never)]
 fn row_fronts<E: Entries>(
     alloc: Global,
     entries: &E,
@@ -173,15 +165,53 @@ fn row_fronts<E: Entries>(
     let mut fronts = Vec::new(alloc);
     let mut here = Vec::from_slice(alloc, here)?;
     for piece in row {
-        let next = past_piece(alloc, entries, asked, &mut None, piece, &here)?;
+        let next = past_piece(alloc, entries, asked, &mut Notes::new(alloc), piece, &here)?;
         keep(&mut fronts, here)?;
         here = next;
     }
     Ok(fronts)
 }
 
+/// The hulls behind a part, whatever rule is broken in it.
+#[inline(never)]
+fn behind_part<E: Entries>(
+    part: &Part,
+    alloc: Global,
+    entries: &E,
+    asked: &Asked,
+    here: &[Hull],
+) -> Result<Vec<Hull>, AllocError>
+    requires entries { IsSomeCertificate (E.list entries.now) }
+    requires budget { asked.now.budget ≤ MOST_WORDS }
+    requires fits { IsWithin part.now }
+    requires here { AreSoundHulls here.now }
+    ensures { IfOk result (λ next. AreSoundHulls next.items) }
+{
+    past_part(part, alloc, entries, asked, &mut Notes::new(alloc), here)
+}
+
+/// Whether a goal is reached behind a part.
+#[inline(never)]
+fn leads_through<E: Entries>(
+    part: &Part,
+    alloc: Global,
+    entries: &E,
+    asked: &Asked,
+    here: &[Hull],
+    goal: &Goal,
+) -> Result<bool, AllocError>
+    requires entries { IsSomeCertificate (E.list entries.now) }
+    requires budget { asked.now.budget ≤ MOST_WORDS }
+    requires fits { IsWithin part.now }
+    requires here { AreSoundHulls here.now }
+{
+    let behind = behind_part(part, alloc, entries, asked, here)?;
+    Ok(goal.is_in(&behind))
+}
+
 /// The hulls before each turn of a part, up to the first number of turns, at least `least`, behind which a goal is reached.
 #[tactic(auto, using(crate::proofs::Sounds::fronts_none))]
+#[inline(never)]
 fn turn_fronts<E: Entries>(
     body: &Part,
     alloc: Global,
@@ -204,9 +234,9 @@ fn turn_fronts<E: Entries>(
         if turn >= least && goal.is_in(&here) {
             return Ok(fronts);
         }
-        let copy = Vec::from_slice(alloc, &here)?;
+        let next = behind_part(body, alloc, entries, asked, &here)?;
         keep(&mut fronts, here)?;
-        here = past_part(body, alloc, entries, asked, &mut None, copy)?;
+        here = next;
     }
     Ok(fronts)
 }
@@ -234,15 +264,16 @@ fn part_before<E: Entries>(
             row_back(alloc, entries, row, fronts, goal, trail)
         }
         Part::Then(first, second) => {
-            let copy = Vec::from_slice(alloc, here)?;
-            let between = past_part(first, alloc, entries, asked, &mut None, copy)?;
+            let between = behind_part(first, alloc, entries, asked, here)?;
             let goal = part_before(second, alloc, entries, asked, &between, goal, trail)?;
             part_before(first, alloc, entries, asked, here, goal, trail)
         }
         Part::Either(one, other) => {
-            let copy = Vec::from_slice(alloc, here)?;
-            let behind = past_part(one, alloc, entries, asked, &mut None, copy)?;
-            let branch = if goal.is_in(&behind) { one } else { other };
+            let branch = if leads_through(one, alloc, entries, asked, here, &goal)? {
+                one
+            } else {
+                other
+            };
             part_before(branch, alloc, entries, asked, here, goal, trail)
         }
         Part::Repeat { least, most, body } => {
@@ -257,6 +288,7 @@ fn part_before<E: Entries>(
 /// before the turns have to lead to.
 #[tactic(auto, using(crate::proofs::Sounds::fronts_last, crate::proofs::Sounds::fronts_rest))]
 #[cycle(part_before)]
+#[inline(never)]
 fn turns_back<E: Entries>(
     body: &Part,
     alloc: Global,
@@ -370,8 +402,10 @@ fn stop_at<E: Entries>(
 }
 
 /// Finds the first place in a row at which to stop: adds the items of the row up to there in front of all others, and those behind it
-/// behind all others.
+/// behind all others, and answers what the items before the row have to lead to. `None` if there is none: then the hulls behind the row
+/// are added to `next`.
 #[tactic(auto, using(crate::proofs::Sounds::fronts_none, crate::proofs::Sounds::piece_at))]
+#[inline(never)]
 fn find_in_row<E: Entries>(
     row: &[Piece],
     alloc: Global,
@@ -380,33 +414,37 @@ fn find_in_row<E: Entries>(
     stop: &Stop,
     here: &[Hull],
     trail: &mut Trail,
-) -> Result<Search, Unfound>
+    next: &mut Vec<Hull>,
+) -> Result<Option<Goal>, Unfound>
     requires entries { IsSomeCertificate (E.list entries.now) }
     requires budget { asked.now.budget ≤ MOST_WORDS }
     requires fits { RowFits row.now }
     requires here { AreSoundHulls here.now }
-    ensures { IfOk result IsSoundSearch }
+    requires next { AreSoundHulls next.old.items }
+    ensures { IfOk result (λ _. AreSoundHulls next.new.items) }
 {
     let mut fronts = Vec::new(alloc);
     let mut here = Vec::from_slice(alloc, here)?;
     for (index, piece) in row.iter().enumerate() {
-        let mut fault = None;
-        let next = past_piece(alloc, entries, asked, &mut fault, piece, &here)?;
-        let found = stop_at(alloc, entries, asked, stop, piece, fault, &here)?;
+        let mut notes = Notes::new(alloc);
+        let behind = past_piece(alloc, entries, asked, &mut notes, piece, &here)?;
+        let found = stop_at(alloc, entries, asked, stop, piece, notes.fault(), &here)?;
         if let Some((words, goal)) = found {
             trail.push_before(Written::Item(words))?;
             trail.push_row(&row[index + 1..])?;
-            let goal = row_back(alloc, entries, row, fronts, goal, trail)?;
-            return Ok(Search::Found(goal));
+            return Ok(Some(row_back(alloc, entries, row, fronts, goal, trail)?));
         }
         keep(&mut fronts, here)?;
-        here = next;
+        here = behind;
     }
-    Ok(Search::Past(here))
+    add_all(next, &here)?;
+    Ok(None)
 }
 
 /// Finds the first place in a part, in the order of reading with repeats written out, at which to stop: adds the items of the part up to
-/// there in front of all others, and items of what follows in the part behind all others.
+/// there in front of all others, and items of what follows in the part behind all others, and answers what the items before the part
+/// have to lead to. `None` if there is none: then the hulls behind the part are added to `next`.
+#[tactic(auto, using(crate::proofs::Sounds::none_sound))]
 #[cycle(find_in)]
 fn find_in<E: Entries>(
     part: &Part,
@@ -416,62 +454,49 @@ fn find_in<E: Entries>(
     stop: &Stop,
     here: &[Hull],
     trail: &mut Trail,
-) -> Result<Search, Unfound>
+    next: &mut Vec<Hull>,
+) -> Result<Option<Goal>, Unfound>
     requires entries { IsSomeCertificate (E.list entries.now) }
     requires budget { asked.now.budget ≤ MOST_WORDS }
     requires fits { IsWithin part.now }
     requires here { AreSoundHulls here.now }
-    ensures { IfOk result IsSoundSearch }
+    requires next { AreSoundHulls next.old.items }
+    ensures { IfOk result (λ _. AreSoundHulls next.new.items) }
 {
     match part {
-        Part::Row(row) => find_in_row(row, alloc, entries, asked, stop, here, trail),
+        Part::Row(row) => find_in_row(row, alloc, entries, asked, stop, here, trail, next),
         Part::Then(first, second) => {
-            match find_in(first, alloc, entries, asked, stop, here, trail)? {
-                Search::Found(goal) => {
-                    push_part(second, trail)?;
-                    Ok(Search::Found(goal))
+            let mut between = Vec::new(alloc);
+            if let Some(goal) = find_in(
+                first,
+                alloc,
+                entries,
+                asked,
+                stop,
+                here,
+                trail,
+                &mut between,
+            )? {
+                push_part(second, trail)?;
+                return Ok(Some(goal));
+            }
+            match find_in(second, alloc, entries, asked, stop, &between, trail, next)? {
+                Some(goal) => {
+                    let before = part_before(first, alloc, entries, asked, here, goal, trail)?;
+                    Ok(Some(before))
                 }
-                Search::Past(between) => {
-                    match find_in(second, alloc, entries, asked, stop, &between, trail)? {
-                        Search::Found(goal) => {
-                            let goal = part_before(
-                                first, alloc, entries, asked, here, goal, trail,
-                            )?;
-                            Ok(Search::Found(goal))
-                        }
-                        Search::Past(next) => Ok(Search::Past(next)),
-                    }
-                }
+                None => Ok(None),
             }
         }
         Part::Either(one, other) => {
-            match find_in(one, alloc, entries, asked, stop, here, trail)? {
-                Search::Found(goal) => Ok(Search::Found(goal)),
-                Search::Past(next) => {
-                    let more = find_in(other, alloc, entries, asked, stop, here, trail)?;
-                    joined(next, more)
-                }
+            match find_in(one, alloc, entries, asked, stop, here, trail, next)? {
+                Some(goal) => Ok(Some(goal)),
+                None => find_in(other, alloc, entries, asked, stop, here, trail, next),
             }
         }
         Part::Repeat { least, most, body } => {
             let turns = (*least, *most);
-            find_in_turns(body, alloc, entries, asked, stop, turns, here, trail)
-        }
-    }
-}
-
-/// How the search of two branches ends, of which one was passed.
-fn joined(next: Vec<Hull>, more: Search) -> Result<Search, Unfound>
-    requires next { AreSoundHulls next.items }
-    requires more { IsSoundSearch more }
-    ensures { IfOk result IsSoundSearch }
-{
-    match more {
-        Search::Found(goal) => Ok(Search::Found(goal)),
-        Search::Past(more) => {
-            let mut all = next;
-            add_all(&mut all, &more)?;
-            Ok(Search::Past(all))
+            find_in_turns(body, alloc, entries, asked, stop, turns, here, trail, next)
         }
     }
 }
@@ -479,6 +504,7 @@ fn joined(next: Vec<Hull>, more: Search) -> Result<Search, Unfound>
 /// Finds the first place in the turns of a part at which to stop, as `find_in` does.
 #[tactic(auto, using(crate::proofs::Sounds::fronts_none, crate::proofs::Sounds::none_sound))]
 #[cycle(find_in)]
+#[inline(never)]
 fn find_in_turns<E: Entries>(
     body: &Part,
     alloc: Global,
@@ -488,35 +514,35 @@ fn find_in_turns<E: Entries>(
     turns: (u16, u16),
     here: &[Hull],
     trail: &mut Trail,
-) -> Result<Search, Unfound>
+    next: &mut Vec<Hull>,
+) -> Result<Option<Goal>, Unfound>
     requires entries { IsSomeCertificate (E.list entries.now) }
     requires budget { asked.now.budget ≤ MOST_WORDS }
     requires fits { IsWithin body.now }
     requires here { AreSoundHulls here.now }
-    ensures { IfOk result IsSoundSearch }
+    requires next { AreSoundHulls next.old.items }
+    ensures { IfOk result (λ _. AreSoundHulls next.new.items) }
 {
     let (least, most) = turns;
     let mut fronts = Vec::new(alloc);
     let mut here = Vec::from_slice(alloc, here)?;
-    let mut all = Vec::new(alloc);
     for turn in 0..most {
         if turn >= least {
-            add_all(&mut all, &here)?;
+            add_all(next, &here)?;
         }
-        match find_in(body, alloc, entries, asked, stop, &here, trail)? {
-            Search::Found(goal) => {
-                push_turns(body, least.saturating_sub(turn + 1), trail)?;
-                let goal = turns_back(body, alloc, entries, asked, fronts, goal, trail)?;
-                return Ok(Search::Found(goal));
-            }
-            Search::Past(next) => {
-                keep(&mut fronts, here)?;
-                here = next;
-            }
+        let mut behind = Vec::new(alloc);
+        let found = find_in(body, alloc, entries, asked, stop, &here, trail, &mut behind)?;
+        if let Some(goal) = found {
+            trail.push_turn(turn + 1)?;
+            push_turns(body, least.saturating_sub(turn + 1), trail)?;
+            let before = turns_back(body, alloc, entries, asked, fronts, goal, trail)?;
+            return Ok(Some(before));
         }
+        keep(&mut fronts, here)?;
+        here = behind;
     }
-    add_all(&mut all, &here)?;
-    Ok(Search::Past(all))
+    add_all(next, &here)?;
+    Ok(None)
 }
 
 /// Finds the place at which to stop in a jump and what stands behind it, as `find_in` does. What the items before the jump have to lead
@@ -529,26 +555,28 @@ fn find_in_jump<E: Entries>(
     stop: &Stop,
     here: &[Hull],
     trail: &mut Trail,
-) -> Result<Search, Unfound>
+    next: &mut Vec<Hull>,
+) -> Result<Option<Goal>, Unfound>
     requires entries { IsSomeCertificate (E.list entries.now) }
     requires budget { asked.now.budget ≤ MOST_WORDS }
     requires fits { IsWithin jump.now.body }
     requires here { AreSoundHulls here.now }
-    ensures { IfOk result IsSoundSearch }
+    requires next { AreSoundHulls next.old.items }
+    ensures { IfOk result (λ _. AreSoundHulls next.new.items) }
 {
-    let mut fault = None;
-    let there = past_jump(alloc, asked, &mut fault, Some(jump.number), here)?;
-    if let (Stop::Fault, Some(_), Some(goal)) = (*stop, fault, most_words(here)) {
+    let mut notes = Notes::new(alloc);
+    let there = past_jump(alloc, asked, &mut notes, Some(jump.number), here)?;
+    if let (Stop::Fault, Some(_), Some(goal)) = (*stop, notes.fault(), most_words(here)) {
         trail.push_before(Written::Jump(jump.area.first))?;
         push_part(&jump.body, trail)?;
-        return Ok(Search::Found(goal));
+        return Ok(Some(goal));
     }
-    match find_in(&jump.body, alloc, entries, asked, stop, &there, trail)? {
-        Search::Found(goal) => {
+    match find_in(&jump.body, alloc, entries, asked, stop, &there, trail, next)? {
+        Some(goal) => {
             trail.push_before(Written::Jump(jump.area.first))?;
-            Ok(Search::Found(goal.before_jump()))
+            Ok(Some(goal.before_jump()))
         }
-        Search::Past(next) => Ok(Search::Past(next)),
+        None => Ok(None),
     }
 }
 
@@ -575,7 +603,13 @@ fn jumps_back<E: Entries>(
         let Some(jump) = jumps.get(fronts.len()) else {
             return Err(Unfound::NoFrame);
         };
-        let there = past_jump(alloc, asked, &mut None, Some(jump.number), &here)?;
+        let there = past_jump(
+            alloc,
+            asked,
+            &mut Notes::new(alloc),
+            Some(jump.number),
+            &here,
+        )?;
         let between = part_before(&jump.body, alloc, entries, asked, &there, goal, trail)?;
         trail.push_before(Written::Jump(jump.area.first))?;
         goal = between.before_jump();
@@ -603,7 +637,7 @@ fn end_goal(asked: &Asked, stop: &Stop, here: &[Hull]) -> Option<Goal>
 
 /// Finds the place at which to stop in jumps, in what stands behind each, or at the HALT. What the items before the jumps have to lead
 /// to.
-#[tactic(auto, using(crate::proofs::Sounds::fronts_none))]
+#[tactic(auto, using(crate::proofs::Sounds::fronts_none, crate::proofs::Sounds::none_sound))]
 fn find_in_jumps<E: Entries>(
     jumps: &[Jump],
     alloc: Global,
@@ -621,16 +655,14 @@ fn find_in_jumps<E: Entries>(
     let mut fronts = Vec::new(alloc);
     let mut here = here;
     for (index, jump) in jumps.iter().enumerate() {
-        match find_in_jump(jump, alloc, entries, asked, stop, &here, trail)? {
-            Search::Found(goal) => {
-                trail.push_jumps(&jumps[index + 1..])?;
-                return jumps_back(jumps, alloc, entries, asked, fronts, goal, trail);
-            }
-            Search::Past(next) => {
-                keep(&mut fronts, here)?;
-                here = next;
-            }
+        let mut next = Vec::new(alloc);
+        let found = find_in_jump(jump, alloc, entries, asked, stop, &here, trail, &mut next)?;
+        if let Some(goal) = found {
+            trail.push_jumps(&jumps[index + 1..])?;
+            return jumps_back(jumps, alloc, entries, asked, fronts, goal, trail);
         }
+        keep(&mut fronts, here)?;
+        here = next;
     }
     match end_goal(asked, stop, &here) {
         Some(goal) => jumps_back(jumps, alloc, entries, asked, fronts, goal, trail),
@@ -639,6 +671,7 @@ fn find_in_jumps<E: Entries>(
 }
 
 /// Finds the place at which to stop in what stands in lists and behind them. What the items before the list have to lead to.
+#[tactic(auto, using(crate::proofs::Sounds::none_sound))]
 fn find_in_recipe<E: Entries>(
     alloc: Global,
     entries: &E,
@@ -650,24 +683,22 @@ fn find_in_recipe<E: Entries>(
     requires entries { IsSomeCertificate (E.list entries.now) }
     requires budget { asked.now.budget ≤ MOST_WORDS }
 {
-    let mut fault = None;
-    let first = starts(alloc, asked, &mut fault, recipe.lists())?;
-    if let (Stop::Fault, Some(_)) = (*stop, fault) {
+    let mut notes = Notes::new(alloc);
+    let first = starts(alloc, asked, &mut notes, recipe.lists())?;
+    if let (Stop::Fault, Some(_)) = (*stop, notes.fault()) {
         push_part(recipe.body(), trail)?;
         trail.push_jumps(recipe.jumps())?;
         return most_words(&first).ok_or(Unfound::NoFrame);
     }
-    match find_in(recipe.body(), alloc, entries, asked, stop, &first, trail)? {
-        Search::Found(goal) => {
-            trail.push_jumps(recipe.jumps())?;
-            Ok(goal)
-        }
-        Search::Past(next) => {
-            let jumps = recipe.jumps();
-            let goal = find_in_jumps(jumps, alloc, entries, asked, stop, next, trail)?;
-            part_before(recipe.body(), alloc, entries, asked, &first, goal, trail)
-        }
+    let body = recipe.body();
+    let mut next = Vec::new(alloc);
+    if let Some(goal) = find_in(body, alloc, entries, asked, stop, &first, trail, &mut next)? {
+        trail.push_jumps(recipe.jumps())?;
+        return Ok(goal);
     }
+    let jumps = recipe.jumps();
+    let goal = find_in_jumps(jumps, alloc, entries, asked, stop, next, trail)?;
+    part_before(body, alloc, entries, asked, &first, goal, trail)
 }
 
 /// The word address of a list that leads to a goal: one at 000 has no word before it, and others have the JMPL to them.
@@ -681,6 +712,14 @@ fn list_of(lists: &[Area], goal: &Goal) -> Option<u16> {
     None
 }
 
+/// A frame of a recipe that leads to where it has to stop.
+#[derive(Drop)]
+pub struct LeadingFrame {
+    pub words: Vec<u16>,
+    /// In which turns, counted from 1, the repeats around the place are at which it stops, the outermost first.
+    pub turns: Vec<u16>,
+}
+
 /// The words of a frame of a recipe that leads to where it has to stop.
 fn find_words<E: Entries>(
     alloc: Global,
@@ -688,14 +727,17 @@ fn find_words<E: Entries>(
     asked: &Asked,
     stop: &Stop,
     recipe: &Recipe,
-) -> Result<Vec<u16>, Unfound>
+) -> Result<LeadingFrame, Unfound>
     requires entries { IsSomeCertificate (E.list entries.now) }
     requires budget { asked.now.budget ≤ MOST_WORDS }
 {
     let mut trail = Trail::new(alloc);
     let goal = find_in_recipe(alloc, entries, asked, stop, recipe, &mut trail)?;
     match list_of(recipe.lists(), &goal) {
-        Some(first) => Ok(trail.words(first)?),
+        Some(first) => Ok(LeadingFrame {
+            words: trail.words(first)?,
+            turns: trail.into_turns(),
+        }),
         None => Err(Unfound::NoFrame),
     }
 }
@@ -707,12 +749,12 @@ pub fn find<E: Entries>(
     asked: &Asked,
     stop: &Stop,
     recipe: &Recipe,
-) -> Result<Option<Vec<u16>>, AllocError>
+) -> Result<Option<LeadingFrame>, AllocError>
     requires entries { IsSomeCertificate (E.list entries.now) }
     requires budget { asked.now.budget ≤ MOST_WORDS }
 {
     match find_words(alloc, entries, asked, stop, recipe) {
-        Ok(words) => Ok(Some(words)),
+        Ok(leading) => Ok(Some(leading)),
         Err(Unfound::NoFrame) => Ok(None),
         Err(Unfound::Memory) => Err(AllocError),
     }

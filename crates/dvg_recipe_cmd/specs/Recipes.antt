@@ -1,5 +1,5 @@
 -- What a run writes that judges recipes. All of it is this project's own.
-use Rattle.std.specs.Prelude.{◌≡◌, ◌≤◌, ◌<◌, ℕ, Bool, true, false, List, [], length, Option, None, Some, Result, Ok, Err, string_bytes}
+use Rattle.std.specs.Prelude.{◌≡◌, ◌≤◌, ◌<◌, ℕ, Bool, true, false, List, [], ◌++◌, length, Option, None, Some, Result, Ok, Err, string_bytes}
 use Rattle.std.specs.Io.KnownBytes.{Consumes, IsAtEnd}
 use Rattle.dvg_words.specs.declared.machine.Machine.TheVariants.{Board}
 use Rattle.dvg_words.specs.Memory.{IsRomLength, rom_on}
@@ -9,6 +9,9 @@ use Rattle.dvg_recipe.specs.declared.verdict.RecipeYes.{RecipeYes}
 use Rattle.dvg_recipe.specs.Recipes.{Recipe}
 use Rattle.dvg_recipe.specs.Lengths.{FitsAreas}
 use Rattle.dvg_recipe.specs.Means.{AllMean}
+use Rattle.dvg_cmd.specs.Detail.{IsBehind, behind_text, frame_outcome_behind}
+use Rattle.dvg_cmd.specs.declared.detail.Detail.{Detail}
+use Rattle.dvg_cmd.specs.declared.detail.Behind.{Behind}
 use Rattle.dvg_cmd.specs.declared.listing.Lines.TheVariants as which
 use Rattle.dvg_recipe_cmd.specs.declared.answer.RecipeNo.{RecipeNo}
 use Rattle.dvg_recipe_cmd.specs.declared.answer.RecipeNo.TheVariants as no
@@ -65,17 +68,18 @@ module _ {R : Type 0} (remaining : R → Option (List ℕ)) (failures : R → �
       (left : R) × SaysOf rom options (remaining reader) (remaining left) answer
       × (failures left ≡ count_after (is_unread answer) (failures reader))
 
-  -- the line of a recipe
-  pub record IsLineOfRecipe (recipe : NamedRecipe R) (line : Line RecipeAnswer) : Type 0 where
+  -- the line of a recipe: its name, the answer to it, and behind the line what the detail asks for
+  pub record IsLineOfRecipe (detail : Detail) (recipe : NamedRecipe R) (line : Line (RecipeAnswer × Behind)) : Type 0 where
     pub name_is : line.name ≡ string_bytes recipe.name
-    pub answers : AnswersRecipe recipe.reader line.answer
+    pub answers : AnswersRecipe recipe.reader line.answer.0
+    pub asked : IsBehind detail line.answer.1
 
 -- how it is told of recipes: each has its line
-abbrev pub of_recipes : Telling RecipeAnswer
+abbrev pub of_recipes : Telling (RecipeAnswer × Behind)
 of_recipes =
     record {
-      text = recipe_line_text;
-      outcome = recipe_outcome;
+      text = λ answer. recipe_line_text answer.0 ++ behind_text answer.1;
+      outcome = λ answer. frame_outcome_behind answer.1 (recipe_outcome answer.0);
       shown = which.All;
       last = λ lines. [];
     }

@@ -1,19 +1,26 @@
 //! The answer to the text of a recipe, and a frame that shows why it is refused.
 
-ghost use Rattle.std.specs.Prelude.{◌≡◌, ◌≤◌, ◌<◌, length, IfOk, IfErr, Err};
+ghost use Rattle.std.specs.Prelude.{◌≡◌, ◌≤◌, ◌<◌, length, None, IfOk, IfErr, Ok, Err};
 ghost use Rattle.dvg_words.specs.declared.machine.Machine.TheVariants.{Board};
 ghost use Rattle.dvg_words.specs.Memory.{IsRomLength, rom_on};
 ghost use Rattle.dvg_cert.specs.declared.limits.TheConstants.{MOST_WORDS};
 ghost use Rattle.dvg_recipe.specs.Means.{AllMean};
 ghost use Rattle.dvg_recipe.specs.Lengths.{FitsAreas};
 ghost use Rattle.dvg_recipe_cmd.specs.Recipes.{IsVerdict};
-ghost use Rattle.dvg_recipe_cmd.specs.Private.Judging.{IsOfFrames};
+ghost use Rattle.dvg_cmd.specs.Detail.{IsBehind};
+ghost use Rattle.dvg_cmd.specs.declared.detail.Detail.TheVariants as details;
+ghost use Rattle.dvg_cmd.specs.declared.detail.Behind.TheVariants as behinds;
+ghost use Rattle.dvg_recipe_cmd.specs.Private.Judging.{IsOfFrames, wanted_detail};
+ghost use Rattle.dvg_recipe_cmd.specs.declared.judging.Witness.TheVariants as witnesses;
 ghost use Rattle.dvg_recipe_cmd.specs.declared.answer.RecipeNo.TheVariants.{Text};
 
+use crate::account::{Explained, account_of};
 use crate::answer::RecipeNo;
+use crate::text_lines::line_of_list;
 use dvg_cert::MOST_WORDS;
+use dvg_cmd::{Behind, Detail, PlainWhy, plain_account};
 use dvg_labels::Labels;
-use dvg_recipe::{RecipeRefusal, RecipeYes, find_refused, judge_recipe};
+use dvg_recipe::{RecipeRefusal, RecipeYes, find_refused, judge_recipe, survey_recipe};
 use dvg_recipe_text::{ReadRecipe, RecipeTextFault, read_recipe};
 use dvg_words::{Machine, RomImage, RomMap, Window};
 use std::alloc::Global;
@@ -29,13 +36,37 @@ pub struct RecipeOptions {
     pub window: Window,
 }
 
-/// What is wanted of a recipe.
-#[derive(Clone, Copy, Debug, PartialEq, Eq)]
-pub enum Wanted {
-    /// Its verdict.
+/// What is wanted of a recipe beside its verdict.
+#[derive(Clone, Copy)]
+pub enum Wanted<'a> {
+    /// Nothing.
     Verdict,
-    /// A frame that shows why it is refused, too.
+    /// A frame that shows why it is refused.
     Witness,
+    /// An account of the verdict, in which these labels name the addresses, if there are any.
+    Account(Option<&'a Labels>),
+}
+
+impl<'a> Wanted<'a> {
+    /// What a detail asks for.
+    pub fn of(detail: Detail<'a>) -> Wanted<'a>
+        ensures { wanted_detail result ≡ detail.entry }
+    {
+        match detail {
+            Detail::Line => Wanted::Verdict,
+            Detail::Account(labels) => Wanted::Account(labels),
+        }
+    }
+
+    /// What is written behind the recipe's line.
+    pub fn detail(self) -> Detail<'a>
+        ensures { result ≡ wanted_detail self.entry }
+    {
+        match self {
+            Wanted::Verdict | Wanted::Witness => Detail::Line,
+            Wanted::Account(labels) => Detail::Account(labels),
+        }
+    }
 }
 
 /// A frame that shows why a recipe is refused.
@@ -49,11 +80,26 @@ pub enum Witness {
     NoMemory,
 }
 
-/// The verdict on a recipe, and what shows why it is refused.
+/// The verdict on a recipe, and what is wanted beside it.
 #[derive(Drop)]
 pub struct JudgedRecipe {
     pub verdict: Result<RecipeYes, RecipeNo>,
     pub witness: Witness,
+    /// What is written behind the line.
+    pub behind: Behind,
+}
+
+impl JudgedRecipe {
+    /// A verdict alone.
+    fn plain(verdict: Result<RecipeYes, RecipeNo>) -> JudgedRecipe
+        ensures { result ≡ record { verdict = verdict; witness = witnesses.Nothing; behind = behinds.Nothing } }
+    {
+        JudgedRecipe {
+            verdict,
+            witness: Witness::Nothing,
+            behind: Behind::Nothing,
+        }
+    }
 }
 
 impl From<RecipeTextFault> for RecipeNo {
@@ -70,24 +116,6 @@ pub fn line_of_piece(read: &ReadRecipe, piece: u16) -> u32 {
         Some(line) => u32::from(*line),
         None => 1,
     }
-}
-
-/// Whether a line tells of a list that does not begin at word 000.
-fn is_list_elsewhere(line: &[u8]) -> bool {
-    let words = line.trim_ascii_start();
-    words.starts_with(b"list ") && !words.starts_with(b"list 000 ")
-}
-
-/// The line, counted from 1, of the first list in a text that does not begin at word 000; 1 if there is none.
-fn line_of_list(text: &[u8]) -> u32 {
-    let mut number = 0u32;
-    for line in text.split(|byte| *byte == b'\n') {
-        number = number.saturating_add(1);
-        if is_list_elsewhere(line) {
-            return number;
-        }
-    }
-    1
 }
 
 /// Why a recipe is not accepted, by the lines of its text.
@@ -144,33 +172,76 @@ fn witness_of(
     }
 }
 
-/// The verdict on a recipe that was read of this text, over the image of a ROM.
-fn judge_read(
-    alloc: Global,
-    rom: &RomImage,
+/// A verdict by the lines of the text.
+fn verdict_of(
     text: &[u8],
     read: &ReadRecipe,
-    options: &RecipeOptions,
+    verdict: &Result<RecipeYes, RecipeRefusal>,
+) -> Result<RecipeYes, RecipeNo>
+    ensures ok { IfOk result (λ yes. verdict.now ≡ Ok yes) }
+    ensures err { IfErr result IsOfFrames }
+{
+    match verdict {
+        Ok(yes) => Ok(*yes),
+        Err(refusal) => Err(told(text, read, refusal)),
+    }
+}
+
+/// The verdict on a recipe that was read, over the image of a ROM, and what shows why it is refused, if that is wanted.
+fn judge_read(
+    alloc: Global,
+    explained: &Explained,
+    image: &RomImage,
+    read: &ReadRecipe,
     wanted: Wanted,
 ) -> JudgedRecipe
-    requires budget { options.now.budget ≤ MOST_WORDS }
-    requires board { rom.now.machine ≡ Board }
-    ensures means { IfOk result.verdict (λ yes. AllMean rom.now read.now.recipe options.now.window yes.words yes.depth) }
+    requires budget { explained.now.options.budget ≤ MOST_WORDS }
+    requires board { image.now.machine ≡ Board }
+    ensures means { IfOk result.verdict (λ yes. AllMean image.now read.now.recipe explained.now.options.window yes.words yes.depth) }
     ensures fits { IfOk result.verdict (λ yes. FitsAreas read.now.recipe) }
     ensures err { IfErr result.verdict IsOfFrames }
+    ensures behind { result.behind ≡ behinds.Nothing }
 {
-    match judge_recipe(alloc, rom, &read.recipe, options.budget, options.window) {
-        Ok(yes) => JudgedRecipe {
-            verdict: Ok(yes),
+    let RecipeOptions { budget, window, .. } = explained.options;
+    match judge_recipe(alloc, image, &read.recipe, budget, window) {
+        Ok(yes) => JudgedRecipe::plain(Ok(yes)),
+        Err(refusal) => {
+            let mut judged = JudgedRecipe::plain(Err(told(explained.text, read, &refusal)));
+            if let Wanted::Witness = wanted {
+                judged.witness = witness_of(alloc, image, read, &explained.options, &refusal);
+            }
+            judged
+        }
+    }
+}
+
+/// The verdict on a recipe that was read, over the image of a ROM, and an account of it.
+fn explain_read(
+    alloc: Global,
+    explained: &Explained,
+    image: &RomImage,
+    read: &ReadRecipe,
+    labels: Option<&Labels>,
+) -> JudgedRecipe
+    requires budget { explained.now.options.budget ≤ MOST_WORDS }
+    requires board { image.now.machine ≡ Board }
+    ensures means { IfOk result.verdict (λ yes. AllMean image.now read.now.recipe explained.now.options.window yes.words yes.depth) }
+    ensures fits { IfOk result.verdict (λ yes. FitsAreas read.now.recipe) }
+    ensures err { IfErr result.verdict IsOfFrames }
+    ensures behind { IsBehind (details.Account None) result.behind }
+{
+    let RecipeOptions { budget, window, .. } = explained.options;
+    let Ok(surveyed) = survey_recipe(alloc, image, &read.recipe, budget, window) else {
+        return JudgedRecipe {
+            verdict: Err(RecipeNo::NoMemory),
             witness: Witness::Nothing,
-        },
-        Err(refusal) => JudgedRecipe {
-            verdict: Err(told(text, read, &refusal)),
-            witness: match wanted {
-                Wanted::Verdict => Witness::Nothing,
-                Wanted::Witness => witness_of(alloc, rom, read, options, &refusal),
-            },
-        },
+            behind: Behind::NoMemory,
+        };
+    };
+    JudgedRecipe {
+        verdict: verdict_of(explained.text, read, &surveyed.verdict),
+        witness: Witness::Nothing,
+        behind: account_of(alloc, explained, image, read, &surveyed, labels),
     }
 }
 
@@ -185,41 +256,82 @@ fn check_budget(budget: u32) -> Result<(), RecipeNo>
     Ok(())
 }
 
-/// The same for a text: the first that applies of 51 to 56, 49 and 1, else the verdict of `judge_recipe`.
-fn judged(
+/// The recipe of a text and the image of a ROM, or the first that applies of 51 to 56, 49 and 1.
+fn ready<'a>(
     alloc: Global,
-    rom: &[u8],
-    text: &[u8],
-    options: &RecipeOptions,
+    explained: &Explained<'a>,
     labels: Option<&Labels>,
-    wanted: Wanted,
-) -> Result<JudgedRecipe, RecipeNo>
-    ensures ok { IfOk result (λ judged. IsVerdict rom.now options.now judged.verdict) }
-    ensures err { IfErr result (λ no. IsVerdict rom.now options.now (Err no)) }
+) -> Result<(ReadRecipe, RomImage<'a>), RecipeNo>
+    ensures ok { IfOk result (λ ready. (ready.1 ≡ rom_on Board explained.now.options.map explained.now.rom.now)
+        × IsRomLength explained.now.options.map (length explained.now.rom.now) × (explained.now.options.budget ≤ MOST_WORDS)) }
+    ensures err { IfErr result (λ no. IsVerdict explained.now.rom.now explained.now.options (Err no)) }
 {
-    let read = read_recipe(alloc, text, labels)?;
-    check_budget(options.budget)?;
-    let image = board_image(rom, options.map)?;
-    Ok(judge_read(alloc, &image, text, &read, options, wanted))
+    let read = read_recipe(alloc, explained.text, labels)?;
+    check_budget(explained.options.budget)?;
+    let image = board_image(explained.rom, explained.options.map)?;
+    Ok((read, image))
+}
+
+/// What is told of a refusal before the frames of a recipe were judged.
+fn plain_why(explained: &Explained, no: &RecipeNo) -> PlainWhy {
+    match no {
+        RecipeNo::BudgetRange => PlainWhy::Budget(explained.options.budget),
+        RecipeNo::RomLength => PlainWhy::RomLength {
+            bytes: explained.rom.len(),
+            map: explained.options.map,
+        },
+        _ => PlainWhy::Nothing,
+    }
+}
+
+/// A refusal before the frames of a recipe were judged, and what is wanted beside it.
+fn refused(alloc: Global, explained: &Explained, no: RecipeNo, wanted: Wanted) -> JudgedRecipe
+    ensures verdict { result.verdict ≡ Err no }
+    ensures behind { IsBehind (wanted_detail wanted.entry) result.behind }
+{
+    let number = no.number();
+    let why = plain_why(explained, &no);
+    JudgedRecipe {
+        verdict: Err(no),
+        witness: Witness::Nothing,
+        behind: plain_account(Machine::Board, alloc, number, why, wanted.detail()),
+    }
+}
+
+/// The verdict on a recipe that is ready to be judged, and what is wanted beside it.
+fn judge_ready(
+    alloc: Global,
+    explained: &Explained,
+    image: &RomImage,
+    read: &ReadRecipe,
+    wanted: Wanted,
+) -> JudgedRecipe
+    requires budget { explained.now.options.budget ≤ MOST_WORDS }
+    requires board { image.now.machine ≡ Board }
+    ensures means { IfOk result.verdict (λ yes. AllMean image.now read.now.recipe explained.now.options.window yes.words yes.depth) }
+    ensures fits { IfOk result.verdict (λ yes. FitsAreas read.now.recipe) }
+    ensures err { IfErr result.verdict IsOfFrames }
+    ensures behind { IsBehind (wanted_detail wanted.entry) result.behind }
+{
+    match wanted {
+        Wanted::Verdict | Wanted::Witness => judge_read(alloc, explained, image, read, wanted),
+        Wanted::Account(labels) => explain_read(alloc, explained, image, read, labels),
+    }
 }
 
 /// The verdict on the recipe of this text over the bytes of a ROM on the board: the first that applies of 51 to 56, 49 and 1, else that
-/// of `judge_recipe`.
+/// of `judge_recipe`; and what is wanted beside it.
 pub fn judge_text(
     alloc: Global,
-    rom: &[u8],
-    text: &[u8],
-    options: &RecipeOptions,
+    explained: &Explained,
     labels: Option<&Labels>,
     wanted: Wanted,
 ) -> JudgedRecipe
-    ensures { IsVerdict rom.now options.now result.verdict }
+    ensures verdict { IsVerdict explained.now.rom.now explained.now.options result.verdict }
+    ensures behind { IsBehind (wanted_detail wanted.entry) result.behind }
 {
-    match judged(alloc, rom, text, options, labels, wanted) {
-        Ok(judged) => judged,
-        Err(no) => JudgedRecipe {
-            verdict: Err(no),
-            witness: Witness::Nothing,
-        },
+    match ready(alloc, explained, labels) {
+        Ok((read, image)) => judge_ready(alloc, explained, &image, &read, wanted),
+        Err(no) => refused(alloc, explained, no, wanted),
     }
 }

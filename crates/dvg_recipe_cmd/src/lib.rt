@@ -5,6 +5,7 @@
 //! [`run_print`] writes the one spelling of a recipe's text.
 #![tactic(auto)]
 
+mod account;
 mod answer;
 mod fault;
 mod frames;
@@ -15,6 +16,7 @@ mod printing;
 mod reading;
 mod recipes;
 mod tally;
+mod text_lines;
 
 pub use answer::{RecipeAnswer, RecipeNo, recipe_line_of, recipe_outcome_of};
 pub use dvg_recipe::RecipeYes;

@@ -9,14 +9,21 @@ ghost use Rattle.dvg_recipe_cmd.specs.Answers.{recipe_outcome};
 ghost use Rattle.dvg_recipe_cmd.specs.Runs.{HoldsOfAll, HoldsOfTaken, Reports, ReportsPrefix, line_texts};
 ghost use Rattle.dvg_recipe_cmd.specs.Recipes.{SaysOf, AnswersRecipe, IsLineOfRecipe, is_unread, of_recipes};
 ghost use Rattle.dvg_recipe_cmd.specs.Private.SoFar.{WritesLine, WritesLinePrefix};
+ghost use Rattle.dvg_recipe_cmd.specs.Private.Judging.{wanted_detail};
 ghost use Rattle.dvg_recipe_cmd.specs.declared.answer.RecipeAnswer.{RecipeAnswer};
+ghost use Rattle.dvg_cmd.specs.Detail.{IsBehind, frame_outcome_behind};
+ghost use Rattle.dvg_cmd.specs.declared.detail.Behind.{Behind};
+ghost use Rattle.dvg_cmd.specs.declared.detail.Detail.TheVariants as details;
 
+use crate::account::Explained;
 use crate::answer::{RecipeAnswer, recipe_line_of, recipe_outcome_of};
 use crate::judging::{RecipeOptions, Wanted, Witness, judge_text};
 use crate::reading::{Untaken, read_text};
+use dvg_cmd::{Behind, Detail, unread_account};
 use dvg_labels::Labels;
 use dvg_spelling::{FrameOutcome, RunFault};
 use dvg_text::{CountedRead, CountedWrite, write_bytes, write_lines};
+use dvg_words::Machine;
 use std::alloc::Global;
 
 /// A recipe whose turn it is.
@@ -35,7 +42,42 @@ pub struct WitnessEnd {
     pub is_written: bool,
 }
 
-/// The answer to the recipe whose text a reader holds, and what shows why it is refused.
+/// The answer to a recipe, and what is wanted beside it.
+#[derive(Drop)]
+struct Answered {
+    answer: RecipeAnswer,
+    witness: Witness,
+    behind: Behind,
+}
+
+/// That a recipe can't be opened or read, and what is wanted beside it.
+fn unread(alloc: Global, wanted: Wanted) -> Answered
+    ensures answer { result.answer ≡ RecipeAnswer.Unread }
+    ensures behind { IsBehind (wanted_detail wanted.entry) result.behind }
+{
+    Answered {
+        answer: RecipeAnswer::Unread,
+        witness: Witness::Nothing,
+        behind: unread_account(Machine::Board, alloc, wanted.detail()),
+    }
+}
+
+/// That there is no memory for the text of a recipe, and what is wanted beside it.
+fn no_memory(wanted: Wanted) -> Answered
+    ensures answer { result.answer ≡ RecipeAnswer.NoMemory }
+    ensures behind { IsBehind (wanted_detail wanted.entry) result.behind }
+{
+    Answered {
+        answer: RecipeAnswer::NoMemory,
+        witness: Witness::Nothing,
+        behind: match wanted {
+            Wanted::Verdict | Wanted::Witness => Behind::Nothing,
+            Wanted::Account(_) => Behind::NoMemory,
+        },
+    }
+}
+
+/// The answer to the recipe whose text a reader holds, and what is wanted beside it.
 fn answer_read<R: CountedRead>(
     alloc: Global,
     rom: &[u8],
@@ -43,21 +85,30 @@ fn answer_read<R: CountedRead>(
     options: &RecipeOptions,
     labels: Option<&Labels>,
     wanted: Wanted,
-) -> (RecipeAnswer, Witness)
-    ensures says { SaysOf rom.now options.now (R.remaining reader.old) (R.remaining reader.new) result.0 }
-    ensures count { R.failures reader.new ≡ count_after (is_unread result.0) (R.failures reader.old) }
+) -> Answered
+    ensures says { SaysOf rom.now options.now (R.remaining reader.old) (R.remaining reader.new) result.answer }
+    ensures count { R.failures reader.new ≡ count_after (is_unread result.answer) (R.failures reader.old) }
+    ensures behind { IsBehind (wanted_detail wanted.entry) result.behind }
 {
-    match read_text(alloc, reader) {
-        Ok(text) => {
-            let judged = judge_text(alloc, rom, &text, options, labels, wanted);
-            (RecipeAnswer::Judged(judged.verdict), judged.witness)
-        }
-        Err(Untaken::Unread) => (RecipeAnswer::Unread, Witness::Nothing),
-        Err(Untaken::NoMemory) => (RecipeAnswer::NoMemory, Witness::Nothing),
+    let text = match read_text(alloc, reader) {
+        Ok(text) => text,
+        Err(Untaken::Unread) => return unread(alloc, wanted),
+        Err(Untaken::NoMemory) => return no_memory(wanted),
+    };
+    let explained = Explained {
+        rom,
+        text: &text,
+        options: *options,
+    };
+    let judged = judge_text(alloc, &explained, labels, wanted);
+    Answered {
+        answer: RecipeAnswer::Judged(judged.verdict),
+        witness: judged.witness,
+        behind: judged.behind,
     }
 }
 
-/// The answer to a recipe whose turn it is, and what shows why it is refused.
+/// The answer to a recipe whose turn it is, and what is wanted beside it.
 fn answer_opened<R: CountedRead + Drop>(
     alloc: Global,
     rom: &[u8],
@@ -65,37 +116,44 @@ fn answer_opened<R: CountedRead + Drop>(
     options: &RecipeOptions,
     labels: Option<&Labels>,
     wanted: Wanted,
-) -> (RecipeAnswer, Witness)
-    ensures { AnswersRecipe R.remaining R.failures rom.now options.now reader result.0 }
+) -> Answered
+    ensures answers { AnswersRecipe R.remaining R.failures rom.now options.now reader result.answer }
+    ensures behind { IsBehind (wanted_detail wanted.entry) result.behind }
 {
     match reader {
         Some(mut reader) => answer_read(alloc, rom, &mut reader, options, labels, wanted),
-        None => (RecipeAnswer::Unread, Witness::Nothing),
+        None => unread(alloc, wanted),
     }
 }
 
-/// Writes the line of an answer.
+/// Writes the line of an answer, and what is behind it.
 fn write_answer<W: CountedWrite>(
     name: &str,
     answer: &RecipeAnswer,
+    behind: &Behind,
     out: &mut W,
 ) -> Result<FrameOutcome, RunFault>
-    ensures outcome { IfOk result (λ end. end ≡ recipe_outcome answer.now) }
+    ensures outcome { IfOk result (λ end. end ≡ frame_outcome_behind behind.now (recipe_outcome answer.now)) }
     ensures written { OnOk result (Appends (W.contents out.old) (W.contents out.new)
-        (joined (line_texts of_recipes (record { name = name.now; answer = answer.now } ∷ [])))) }
+        (joined (line_texts of_recipes (record { name = name.now; answer = (answer.now, behind.now) } ∷ [])))) }
     ensures one_write { OnOk result (TakeOneWriteEach (line_texts of_recipes
-        (record { name = name.now; answer = answer.now } ∷ [])) (W.whole_writes out.old) (W.whole_writes out.new)) }
+        (record { name = name.now; answer = (answer.now, behind.now) } ∷ [])) (W.whole_writes out.old) (W.whole_writes out.new)) }
     ensures prefix { OnErr result (AppendsPrefix (W.contents out.old) (W.contents out.new)
-        (joined (line_texts of_recipes (record { name = name.now; answer = answer.now } ∷ [])))) }
+        (joined (line_texts of_recipes (record { name = name.now; answer = (answer.now, behind.now) } ∷ [])))) }
     ensures fault { IfErr result (λ fault. fault ≡ RunFault.Write) }
     ensures count { W.failures out.new ≡ count_after (is_err result) (W.failures out.old) }
 {
     let line = recipe_line_of(answer);
-    write_lines(name.as_bytes(), line.as_bytes(), &[], out)?;
-    Ok(recipe_outcome_of(answer))
+    write_lines(
+        name.as_bytes(),
+        line.as_bytes(),
+        behind.text().as_bytes(),
+        out,
+    )?;
+    Ok(behind.frame_outcome(recipe_outcome_of(answer)))
 }
 
-/// Judges a recipe whose turn it is, and writes its line.
+/// Judges a recipe whose turn it is, and writes its line, and behind it what is wanted there.
 fn run_named<R: CountedRead + Drop, W: CountedWrite>(
     alloc: Global,
     rom: &[u8],
@@ -105,23 +163,23 @@ fn run_named<R: CountedRead + Drop, W: CountedWrite>(
     wanted: Wanted,
     out: &mut W,
 ) -> Result<(FrameOutcome, Witness), RunFault>
-    ensures ok { IfOk result (λ end. (answer : RecipeAnswer)
-        × WritesLine (IsLineOfRecipe R.remaining R.failures rom.now options.now) of_recipes recipe
+    ensures ok { IfOk result (λ end. (answer : RecipeAnswer × Behind)
+        × WritesLine (IsLineOfRecipe R.remaining R.failures rom.now options.now (wanted_detail wanted.entry)) of_recipes recipe
         (W.contents out.old) (W.contents out.new) (W.whole_writes out.old) (W.whole_writes out.new) answer end.0) }
-    ensures prefix { OnErr result (WritesLinePrefix (IsLineOfRecipe R.remaining R.failures rom.now options.now) of_recipes recipe
+    ensures prefix { OnErr result (WritesLinePrefix (IsLineOfRecipe R.remaining R.failures rom.now options.now (wanted_detail wanted.entry)) of_recipes recipe
         (W.contents out.old) (W.contents out.new)) }
     ensures fault { IfErr result (λ fault. fault ≡ RunFault.Write) }
     ensures count { W.failures out.new ≡ count_after (is_err result) (W.failures out.old) }
 {
     let NamedRecipe { name, reader } = recipe;
-    let (answer, witness) = answer_opened(alloc, rom, reader, options, labels, wanted);
-    let outcome = write_answer(name.as_str(), &answer, out)?;
-    Ok((outcome, witness))
+    let answered = answer_opened(alloc, rom, reader, options, labels, wanted);
+    let outcome = write_answer(name.as_str(), &answered.answer, &answered.behind, out)?;
+    Ok((outcome, answered.witness))
 }
 
 /// Judges recipes over the bytes of a ROM on the board, one after another, and writes a line for each: the name, which has no control
-/// characters, a colon, a space, and what is said of it. Answers the worst outcome of all. Names that a recipe does not define are
-/// those of labels.
+/// characters, a colon, a space, and what is said of it; and an account of the answer behind it if the detail asks for one. Answers the
+/// worst outcome of all. Names that a recipe does not define are those of labels.
 ///
 /// A recipe that can't be opened or read has a line, too. The next one is taken once the line of the one before it is written. The only
 /// fault is 73, if the writer failed, and then a prefix of these lines was written.
@@ -134,6 +192,7 @@ pub fn run_recipes<
     rom: &[u8],
     options: &RecipeOptions,
     labels: Option<&Labels>,
+    detail: Detail,
     recipes: I,
     out: &mut W,
 ) -> Result<FrameOutcome, RunFault>
@@ -143,19 +202,20 @@ pub fn run_recipes<
     // A line is written for each recipe, in their order, each by one write if it fits one. What a yes means is said of some recipe
     // (`IsAcceptedRecipe`).
     ensures report { IfOk result (λ end. HoldsOfAll I.next_gives recipes (λ taken.
-        Reports (IsLineOfRecipe R.remaining R.failures rom.now options.now) of_recipes taken (W.contents out.old) (W.contents out.new)
-        (W.whole_writes out.old) (W.whole_writes out.new) end)) }
+        Reports (IsLineOfRecipe R.remaining R.failures rom.now options.now detail.entry) of_recipes taken
+        (W.contents out.old) (W.contents out.new) (W.whole_writes out.old) (W.whole_writes out.new) end)) }
 
     // Where the writer failed, a prefix of them.
     ensures prefix { OnErr result (HoldsOfTaken I.next_gives recipes (λ taken.
-        ReportsPrefix (IsLineOfRecipe R.remaining R.failures rom.now options.now) of_recipes taken
+        ReportsPrefix (IsLineOfRecipe R.remaining R.failures rom.now options.now detail.entry) of_recipes taken
         (W.contents out.old) (W.contents out.new))) }
     ensures fault { IfErr result (λ fault. fault ≡ RunFault.Write) }
     ensures count { W.failures out.new ≡ count_after (is_err result) (W.failures out.old) }
 {
     let mut worst = FrameOutcome::Accepted;
     for recipe in recipes {
-        let (outcome, _) = run_named(alloc, rom, options, labels, recipe, Wanted::Verdict, out)?;
+        let wanted = Wanted::of(detail);
+        let (outcome, _) = run_named(alloc, rom, options, labels, recipe, wanted, out)?;
         worst = worst.or_worse(outcome);
     }
     Ok(worst)
@@ -175,7 +235,7 @@ pub fn run_recipe_for_witness<R: CountedRead + Drop, W: CountedWrite, F: Counted
     file: &mut F,
 ) -> Result<WitnessEnd, RunFault>
     // The recipe's line is written, by one write if it fits one.
-    ensures report { IfOk result (λ end. Reports (IsLineOfRecipe R.remaining R.failures rom.now options.now) of_recipes (recipe ∷ [])
+    ensures report { IfOk result (λ end. Reports (IsLineOfRecipe R.remaining R.failures rom.now options.now details.Line) of_recipes (recipe ∷ [])
         (W.contents out.old) (W.contents out.new) (W.whole_writes out.old) (W.whole_writes out.new) end.outcome) }
     // Nothing is written to the file where it is not said that a frame is.
     ensures kept { IfOk result (λ end. end.is_written ≡ false → file.new ≡ file.old) }

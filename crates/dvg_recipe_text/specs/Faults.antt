@@ -1,7 +1,7 @@
 -- The numbers of the refusals of a recipe's text (profile).
 use Rattle.std.specs.Prelude.{ℕ}
 use Rattle.dvg_recipe_text.specs.declared.fault.RecipeTextWhy.{RecipeTextWhy}
-use Rattle.dvg_recipe_text.specs.declared.fault.RecipeTextWhy.TheVariants.{Form, Undefined, Several, DefinedTwice, Unended, After, LineTooLong, TooManyLines, TooDeep, TooManyPieces, Memory}
+use Rattle.dvg_recipe_text.specs.declared.fault.RecipeTextWhy.TheVariants.{Form, Undefined, Several, DefinedTwice, Unended, After, LineTooLong, TooManyLines, TooDeep, TooManyPieces, TooManyOptions, Memory}
 
 -- the number of a refusal (profile)
 abbrev pub text_number : RecipeTextWhy → ℕ
@@ -15,4 +15,5 @@ text_number LineTooLong = 55
 text_number TooManyLines = 55
 text_number TooDeep = 55
 text_number TooManyPieces = 55
+text_number TooManyOptions = 55
 text_number Memory = 56

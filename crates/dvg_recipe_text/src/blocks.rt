@@ -3,7 +3,7 @@
 use crate::fault::RecipeTextWhy;
 use crate::limits::MOST_BLOCKS;
 use crate::sequence::{Balanced, Sequence};
-use dvg_recipe::{Part, Piece};
+use dvg_recipe::{Part, Piece, turns_within};
 use std::alloc::{AllocError, Global};
 use std::mem;
 
@@ -64,6 +64,17 @@ impl Blocks {
     /// How many blocks are open.
     pub fn depth(&self) -> usize {
         self.open.len()
+    }
+
+    /// How many turns the next line has, with the repeats around it written out: no more than a list has words.
+    pub fn turns(&self) -> u16 {
+        let mut turns = 1;
+        for block in &self.open {
+            if let BlockKind::Repeat { most, .. } = block.kind {
+                turns = turns_within(turns, most);
+            }
+        }
+        turns
     }
 
     /// Adds a piece.

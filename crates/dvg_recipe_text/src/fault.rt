@@ -40,6 +40,9 @@ pub enum RecipeTextWhy {
     /// Refusal 55: a piece of it is the 4,097th.
     #[error("there are too many pieces")]
     TooManyPieces,
+    /// Refusal 55: with a piece of it the recipe, its repeats written out, has over 262,144 instructions to choose from.
+    #[error("there are too many instructions to choose from")]
+    TooManyOptions,
     /// Refusal 56: there was no memory for it.
     #[error("there is no memory for the line")]
     Memory,
@@ -58,7 +61,8 @@ impl RecipeTextWhy {
             RecipeTextWhy::LineTooLong
             | RecipeTextWhy::TooManyLines
             | RecipeTextWhy::TooDeep
-            | RecipeTextWhy::TooManyPieces => 55,
+            | RecipeTextWhy::TooManyPieces
+            | RecipeTextWhy::TooManyOptions => 55,
             RecipeTextWhy::Memory => 56,
         }
     }

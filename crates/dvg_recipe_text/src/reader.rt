@@ -15,7 +15,9 @@ use crate::numbering::Numbering;
 use crate::sequence::{Balanced, Joint};
 use crate::words::Words;
 use dvg_labels::Labels;
-use dvg_recipe::{Area, Jump, MOST_LISTS, Part, Piece, PieceKind, Recipe};
+use dvg_recipe::{
+    Area, Jump, MOST_LISTS, MOST_OPTIONS, Part, Piece, PieceKind, Recipe, piece_options,
+};
 use dvg_words::RAM_WORDS;
 use std::alloc::Global;
 
@@ -66,6 +68,8 @@ pub struct Reader<'a> {
     ahead: Option<Ahead>,
     blocks: Blocks,
     numbering: Numbering,
+    /// How many instructions there are to choose from so far, the repeats written out.
+    options: u64,
 }
 
 impl<'a> Reader<'a> {
@@ -82,6 +86,7 @@ impl<'a> Reader<'a> {
             ahead: None,
             blocks: Blocks::new(alloc),
             numbering: Numbering::new(alloc),
+            options: 0,
         }
     }
 
@@ -197,7 +202,18 @@ impl<'a> Reader<'a> {
 
     fn take_piece(&mut self, line: u16, kind: PieceKind) -> Result<(), RecipeTextWhy> {
         let number = self.numbering.take(line)?;
+        self.count_options(&kind)?;
         self.blocks.push_piece(Piece { number, kind })?;
+        Ok(())
+    }
+
+    /// Counts the options of a piece.
+    fn count_options(&mut self, kind: &PieceKind) -> Result<(), RecipeTextWhy> {
+        let more = u64::from(self.blocks.turns()).saturating_mul(piece_options(kind));
+        self.options = self.options.saturating_add(more);
+        if self.options > MOST_OPTIONS {
+            return Err(RecipeTextWhy::TooManyOptions);
+        }
         Ok(())
     }
 

@@ -323,7 +323,7 @@ pub const RECIPE_FORM: Rule = Rule {
     line: "refused 51 recipe line 1",
     heading: "Shortest recipe",
     input: "one LF",
-    cure: "spell the line as the grammar says: one space between two words, numbers as in certificates, addresses of three hexadecimal digits; each line ends with LF alone",
+    cure: "spell the line as the grammar says: one space between two words, numbers as in certificates, addresses of three hexadecimal digits, ranges from the lesser to the greater; close each block by `end`; each line ends with LF alone",
 };
 
 pub const RECIPE_NAME: Rule = Rule {
@@ -355,11 +355,11 @@ pub const RECIPE_TRAILING: Rule = Rule {
 
 pub const RECIPE_TOO_LONG: Rule = Rule {
     number: 55,
-    meaning: "the line has 200 bytes and no LF yet, or would have when printed; or it is the 4,097th; or its block is in sixteen others; or a piece of it is the 4,097th",
+    meaning: "the line has 200 bytes and no LF yet, or would have when printed; or it is the 4,097th; or its block is in sixteen others; or a piece of it is the 4,097th; or, with repeats written out, what may stand up to it is too much",
     line: "refused 55 recipe line 1",
     heading: "Shortest recipe",
     input: "200 bytes `a`",
-    cure: "look for a missing LF; spell several addresses by a name of `shapes`; split the recipe where its frames differ",
+    cure: "look for a missing LF; spell several addresses by a name of `shapes`; allow fewer turns; split the recipe where its frames differ",
 };
 
 pub const RECIPE_MEMORY: Rule = Rule {

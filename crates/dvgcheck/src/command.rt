@@ -6,11 +6,12 @@ use crate::input::Input;
 use crate::labels::{LabelsFault, load_labels};
 use crate::options::{
     BELONGS_LIST_OPTIONS, BELONGS_OPTIONS, CHECK_OPTIONS, FRAMES_OPTIONS, LABELS_OPTIONS,
-    LIST_OPTIONS, MAKER_OPTIONS, OUTPUT_OPTIONS, RECIPE_OPTIONS, Told, WINDOW_OPTIONS,
+    LIST_OPTIONS, MAKER_OPTIONS, OUTPUT_OPTIONS, RECIPE_OPTIONS, RECIPE_OUTPUT_OPTIONS, Told,
+    WINDOW_OPTIONS,
 };
 use crate::recipe_arguments::{
-    BelongsArgs, RecipeArgs, belongs_args, belongs_command, belongs_listing,
-    explain_belongs_command, recipe_args, recipe_command,
+    BelongsArgs, RecipeArgs, belongs_args, belongs_command, explain_belongs_command,
+    explain_recipe_command, recipe_args, recipe_command,
 };
 use clap::error::ErrorKind;
 use clap::{Arg, ArgMatches, Command, value_parser};
@@ -177,7 +178,10 @@ impl Task {
                 told.with(alloc, command, &WINDOW_OPTIONS)
             }
             Task::Diff => told.with(alloc, command, &MAKER_OPTIONS),
-            Task::Recipe => told.with(alloc, command, &RECIPE_OPTIONS),
+            Task::Recipe => {
+                let command = told.with(alloc, command, &RECIPE_OPTIONS)?;
+                told.with(alloc, command, &RECIPE_OUTPUT_OPTIONS)
+            }
             Task::Belongs => {
                 let command = told.with(alloc, command, &BELONGS_OPTIONS)?;
                 told.with(alloc, command, &BELONGS_LIST_OPTIONS)
@@ -387,7 +391,8 @@ fn explain_command<'a>(alloc: Global) -> Result<Command<'a>, AllocError> {
         .subcommand(explain_frames_command(alloc)?)?
         .subcommand(explain_check_command(alloc)?)?
         .subcommand(explain_make_command(alloc)?)?
-        .subcommand(Told::All.with(alloc, explain_belongs_command(alloc)?, &BELONGS_OPTIONS)?)
+        .subcommand(Told::All.with(alloc, explain_belongs_command(alloc)?, &BELONGS_OPTIONS)?)?
+        .subcommand(Told::All.with(alloc, explain_recipe_command(alloc)?, &RECIPE_OPTIONS)?)
 }
 
 /// What the shortest inputs of rules leave out.
@@ -512,6 +517,20 @@ fn set_apart<'a>(rt: &HostRuntime, named: Vec<Named<'a>>) -> Result<Vec<Named<'a
     Ok(files)
 }
 
+/// The files of an argument, as their lines name them, with what the detail asks for behind each line.
+pub fn files_told<'a>(
+    rt: &HostRuntime,
+    args: &ArgMatches<'a>,
+    name: &str,
+    detail: Detail,
+) -> Result<Vec<Named<'a>>, Usage<'a>> {
+    let files = files_of(rt, args, name)?;
+    match detail {
+        Detail::Line => Ok(files),
+        Detail::Account(_) => set_apart(rt, files),
+    }
+}
+
 /// How many of the files that this argument names are standard input.
 fn standard_inputs<'a>(args: &ArgMatches<'a>, name: &str) -> usize {
     let files = args.get_strs(name).unwrap_or(&[]);
@@ -561,11 +580,7 @@ pub fn frame_names<'a>(
     detail: Detail,
 ) -> Result<FrameNames<'a>, Usage<'a>> {
     let Some(list) = args.get_str("list") else {
-        let files = files_of(rt, args, "FRAME")?;
-        return Ok(FrameNames::Given(match detail {
-            Detail::Line => files,
-            Detail::Account(_) => set_apart(rt, files)?,
-        }));
+        return Ok(FrameNames::Given(files_told(rt, args, "FRAME", detail)?));
     };
     let end = if args.get_flag("null") {
         NameEnd::Nul
@@ -575,11 +590,11 @@ pub fn frame_names<'a>(
     Ok(FrameNames::Listed(Input::named(rt, list), end))
 }
 
-/// What `frames` writes of frames.
-fn listing_of_args<'a>(args: &ArgMatches<'a>) -> Listing<'a> {
+/// What `frames` and `belongs` write of frames. `only_bad` is the option that leaves out the lines of the good ones.
+fn listing_of_args<'a>(args: &ArgMatches<'a>, only_bad: &str) -> Listing<'a> {
     Listing {
         detail: Detail::Line,
-        lines: if args.get_flag("only-refused") {
+        lines: if args.get_flag(only_bad) {
             Lines::NotAccepted
         } else {
             Lines::All
@@ -729,6 +744,10 @@ fn explain_request<'a>(
             let args = belongs_args(rt, args, explained(labels), labels)?;
             Ok(Request::Belongs(args))
         }
+        Some(("recipe", args)) => {
+            let args = recipe_args(rt, args, Detail::Account(labels), None, labels)?;
+            Ok(Request::Recipe(args))
+        }
         _ => Err(Usage::Argument(ArgumentFault::Unreadable)),
     }
 }
@@ -747,7 +766,9 @@ fn recipe_request<'a>(
     labels: Option<&'a Labels>,
 ) -> Result<Request<'a>, Usage<'a>> {
     let Some(path) = args.get_str("print") else {
-        return Ok(Request::Recipe(recipe_args(rt, args, labels)?));
+        let output = args.get_str("output");
+        let args = recipe_args(rt, args, Detail::Line, output, labels)?;
+        return Ok(Request::Recipe(args));
     };
     one_standard_input(args, &["print", "labels"])?;
     let input = Input::named(rt, path);
@@ -764,7 +785,8 @@ fn request_of<'a>(
 ) -> Result<Request<'a>, Usage<'a>> {
     match task {
         Task::Frames => {
-            let args = frames_args(rt, args, listing_of_args(args), labels)?;
+            let listing = listing_of_args(args, "only-refused");
+            let args = frames_args(rt, args, listing, labels)?;
             Ok(Request::Frames(args))
         }
         Task::Check => {
@@ -786,7 +808,7 @@ fn request_of<'a>(
         }
         Task::Recipe => recipe_request(rt, args, labels),
         Task::Belongs => {
-            let listing = belongs_listing(args);
+            let listing = listing_of_args(args, "only-outside");
             Ok(Request::Belongs(belongs_args(rt, args, listing, labels)?))
         }
         Task::Explain => explain_request(rt, args, labels),

@@ -82,14 +82,18 @@ pub const LABELS_OPTIONS: [CommandOption; 1] = [CommandOption::Labels];
 /// The options of `make` that say where the certificate goes.
 pub const OUTPUT_OPTIONS: [CommandOption; 1] = [CommandOption::Output];
 
-/// The options of `recipe`.
-pub const RECIPE_OPTIONS: [CommandOption; 8] = [
+/// The options of `recipe` and of `explain recipe`.
+pub const RECIPE_OPTIONS: [CommandOption; 6] = [
     CommandOption::BoardAlready,
     CommandOption::Map,
     CommandOption::Budget,
     CommandOption::Window,
     CommandOption::ClipAlready,
     CommandOption::RecipeLabels,
+];
+
+/// The options of `recipe` that say what else is written.
+pub const RECIPE_OUTPUT_OPTIONS: [CommandOption; 2] = [
     CommandOption::Witness,
     CommandOption::Print,
 ];

@@ -2,12 +2,12 @@
 
 use crate::command::{
     ArgumentFault, FRAME_HELP, FrameNames, INPUT_HELP, Named, ROM_HELP, Usage, budget_of_args,
-    file_of, files_of, frame_names, frames_argument, map_of_args, needed, one_standard_input,
+    file_of, files_told, frame_names, frames_argument, map_of_args, needed, one_standard_input,
     window_of_args, with_rom,
 };
 use crate::input::Input;
 use clap::{Arg, ArgMatches, Command};
-use dvg_cmd::{Detail, Labels, Lines, Listing, RomMap};
+use dvg_cmd::{Detail, Labels, Listing, RomMap};
 use dvg_recipe_cmd::RecipeOptions;
 use std::alloc::{AllocError, Global};
 
@@ -19,6 +19,8 @@ pub struct RecipeArgs<'a> {
     pub options: RecipeOptions,
     /// What names of recipes may stand for, besides those that they define.
     pub labels: Option<&'a Labels>,
+    /// What is written of each recipe.
+    pub detail: Detail<'a>,
     /// The path of the file for a frame that shows why the recipe is refused.
     pub output: Option<&'a str>,
 }
@@ -56,6 +58,14 @@ pub fn recipe_command<'a>(alloc: Global) -> Result<Command<'a>, AllocError> {
         .arg(recipes.required_unless_present("print")?)
 }
 
+/// The command of `explain recipe`, without its options.
+pub fn explain_recipe_command<'a>(alloc: Global) -> Result<Command<'a>, AllocError> {
+    let command = Command::new(alloc, "recipe").about(
+        "Judges all frames that recipes allow, and tells the room in the lists and what is known before each line, or of a frame that is refused",
+    );
+    with_rom(alloc, command)?.arg(needed(alloc, "RECIPE", RECIPE_HELP).num_args(1..))
+}
+
 /// The command of `belongs`, without its options.
 pub fn belongs_command<'a>(alloc: Global) -> Result<Command<'a>, AllocError> {
     let command = Command::new(alloc, "belongs").about(
@@ -78,20 +88,22 @@ pub fn explain_belongs_command<'a>(alloc: Global) -> Result<Command<'a>, AllocEr
 
 /// The path of the file for the frame of these recipes, if one is given.
 fn witness_path<'a>(
-    args: &ArgMatches<'a>,
+    output: Option<&'a str>,
     recipes: &[Named],
 ) -> Result<Option<&'a str>, ArgumentFault<'a>> {
-    match args.get_str("output") {
+    match output {
         Some("-") => Err(ArgumentFault::OutputStandard),
         Some(_) if recipes.len() > 1 => Err(ArgumentFault::SeveralRecipes),
         path => Ok(path),
     }
 }
 
-/// The arguments of `recipe`, where recipes are judged.
+/// The arguments of `recipe`, where recipes are judged, and of `explain recipe`. `output` is the path of the file for a frame.
 pub fn recipe_args<'a>(
     rt: &HostRuntime,
     args: &ArgMatches<'a>,
+    detail: Detail<'a>,
+    output: Option<&'a str>,
     labels: Option<&'a Labels>,
 ) -> Result<RecipeArgs<'a>, Usage<'a>> {
     one_standard_input(args, &["ROM", "RECIPE", "labels"])?;
@@ -100,28 +112,16 @@ pub fn recipe_args<'a>(
         budget: budget_of_args(args),
         window: window_of_args(args)?,
     };
-    let recipes = files_of(rt, args, "RECIPE")?;
-    let output = witness_path(args, &recipes)?;
+    let recipes = files_told(rt, args, "RECIPE", detail)?;
+    let output = witness_path(output, &recipes)?;
     Ok(RecipeArgs {
         rom: file_of(rt, args, "ROM"),
         recipes,
         options,
         labels,
+        detail,
         output,
     })
-}
-
-/// What `belongs` writes of frames.
-pub fn belongs_listing<'a>(args: &ArgMatches<'a>) -> Listing<'a> {
-    Listing {
-        detail: Detail::Line,
-        lines: if args.get_flag("only-outside") {
-            Lines::NotAccepted
-        } else {
-            Lines::All
-        },
-        summary: args.get_flag("summary"),
-    }
 }
 
 /// The arguments of `belongs` and of `explain belongs`.

@@ -42,6 +42,7 @@ fn judge(rt: &HostRuntime, args: RecipeArgs) -> Result<FrameOutcome, RunFault> {
         recipes,
         options,
         labels,
+        detail,
         output,
     } = args;
     let rom = load_rom(&mut Counted::new(open(rt, rom, RunFault::ReadRom)?))?;
@@ -52,6 +53,7 @@ fn judge(rt: &HostRuntime, args: RecipeArgs) -> Result<FrameOutcome, RunFault> {
             rom.as_slice(),
             &options,
             labels,
+            detail,
             recipes.into_iter().map(|recipe| opened_recipe(rt, recipe)),
             &mut Counted::new(io::writer(rt)),
         ),

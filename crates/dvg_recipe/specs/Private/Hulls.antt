@@ -42,8 +42,6 @@ pub use Rattle.dvg_recipe.specs.declared.hull.Motion.TheVariants.{To, Away, By}
 pub use Rattle.dvg_recipe.specs.declared.hull.Light.{Light}
 pub use Rattle.dvg_recipe.specs.declared.hull.Light.TheVariants.{Dark, Shown, Unbounded}
 pub use Rattle.dvg_recipe.specs.declared.hull.Change.{Change}
-pub use Rattle.dvg_recipe.specs.declared.witness.Search.{Search}
-pub use Rattle.dvg_recipe.specs.declared.witness.Search.TheVariants.{Found, Past}
 
 -- ---- what may be known
 
@@ -326,11 +324,6 @@ pub record AreSoundHulls (hulls : List Hull) : Type 0 where
 -- so are those of each of some sets of hulls
 pub record AreSoundFronts (fronts : List (Vec Hull Global)) : Type 0 where
   pub each : (here : Vec Hull Global) → Contains fronts here → AreSoundHulls here.items
-
--- so are those behind a part, if what is searched is not in it
-abbrev pub IsSoundSearch : Search → Type 0
-IsSoundSearch (Found goal) = Unit {0}
-IsSoundSearch (Past here) = AreSoundHulls here.items
 
 -- the numbers of a change are within the limits
 pub record IsSoundChange (c : Change) : Type 0 where

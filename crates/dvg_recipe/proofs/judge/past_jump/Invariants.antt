@@ -6,5 +6,5 @@ use Rattle.dvg_recipe.proofs.judge.past_jump.Given as goal
 
 abbrev pub invariant-loop-hull : goal.invariant-loop-hull
 invariant-loop-hull l =
-    ((list : List Entry) → l.next.broken ≡ None → LeadOn l.asked.window list l.asked.budget IsJump (take l.hull-index l.here) l.next.hulls.items)
-    × AreSoundHulls l.next.hulls.items
+    ((list : List Entry) → l.broken ≡ None → LeadOn l.asked.window list l.asked.budget IsJump (take l.hull-index l.here) l.next.items)
+    × AreSoundHulls l.next.items × (l.notes ≡ l.fn.notes)

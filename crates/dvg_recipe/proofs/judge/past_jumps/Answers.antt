@@ -2,7 +2,7 @@ use Rattle.dvg_recipe.proofs.Common.{◌+◌, List, arith, subst, sym, Contains-
 use Rattle.dvg_recipe.specs.Recipes.{Jump, Spells}
 use Rattle.dvg_recipe.specs.Private.Hulls.{Hull, LeadOn}
 use Rattle.dvg_recipe.specs.Private.Judging.{Carries, IsJump, IsWithin}
-use Rattle.dvg_recipe.proofs.Onward.{jumps_next}
+use Rattle.dvg_recipe.proofs.Onward.{from_as, jumps_next}
 use Rattle.dvg_recipe.proofs.judge.past_jumps.Goals as goal
 
 pub past_part-requires-clause-fits : goal.past_part-requires-clause-fits
@@ -22,7 +22,7 @@ loop-jump-preserved g c =
             before.0,
             jumps_next w list budget c.args.jumps.now c.loop-jump.jump-index (c.loop-jump.jump-index + 1) c.jump-item.result c.args.here.items c.loop-jump.here.items there next (omega arith) c.loop-jump-test.true before.1
                 (subst (λ (l : List Hull). LeadOn w list budget IsJump l there) c.deref.ensures.value (on.1 list))
-                (subst (λ (j : Jump). Carries w list budget (Spells j.body) there next) c.jump-item.is part.1),
+                (subst (λ (j : Jump). Carries w list budget (Spells j.body) there next) c.jump-item.is (from_as w list budget _ _ there next c.deref-in-loop-jump.ensures.value part.1)),
           ),
       c.in_ok-here.ensures.sound,
     )

@@ -1,9 +1,0 @@
-use Rattle.dvg_recipe.proofs.Common.{◌≡◌, None, take}
-use Rattle.dvg_recipe.specs.Private.Judging.{IsTaken}
-use Rattle.dvg_recipe.specs.Private.Hulls.{AreSoundHulls, LeadOn}
-use Rattle.dvg_recipe.proofs.judge.past_piece.Given as goal
-
-abbrev pub invariant-loop-hull : goal.invariant-loop-hull
-invariant-loop-hull g l =
-    (l.next.broken ≡ None → LeadOn l.asked.window (g.E.Entries.list l.entries) l.asked.budget (IsTaken l.piece.kind) (take l.hull-index l.here) l.next.hulls.items)
-    × AreSoundHulls l.next.hulls.items
