@@ -13,3 +13,6 @@ pub mod Members
 pub mod Leads
 pub mod Onward
 pub mod Longest
+pub mod MemberExample
+pub mod ColumnExample
+pub mod BeyondExample

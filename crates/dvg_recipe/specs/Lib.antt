@@ -4,3 +4,4 @@ pub mod Lengths
 pub mod Private
 pub mod Means
 pub mod Members
+pub mod Examples

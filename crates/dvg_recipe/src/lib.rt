@@ -9,12 +9,15 @@ mod belonging;
 mod changes;
 mod choices;
 mod confirmed;
+#[cfg(test)]
+mod example_tests;
 mod frame_items;
 mod goal;
 mod hull;
 mod hulls;
 mod indices;
 mod judge;
+pub mod laws;
 #[cfg(test)]
 mod length_tests;
 mod lengths;
