@@ -1,5 +1,5 @@
--- Worked recipes. Of the first, a frame that belongs to it and two that don't. Of the second, each frame is all that a yes means with places
--- up to one, and a frame is refused with places up to the next. What words say is from the documentation of the DVG.
+-- Worked recipes. Of the first, a frame that belongs to it and two that don't. Of the second, each frame is all that a yes means
+-- with places up to one, and a frame is refused with places up to the next. What words say is from the documentation of the DVG.
 use Rattle.std.specs.Prelude.{◌≡◌, ℕ, ℤ, pos, negsuc, true, false, List, [], ◌∷◌, replicate, Err}
 use Rattle.std.specs.Global.{Vec, Box}
 use Rattle.dvg_words.specs.declared.machine.Machine.TheVariants.{Board}

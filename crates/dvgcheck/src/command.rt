@@ -290,6 +290,7 @@ pub const FRAME_HELP: &str = "The frame: 2 to 2048 bytes of vector RAM, from wor
 /// How many words a frame may take if `--budget` does not say.
 const USUAL_BUDGET: u32 = 20_000;
 
+/// The argument of one or more frames, which a list of names may replace.
 pub fn frames_argument<'a>(alloc: Global) -> Result<Arg<'a>, AllocError> {
     let frames = Arg::new(alloc, "FRAME").help(FRAME_HELP).num_args(1..);
     frames
@@ -424,6 +425,7 @@ fn command<'a>(alloc: Global) -> Result<Command<'a>, AllocError> {
     Ok(command)
 }
 
+/// An argument that has to be given.
 pub fn needed<'a>(alloc: Global, name: &'a str, help: &'a str) -> Arg<'a> {
     Arg::new(alloc, name).required(true).help(help)
 }
@@ -447,10 +449,12 @@ pub fn window_of_args<'a>(args: &ArgMatches<'a>) -> Result<Window, ArgumentFault
     }
 }
 
+/// How many words a frame may take at most: what `--budget` says, or the usual number.
 pub fn budget_of_args<'a>(args: &ArgMatches<'a>) -> u32 {
     args.get_one::<u32>("budget").unwrap_or(USUAL_BUDGET)
 }
 
+/// Where the ROM lies: what `--rom` says, or where that of Asteroids does.
 pub fn map_of_args<'a>(args: &ArgMatches<'a>) -> Result<RomMap, ArgumentFault<'a>> {
     match args.get_str("rom") {
         Some(map) => map_of(map).ok_or(ArgumentFault::Word(Form::Map, map)),
