@@ -427,7 +427,7 @@ pub const READ_ROM: Rule = Rule {
 
 pub const READ_FRAME: Rule = Rule {
     number: 71,
-    meaning: "the frame can't be opened or read",
+    meaning: "the frame or the recipe can't be opened or read",
     line: "dvgcheck: cannot read the frame",
     heading: "What gets it",
     input: "a name that no file has",
