@@ -9,8 +9,6 @@ mod belonging;
 mod changes;
 mod choices;
 mod confirmed;
-#[cfg(test)]
-mod example_tests;
 mod frame_items;
 mod goal;
 mod hull;
@@ -18,8 +16,6 @@ mod hulls;
 mod indices;
 mod judge;
 pub mod laws;
-#[cfg(test)]
-mod length_tests;
 mod lengths;
 mod limits;
 mod notes;
@@ -29,13 +25,9 @@ mod recipe;
 mod rectangles;
 mod roots;
 mod takes;
-#[cfg(test)]
-mod tests;
 mod trail;
 mod tried;
 mod verdict;
-#[cfg(test)]
-mod verdict_tests;
 mod witness;
 
 pub use belonging::{Leaving, NotMember, belongs};

@@ -19,8 +19,6 @@ mod printing;
 mod reader;
 mod reading;
 mod sequence;
-#[cfg(test)]
-mod tests;
 mod words;
 
 pub use fault::{RecipeTextFault, RecipeTextWhy};

@@ -24,7 +24,7 @@ pub type Part<'a> = (usize, &'a [u16]);
 /// The words of the stroke by 1023, 767, and RTSL.
 pub const STROKE: Part<'static> = (0x800, &[0x92FF, 0x73FF, 0xD000]);
 
-/// A ROM at 800 to BFF with these words, and zeros elsewhere.
+/// The bytes of a ROM at 800 to BFF, or of vector RAM, with these words, and zeros elsewhere.
 pub fn rom_bytes(parts: &[Part]) -> [u8; 2048] {
     let mut bytes = [0; 2048];
     for &(addr, words) in parts {

@@ -27,6 +27,8 @@ mod labels;
 #[cfg(test)]
 mod making;
 #[cfg(test)]
+mod recipes;
+#[cfg(test)]
 mod rows;
 #[cfg(test)]
 mod running;

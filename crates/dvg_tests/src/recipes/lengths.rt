@@ -1,10 +1,10 @@
-//! Recipes whose longest list passes its area, with the pieces that a program in Python, written apart from this one, gave; and the
-//! limits of repeats.
+//! Recipes whose longest list passes its area, with the pieces that a program in Python, written apart from this one, gave.
 
-use crate::tests::{
-    Row, call, draw, either, expect_rows, expect_same, fixed, pair, place, repeat, row, span,
+use crate::expecting::expect_same;
+use crate::recipes::building::{
+    draw, either, fixed, nested, pair, place, repeat, row, shapes, span, straight,
 };
-use crate::{Area, Jump, Part, Piece, Recipe, too_long};
+use dvg_recipe::{Area, Jump, Part, Recipe, too_long};
 use dvg_words::Format;
 use std::alloc::{AllocError, Global};
 use std::fmt::Debug;
@@ -12,30 +12,6 @@ use std::process::Abort;
 
 /// The first and the last word of the area of each list, and the number of the piece at which the longest list passes.
 type Ends<'a> = (&'a [(u16, u16)], Option<u16>);
-
-/// A row of calls of a shape, of these numbers.
-fn shapes(alloc: Global, numbers: &[u16]) -> Result<Part, AllocError> {
-    let mut row = Vec::new(alloc);
-    for &number in numbers {
-        let kind = call(alloc, &[0x820])?;
-        row.push(Piece { number, kind })?;
-    }
-    Ok(Part::Row(row))
-}
-
-/// The recipe of lists in these areas, with no jump.
-fn straight(
-    alloc: Global,
-    areas: &[(u16, u16)],
-    body: Part,
-    halt: u16,
-) -> Result<Option<Recipe>, AllocError> {
-    let mut lists = Vec::new(alloc);
-    for &(first, last) in areas {
-        lists.push(Area { first, last })?;
-    }
-    Ok(Recipe::new(lists, body, Vec::new(alloc), halt))
-}
 
 /// A place, a draw of each format, an instruction of each format, and a call: 2, 1, 2, 2, 1 and 1 words.
 fn all_kinds(alloc: Global) -> Result<Part, AllocError> {
@@ -202,36 +178,6 @@ fn counts_jumps(rt: HostRuntime) {
     }
 }
 
-/// A call in repeats, one in another.
-fn nested(alloc: Global, levels: u16, least: u16, most: u16) -> Result<Part, AllocError> {
-    let mut part = shapes(alloc, &[0])?;
-    for _ in 0..levels {
-        part = repeat(alloc, least, most, part)?;
-    }
-    Ok(part)
-}
-
-/// Stops the test unless a recipe of this body is within the limits, or not.
-fn expect_limits(rt: &impl Abort, alloc: Global, body: Part, halt: u16, fits: bool) {
-    let recipe = straight(alloc, &[(0, 0x3FF)], body, halt).expect(rt, "memory for the recipe");
-    expect_same(rt, &recipe.is_some(), &fits, &halt);
-}
-
-#[test]
-fn limits_repeats(rt: HostRuntime) {
-    let alloc = rt.alloc();
-    for (levels, fits) in [(16, true), (17, false)] {
-        let body = nested(alloc, levels, 1, 1023).expect(&rt, "memory for the body");
-        expect_limits(&rt, alloc, body, 1, fits);
-    }
-    let empty = repeat(alloc, 0, 1, Part::Row(Vec::new(alloc))).expect(&rt, "memory for the body");
-    expect_limits(&rt, alloc, empty, 0, false);
-    let call = shapes(alloc, &[0]).expect(&rt, "memory for a row");
-    let some = either(alloc, Part::Row(Vec::new(alloc)), call).expect(&rt, "memory for branches");
-    let some = repeat(alloc, 0, 1, some).expect(&rt, "memory for the body");
-    expect_limits(&rt, alloc, some, 1, true);
-}
-
 #[test]
 fn counts_nested_repeats(rt: HostRuntime) {
     for (levels, past) in [(1, None), (2, Some(0)), (16, Some(0))] {
@@ -239,22 +185,4 @@ fn counts_nested_repeats(rt: HostRuntime) {
         let recipe = straight(rt.alloc(), &[(0, 0x3FF)], body, 1);
         expect_past(&rt, recipe, past, &levels);
     }
-}
-
-/// 20 calls, and 20 calls with one more behind another item.
-const NESTED_ROWS: &[Row] = &[
-    (0x015, &[(0x000, &[0xC820; 20]), (0x014, &[0xB000])], None),
-    (
-        0x017,
-        &[(0x000, &[0xC820; 20]), (0x014, &[0xC810, 0xC820, 0xB000])],
-        Some((0x014, &[0, 1])),
-    ),
-];
-
-#[test]
-fn ends_in_most_nested(rt: HostRuntime) {
-    let body = nested(rt.alloc(), 16, 1, 1023).expect(&rt, "memory for the body");
-    let recipe = straight(rt.alloc(), &[(0, 0x0FF)], body, 1).expect(&rt, "memory for the recipe");
-    let recipe = recipe.expect(&rt, "a recipe");
-    expect_rows(&rt, rt.alloc(), &recipe, NESTED_ROWS);
 }

@@ -4,43 +4,18 @@ ghost use Rattle.std.specs.Prelude.{◌≡◌, ◌≤◌};
 ghost use Rattle.dvg_words.specs.declared.machine.Machine.TheVariants.{Board};
 ghost use Rattle.dvg_cert.specs.declared.limits.TheConstants.{MOST_WORDS};
 
-use crate::tests::{
-    Words, call, draw, either, expect_same, fixed, frame_bytes, pair, repeat, row, span,
-};
-use crate::{
-    Area, Jump, Part, PieceKind, PlaceRange, Recipe, RecipeRefusal, RecipeYes, find_deepest,
-    find_longest, find_refused, judge_recipe,
-};
+use crate::expecting::expect_same;
+use crate::inputs::{Part, rom_bytes};
+use crate::recipes::steps::{Step, recipe_of};
 use Step::{Call, Either, Fixed, Place, Repeat, Svec, Then, Vctr};
 use dvg_cert::{Key, MOST_WORDS};
 use dvg_make::EntryFault;
-use dvg_words::{ASTEROIDS, CLIPPED, Format, Machine, RomImage, SCREEN, Window};
+use dvg_recipe::{
+    Recipe, RecipeRefusal, RecipeYes, find_deepest, find_longest, find_refused, judge_recipe,
+};
+use dvg_words::{ASTEROIDS, CLIPPED, Machine, RomImage, SCREEN, Window};
 use std::alloc::{AllocError, Global};
 use std::process::Abort;
-
-/// The least and the greatest of a range.
-type Ends = (i16, i16);
-
-/// A step by which a part is put together, over a stack of parts.
-#[derive(Clone, Copy, Debug)]
-enum Step<'a> {
-    /// Pushes a LABS to a place from X to X and from Y to Y, at these scales.
-    Place(Ends, Ends, &'a [u8]),
-    /// Pushes a JSRL to one of these word addresses.
-    Call(&'a [u16]),
-    /// Pushes a VCTR of a local scale, with sizes across and up, and intensities.
-    Vctr(u8, Ends, Ends, Ends),
-    /// Pushes an SVEC, the same.
-    Svec(u8, Ends, Ends, Ends),
-    /// Pushes the instruction of these words.
-    Fixed(u16, u16),
-    /// Puts the two parts on top one behind the other.
-    Then,
-    /// Makes branches of the two parts on top.
-    Either,
-    /// Repeats the part on top, at least and at most so many times.
-    Repeat(u16, u16),
-}
 
 /// Where strokes may be lit.
 #[derive(Clone, Copy, Debug)]
@@ -89,171 +64,6 @@ const PLAIN: Row = Row {
     window: Shown::Screen,
     told: Told::Memory,
 };
-
-/// Parts, the last one on top, and the number of the piece that comes next.
-#[derive(Drop)]
-struct Stack {
-    alloc: Global,
-    parts: Vec<Part>,
-    next: u16,
-}
-
-/// The first part, and behind it the second: one row, if both are rows.
-fn joined(alloc: Global, first: Part, second: Part) -> Result<Part, AllocError> {
-    match (first, second) {
-        (Part::Row(mut row), Part::Row(more)) => {
-            for piece in more {
-                row.push(piece)?;
-            }
-            Ok(Part::Row(row))
-        }
-        (first, second) => pair(alloc, first, second),
-    }
-}
-
-/// The set of these scales.
-fn set_of(scales: &[u8]) -> [bool; 16] {
-    let mut set = [false; 16];
-    for &scale in scales {
-        set[usize::from(scale % 16)] = true;
-    }
-    set
-}
-
-impl Stack {
-    /// No part, and no piece so far.
-    fn new(alloc: Global) -> Stack {
-        let parts = Vec::new(alloc);
-        Stack {
-            alloc,
-            parts,
-            next: 0,
-        }
-    }
-
-    /// The number of the next piece.
-    fn number(&mut self) -> u16 {
-        let number = self.next;
-        self.next = number.saturating_add(1);
-        number
-    }
-
-    /// Takes the part on top. Without any it is an empty row.
-    fn take(&mut self) -> Part {
-        match self.parts.pop() {
-            Some(part) => part,
-            None => Part::Row(Vec::new(self.alloc)),
-        }
-    }
-
-    /// Pushes a row of one piece.
-    fn push(&mut self, kind: PieceKind) -> Result<(), AllocError> {
-        let number = self.number();
-        self.parts.push(row(self.alloc, number, kind)?)?;
-        Ok(())
-    }
-
-    /// Pushes draws of a format.
-    fn push_draw(
-        &mut self,
-        format: Format,
-        lscale: u8,
-        sizes: (Ends, Ends),
-        bright: Ends,
-    ) -> Result<(), AllocError> {
-        let (dx, dy) = sizes;
-        let sizes = (span(dx.0, dx.1), span(dy.0, dy.1));
-        self.push(draw(format, lscale, sizes, span(bright.0, bright.1)))
-    }
-
-    /// Pushes places.
-    fn push_place(&mut self, x: Ends, y: Ends, scales: &[u8]) -> Result<(), AllocError> {
-        self.push(PieceKind::Place(PlaceRange {
-            x: span(x.0, x.1),
-            y: span(y.0, y.1),
-            scales: set_of(scales),
-        }))
-    }
-
-    /// Puts the two parts on top one behind the other.
-    fn join(&mut self) -> Result<(), AllocError> {
-        let second = self.take();
-        let first = self.take();
-        self.parts.push(joined(self.alloc, first, second)?)?;
-        Ok(())
-    }
-
-    /// Makes branches of the two parts on top.
-    fn branch(&mut self) -> Result<(), AllocError> {
-        let other = self.take();
-        let one = self.take();
-        self.parts.push(either(self.alloc, one, other)?)?;
-        Ok(())
-    }
-
-    /// Repeats the part on top.
-    fn turn(&mut self, least: u16, most: u16) -> Result<(), AllocError> {
-        let body = self.take();
-        self.parts.push(repeat(self.alloc, least, most, body)?)?;
-        Ok(())
-    }
-
-    /// Takes a step.
-    fn step(&mut self, step: &Step) -> Result<(), AllocError> {
-        match *step {
-            Step::Place(x, y, scales) => self.push_place(x, y, scales),
-            Step::Call(targets) => self.push(call(self.alloc, targets)?),
-            Step::Vctr(lscale, dx, dy, bright) => {
-                self.push_draw(Format::Long, lscale, (dx, dy), bright)
-            }
-            Step::Svec(lscale, dx, dy, bright) => {
-                self.push_draw(Format::Short, lscale, (dx, dy), bright)
-            }
-            Step::Fixed(first, second) => self.push(fixed(first, second)),
-            Step::Then => self.join(),
-            Step::Either => self.branch(),
-            Step::Repeat(least, most) => self.turn(least, most),
-        }
-    }
-
-    /// The parts that these steps leave, one behind the other.
-    fn part(&mut self, steps: &[Step]) -> Result<Part, AllocError> {
-        for step in steps {
-            self.step(step)?;
-        }
-        for _ in 1..self.parts.len() {
-            self.join()?;
-        }
-        Ok(self.take())
-    }
-
-    /// A jump to an area, and what stands there.
-    fn jump(&mut self, area: (u16, u16), steps: &[Step]) -> Result<Jump, AllocError> {
-        let (first, last) = area;
-        let number = self.number();
-        let body = self.part(steps)?;
-        Ok(Jump {
-            number,
-            area: Area { first, last },
-            body,
-        })
-    }
-}
-
-/// The recipe of a row.
-fn recipe_of(alloc: Global, row: &Row) -> Result<Option<Recipe>, AllocError> {
-    let mut lists = Vec::new(alloc);
-    for &(first, last) in row.lists {
-        lists.push(Area { first, last })?;
-    }
-    let mut stack = Stack::new(alloc);
-    let body = stack.part(row.body)?;
-    let mut jumps = Vec::new(alloc);
-    for (area, steps) in row.jumps {
-        jumps.push(stack.jump(*area, steps)?)?;
-    }
-    Ok(Recipe::new(lists, body, jumps, stack.next))
-}
 
 /// The window of a row. `None` if it is none.
 fn window_of(shown: &Shown) -> Option<Window> {
@@ -305,11 +115,12 @@ fn shows(
 }
 
 /// Stops the test unless each recipe over the ROM of these words at 800 to BFF is told of as its row says.
-fn expect_told(rt: &impl Abort, alloc: Global, words: &[Words], rows: &[Row]) {
-    let bytes = frame_bytes(words);
+fn expect_told(rt: &impl Abort, alloc: Global, words: &[Part], rows: &[Row]) {
+    let bytes = rom_bytes(words);
     let rom = RomImage::from_bytes_on(Machine::Board, &bytes, ASTEROIDS).expect(rt, "a ROM");
     for row in rows {
-        let recipe = recipe_of(alloc, row).expect(rt, "memory for the recipe");
+        let recipe = recipe_of(alloc, row.lists, row.body, row.jumps);
+        let recipe = recipe.expect(rt, "memory for the recipe");
         let recipe = recipe.expect(rt, "a recipe");
         let window = window_of(&row.window).expect(rt, "a window");
         let budget = row.budget.min(MOST_WORDS);
@@ -326,7 +137,7 @@ fn expect_told(rt: &impl Abort, alloc: Global, words: &[Words], rows: &[Row]) {
 }
 
 /// Shapes of a vector ROM.
-const ROM: &[Words] = &[
+const ROM: &[Part] = &[
     // a dot
     (0x800, &[0xF070, 0xD000]),
     // a box, 16 places to the right and up

@@ -1,22 +1,15 @@
-//! The worked recipes of [`laws`](crate::laws), as values: which frames belong, and what is answered. Worked by hand from the documentation
-//! of the DVG.
+//! The worked recipes of [`laws`](dvg_recipe::laws), as values: which frames belong, and what is answered. Worked by hand from the
+//! documentation of the DVG.
 
-use crate::tests::{
-    Row, call, draw, either, expect_rows, expect_same, fixed, frame_bytes, pair, repeat, row, span,
-};
-use crate::{
-    Area, Part, Piece, PieceKind, PlaceRange, Recipe, RecipeRefusal, RecipeYes, Span, judge_recipe,
+use crate::expecting::expect_same;
+use crate::inputs::rom_bytes;
+use crate::recipes::building::{call, draw, either, fixed, pair, repeat, row, span, straight};
+use crate::recipes::members::{Row, expect_rows};
+use dvg_recipe::{
+    Part, Piece, PieceKind, PlaceRange, Recipe, RecipeRefusal, RecipeYes, Span, judge_recipe,
 };
 use dvg_words::{ASTEROIDS, Format, Machine, RomImage, SCREEN};
 use std::alloc::{AllocError, Global};
-use std::process::Abort;
-
-/// A list at 000, up to this word.
-fn list(alloc: Global, last: u16) -> Result<Vec<Area>, AllocError> {
-    let mut lists = Vec::new(alloc);
-    lists.push(Area { first: 0, last })?;
-    Ok(lists)
-}
 
 /// A row of a place at one of these scales, and of a call.
 fn start(
@@ -51,7 +44,7 @@ fn example(alloc: Global) -> Result<Option<Recipe>, AllocError> {
         row(alloc, 3, fixed(0xF0F0, 0))?,
     )?;
     let body = pair(alloc, start, repeat(alloc, 0, 2, turn)?)?;
-    Ok(Recipe::new(list(alloc, 0x01F)?, body, Vec::new(alloc), 4))
+    straight(alloc, &[(0, 0x01F)], body, 4)
 }
 
 /// The recipe of a column of places, up to this one.
@@ -59,7 +52,7 @@ fn column(alloc: Global, top: i16) -> Result<Option<Recipe>, AllocError> {
     let mut scales = [false; 16];
     scales[0] = true;
     let body = start(alloc, span(0, 0), span(0, top), scales, &[0x800, 0x802])?;
-    Ok(Recipe::new(list(alloc, 0x00F)?, body, Vec::new(alloc), 2))
+    straight(alloc, &[(0, 0x00F)], body, 2)
 }
 
 /// The frame that belongs, the one with a place past the range, and the one with a turn too many, after which only the HALT may stand.
@@ -111,7 +104,7 @@ fn as_told(answer: &Result<RecipeYes, RecipeRefusal>) -> Result<(u32, u32, u8), 
 #[test]
 fn judges_worked_columns(rt: HostRuntime) {
     // VCTR at local scale 9, intensity 7, X size 1023, Y size 767; RTSL
-    let bytes = frame_bytes(&[(0x800, &[0x92FF, 0x73FF, 0xD000])]);
+    let bytes = rom_bytes(&[(0x800, &[0x92FF, 0x73FF, 0xD000])]);
     let rom = RomImage::from_bytes_on(Machine::Board, &bytes, ASTEROIDS).expect(&rt, "a ROM");
     for (top, told) in COLUMNS {
         let recipe = column(rt.alloc(), *top).expect(&rt, "memory for the recipe");

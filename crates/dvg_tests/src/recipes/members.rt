@@ -1,15 +1,15 @@
-//! Which frames belong to a recipe, and where the others leave it: rows that a program in Python, written apart from this one, gave.
+//! Which frames belong to a recipe, and where the others leave it: rows that a program in Python, written apart from this one, gave. And
+//! which values are no recipe.
 
-use crate::{
-    Area, DrawRange, Jump, NotMember, Part, Piece, PieceKind, PlaceRange, Recipe, Span, belongs,
+use crate::expecting::expect_same;
+use crate::inputs::{Part as Words, rom_bytes};
+use crate::recipes::building::{
+    call, draw, either, fixed, nested, pair, place, repeat, row, shapes, span, straight,
 };
+use dvg_recipe::{Area, Jump, NotMember, Part, PieceKind, Recipe, belongs};
 use dvg_words::{Format, FrameImage};
 use std::alloc::{AllocError, Global};
-use std::fmt::Debug;
 use std::process::Abort;
-
-/// Words at a word address.
-pub type Words<'a> = (usize, &'a [u16]);
 
 /// A frame's number of words, those of its words that are not 0, and where it leaves the recipe, with the pieces that could stand there.
 pub type Row<'a> = (usize, &'a [Words<'a>], Option<(u16, &'a [u16])>);
@@ -150,79 +150,6 @@ const ROWS: &[Row] = &[
     ),
 ];
 
-/// The bytes of vector RAM with these words, and zeros elsewhere.
-pub fn frame_bytes(parts: &[Words]) -> [u8; 2048] {
-    let mut bytes = [0; 2048];
-    for &(addr, words) in parts {
-        let mut at = 2 * (addr % 0x400);
-        for word in words {
-            let [low, high] = word.to_le_bytes();
-            let here = at % 2048;
-            bytes[here] = low;
-            bytes[(here + 1) % 2048] = high;
-            at = here + 2;
-        }
-    }
-    bytes
-}
-
-/// Stops the test unless two values are the same, and tells at which row they are not.
-pub fn expect_same<T: PartialEq + Debug, P: Debug>(rt: &impl Abort, got: &T, want: &T, at: &P) {
-    assert_eq!(rt; got, want, "at {at:?}");
-}
-
-pub fn span(low: i16, high: i16) -> Span {
-    Span { low, high }
-}
-
-pub fn row(alloc: Global, number: u16, kind: PieceKind) -> Result<Part, AllocError> {
-    let mut row = Vec::new(alloc);
-    row.push(Piece { number, kind })?;
-    Ok(Part::Row(row))
-}
-
-pub fn pair(alloc: Global, first: Part, second: Part) -> Result<Part, AllocError> {
-    Ok(Part::Then(Box::new(alloc, first)?, Box::new(alloc, second)?))
-}
-
-pub fn either(alloc: Global, one: Part, other: Part) -> Result<Part, AllocError> {
-    Ok(Part::Either(Box::new(alloc, one)?, Box::new(alloc, other)?))
-}
-
-pub fn repeat(alloc: Global, least: u16, most: u16, body: Part) -> Result<Part, AllocError> {
-    let body = Box::new(alloc, body)?;
-    Ok(Part::Repeat { least, most, body })
-}
-
-pub fn place() -> PieceKind {
-    let mut scales = [false; 16];
-    scales[0] = true;
-    scales[2] = true;
-    PieceKind::Place(PlaceRange {
-        x: span(0, 1023),
-        y: span(-8, 8),
-        scales,
-    })
-}
-
-pub fn call(alloc: Global, targets: &[u16]) -> Result<PieceKind, AllocError> {
-    Ok(PieceKind::Call(Vec::from_slice(alloc, targets)?))
-}
-
-pub fn draw(format: Format, lscale: u8, sizes: (Span, Span), bright: Span) -> PieceKind {
-    PieceKind::Draw(DrawRange {
-        format,
-        lscale,
-        dx: sizes.0,
-        dy: sizes.1,
-        bright,
-    })
-}
-
-pub fn fixed(first: u16, second: u16) -> PieceKind {
-    PieceKind::Fixed { first, second }
-}
-
 /// A place; then a call, or one to three draws, each with a dot, or no more than two calls.
 fn body(alloc: Global) -> Result<Part, AllocError> {
     let sizes = (span(-4, 4), span(0, 2));
@@ -275,7 +202,7 @@ fn recipe(alloc: Global, second: u16) -> Result<Option<Recipe>, AllocError> {
 /// Stops the test unless each frame belongs to the recipe, or leaves it, as its row says.
 pub fn expect_rows(rt: &impl Abort, alloc: Global, recipe: &Recipe, rows: &[Row]) {
     for (words, parts, leaves) in rows {
-        let bytes = frame_bytes(parts);
+        let bytes = rom_bytes(parts);
         let frame = FrameImage::from_bytes(&bytes[..2 * (*words % 1025)]);
         let frame = frame.expect(rt, "a frame");
         match belongs(alloc, recipe, &frame) {
@@ -300,7 +227,7 @@ fn tells_members(rt: HostRuntime) {
     expect_rows(&rt, rt.alloc(), &recipe, ROWS);
 }
 
-/// The frames of `nested`: 20 calls, and 20 calls with one more behind another item.
+/// 20 calls, and 20 calls with one more behind another item.
 const NESTED_ROWS: &[Row] = &[
     (0x015, &[(0x000, &[0xC820; 20]), (0x014, &[0xB000])], None),
     (
@@ -310,25 +237,22 @@ const NESTED_ROWS: &[Row] = &[
     ),
 ];
 
-/// The recipe of calls in repeats of 0 to 1,023 turns, one in another.
-fn nested(alloc: Global, levels: u16) -> Result<Option<Recipe>, AllocError> {
-    let mut part = row(alloc, 0, call(alloc, &[0x820])?)?;
-    for _ in 0..levels {
-        part = repeat(alloc, 0, 1023, part)?;
-    }
-    let mut lists = Vec::new(alloc);
-    lists.push(Area {
-        first: 0,
-        last: 0x0FF,
-    })?;
-    Ok(Recipe::new(lists, part, Vec::new(alloc), 1))
+/// Stops the test unless the frames of `NESTED_ROWS` are told, by so many repeats of at least so many turns, one in another.
+fn expect_nested(rt: &impl Abort, alloc: Global, levels: u16, least: u16) {
+    let body = nested(alloc, levels, least, 1023).expect(rt, "memory for the body");
+    let recipe = straight(alloc, &[(0, 0x0FF)], body, 1).expect(rt, "memory for the recipe");
+    let recipe = recipe.expect(rt, "a recipe");
+    expect_rows(rt, alloc, &recipe, NESTED_ROWS);
 }
 
 #[test]
 fn ends_in_nested_repeats(rt: HostRuntime) {
-    let recipe = nested(rt.alloc(), 12).expect(&rt, "memory for the recipe");
-    let recipe = recipe.expect(&rt, "a recipe");
-    expect_rows(&rt, rt.alloc(), &recipe, NESTED_ROWS);
+    expect_nested(&rt, rt.alloc(), 12, 0);
+}
+
+#[test]
+fn ends_in_most_nested(rt: HostRuntime) {
+    expect_nested(&rt, rt.alloc(), 16, 1);
 }
 
 #[test]
@@ -345,12 +269,7 @@ fn many_calls(alloc: Global, targets: u16) -> Result<Option<Recipe>, AllocError>
         addresses.push(to)?;
     }
     let calls = row(alloc, 0, PieceKind::Call(addresses))?;
-    let mut lists = Vec::new(alloc);
-    lists.push(Area {
-        first: 0,
-        last: 0x3FF,
-    })?;
-    Ok(Recipe::new(lists, repeat(alloc, 0, 1023, calls)?, Vec::new(alloc), 1))
+    straight(alloc, &[(0, 0x3FF)], repeat(alloc, 0, 1023, calls)?, 1)
 }
 
 #[test]
@@ -360,4 +279,25 @@ fn limits_options(rt: HostRuntime) {
         let recipe = many_calls(rt.alloc(), targets).expect(&rt, "memory for the recipe");
         expect_same(&rt, &recipe.is_some(), &is_recipe, &targets);
     }
+}
+
+/// Stops the test unless a recipe of this body is within the limits, or not.
+fn expect_limits(rt: &impl Abort, alloc: Global, body: Part, halt: u16, fits: bool) {
+    let recipe = straight(alloc, &[(0, 0x3FF)], body, halt).expect(rt, "memory for the recipe");
+    expect_same(rt, &recipe.is_some(), &fits, &halt);
+}
+
+#[test]
+fn limits_repeats(rt: HostRuntime) {
+    let alloc = rt.alloc();
+    for (levels, fits) in [(16, true), (17, false)] {
+        let body = nested(alloc, levels, 1, 1023).expect(&rt, "memory for the body");
+        expect_limits(&rt, alloc, body, 1, fits);
+    }
+    let empty = repeat(alloc, 0, 1, Part::Row(Vec::new(alloc))).expect(&rt, "memory for the body");
+    expect_limits(&rt, alloc, empty, 0, false);
+    let call = shapes(alloc, &[0]).expect(&rt, "memory for a row");
+    let some = either(alloc, Part::Row(Vec::new(alloc)), call).expect(&rt, "memory for branches");
+    let some = repeat(alloc, 0, 1, some).expect(&rt, "memory for the body");
+    expect_limits(&rt, alloc, some, 1, true);
 }

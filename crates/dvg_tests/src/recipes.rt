@@ -1,0 +1,11 @@
+//! Recipes: which frames belong to one, how long its lists are, and what is answered of it; its text, read and printed.
+
+mod building;
+mod lengths;
+mod members;
+mod sayings;
+mod spellings;
+mod steps;
+mod texts;
+mod verdicts;
+mod worked;
