@@ -3,21 +3,23 @@
  *
  * dvgcheck_frame_alone judges a frame from the ROM alone, and dvgcheck_explain tells why it is refused. dvgcheck_make makes the
  * certificate of a ROM's shapes, and dvgcheck_frame_by_certificate judges a frame by such a one. All of them take the machine first:
- * users of a board pass DVGCHECK_BOARD; DVGCHECK_PROFILE is the fixed-point profile (docs/MACHINE.md).
+ * users of a board pass DVGCHECK_BOARD; DVGCHECK_PROFILE is the fixed-point profile (docs/MACHINE.md). dvgcheck_recipe judges all frames
+ * of a recipe (docs/RECIPES.md), and dvgcheck_belongs tells whether a frame is one of them; their machine is the board.
  *
  * A ROM and a frame are bytes as the processor sees them, the low byte of each word first; a frame is vector RAM from 4000 on, 2 to
  * 2048 bytes.
  *
- * What the functions answer and write is proved. It rests on what nothing can test, so it is yours to see to:
+ * What the functions answer and write is proved, but for what is called only tested below. It rests on what nothing can test, so it is
+ * yours to see to:
  *
  * - A pointer and the length after it are those of so many elements that can be read, and that nothing writes during the call. It is
  *   not null, also where the length is 0.
- * - The bytes of a buffer, `text`, have some value, and nothing else reads or writes them during the call; what else is passed lies
- *   outside of it.
+ * - The bytes of a buffer, `text` or the `frame` of dvgcheck_recipe, have some value, and nothing else reads or writes them during the
+ *   call; what else is passed lies outside of it.
  * - The ROM of the machine has the bytes that were judged, where the map or the certificate says.
  * - malloc, realloc and free are those of one allocator, which aligns as the C standard asks. No call is made from a signal
- *   handler, or in the child that a process with threads forked. 64 KiB of the stack are free, and 96 KiB for
- *   dvgcheck_explain.
+ *   handler, or in the child that a process with threads forked. 64 KiB of the stack are free, 96 KiB for dvgcheck_explain, and
+ *   160 KiB for dvgcheck_recipe and dvgcheck_belongs.
  *
  * Any number of threads may call these functions at once, each with a buffer of its own. No function keeps a pointer, or anything
  * else, once it has returned.
@@ -86,10 +88,11 @@ enum {
     DVGCHECK_BAD_WINDOW = 80,   /* the ends are not in order or not on the screen, and not those of DVGCHECK_CLIPPED on the board */
     DVGCHECK_BAD_MACHINE = 82,  /* the number stands for no machine */
     DVGCHECK_BAD_MAP = 83,      /* no ROM can lie there */
-    DVGCHECK_SHORT_BUFFER = 84, /* of a text: the buffer is too short for it */
-    DVGCHECK_NO_MEMORY = 85,    /* of dvgcheck_explain: there was no memory for the account */
+    DVGCHECK_SHORT_BUFFER = 84, /* of a text, or of a frame that shows why: the buffer is too short for it */
+    DVGCHECK_NO_MEMORY = 85,    /* there was no memory: of dvgcheck_explain for the account, of dvgcheck_recipe to look for a frame */
     DVGCHECK_BAD_LENGTHS = 86,  /* the lengths of the frames don't add up to that of their bytes */
-    DVGCHECK_BAD_MODE = 87      /* the number stands for no mode */
+    DVGCHECK_BAD_MODE = 87,     /* the number stands for no mode */
+    DVGCHECK_OUTSIDE = 88       /* of dvgcheck_belongs: the frame is none of the recipe's */
 };
 
 /* The machines. */
@@ -131,6 +134,25 @@ struct dvgcheck_text {
     size_t frame;                  /* of dvgcheck_make, with 2, and with 60 to 63 at a frame's call: which frame, from 0; else 0 */
     struct dvgcheck_answer answer; /* of dvgcheck_explain what it tells of, of dvgcheck_make why nothing is made */
     uint8_t number;                /* 0 where the whole text stands at the buffer's start, else 84 or why there is none */
+};
+
+/*
+ * What dvgcheck_recipe and dvgcheck_belongs answer. A field that is not told with its number is 0: with 1, 2, 49, 63, 80 and 83, and with
+ * 0 by dvgcheck_belongs, only the number is told.
+ */
+struct dvgcheck_recipe_answer {
+    size_t length;   /* of dvgcheck_recipe: how many bytes the frame has that shows why; 0 where there is none, as with 0 */
+    uint32_t shapes; /* with 0, of dvgcheck_recipe: how many entries are made for all calls of the recipe */
+    uint32_t words;  /* with 0, of dvgcheck_recipe: how many words every run of any of its frames fetches at most */
+    uint32_t line;   /* with 44 to 48, 51 to 57 and 60 to 62: the line of the recipe, counted from 1; of 60 to 62 that of the call */
+    uint16_t word;   /* with 25: the word address of the first item that breaks the rule; with 60: of what no shape can have; with
+                        DVGCHECK_OUTSIDE: of the frame's item with which it leaves the recipe */
+    uint16_t shape;  /* with 25: the word address of the entry whose shape has it */
+    uint8_t scale;   /* with 25: the global scale of that entry, 0 to 15, or DVGCHECK_ANY_SCALE */
+    uint8_t depth;   /* with 0, of dvgcheck_recipe: how many return places every run of any of its frames stores at once at most */
+    uint8_t number;  /* 0 where the recipe is accepted, or the frame belongs; else the number of the refusal, or DVGCHECK_OUTSIDE */
+    uint8_t witness; /* of dvgcheck_recipe: 0 where the frame that shows why stands whole at the buffer's start, or there is none;
+                        84 where the buffer is too short for it; 85 where there was no memory to look for it */
 };
 
 /*
@@ -183,6 +205,31 @@ struct dvgcheck_text dvgcheck_make(uint32_t machine, const uint8_t *rom, size_t 
                                    const struct dvgcheck_root *roots, size_t root_count, const uint8_t *frames,
                                    size_t frames_length, const uint32_t *lengths, size_t frame_count, uint8_t *text,
                                    size_t text_size);
+
+/*
+ * Judges all frames of a recipe over a ROM on the board at once, as `dvgcheck recipe` does. `recipe` is its text, as bytes. No labels
+ * can be given: a label's name is refused with 52. The number is 83, 80, or the first that applies of 51 to 56, 49, 1, 57, 60 to 62,
+ * 25, 44, 46 and 48, or 0. Where it is 0, each frame of the recipe is safe as dvgcheck_frame_alone says of the board, but `words` and
+ * `depth` are bounds for all of them. Which recipe the text spells is only tested. With 25, 44 to 48 and 60 to 62 a frame of the
+ * recipe that is refused with the same number is written to `frame`, which is not null, also where `frame_size` is 0; 2048 bytes are
+ * always enough. `length` is how many bytes it has, and `witness` is 0; or 84, and the buffer is as it was, as it also is where
+ * `length` is 0. That this frame is one of the recipe's, and is refused so, is only tested. Takes memory for the recipe and for the
+ * entries of its calls, and gives it back; where there is none, the number is 56 or 63, or `witness` is 85, or no frame is found. At
+ * most 160 KiB of the stack.
+ */
+struct dvgcheck_recipe_answer dvgcheck_recipe(const uint8_t *rom, size_t rom_length, struct dvgcheck_map map, const uint8_t *recipe,
+                                              size_t recipe_length, uint32_t budget, struct dvgcheck_window window, uint8_t *frame,
+                                              size_t frame_size);
+
+/*
+ * Tells whether a frame, as bytes, is one of a recipe's, as `dvgcheck belongs` does. Of the ROM only the length is looked at.
+ * `recipe` is the text, as that of dvgcheck_recipe. The number is 83, or the first that applies of 51 to 56, 1, 57, 2 and
+ * DVGCHECK_OUTSIDE; or 0, and the frame is one of the recipe's. So where this is 0, and dvgcheck_recipe accepts the recipe over the
+ * same ROM, the frame is safe. Takes memory for the recipe and for the frame's items, and gives it back; where there is none, the
+ * number is 56 or 63. At most 160 KiB of the stack.
+ */
+struct dvgcheck_recipe_answer dvgcheck_belongs(const uint8_t *rom, size_t rom_length, struct dvgcheck_map map, const uint8_t *recipe,
+                                               size_t recipe_length, const uint8_t *frame, size_t frame_length);
 
 /* The version of the library, as DVGCHECK_VERSION has that of the header. */
 uint32_t dvgcheck_version(void);

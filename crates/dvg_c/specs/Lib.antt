@@ -3,3 +3,4 @@ pub mod Alone
 pub mod ByCertificate
 pub mod Texts
 pub mod Making
+pub mod Recipes

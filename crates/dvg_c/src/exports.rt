@@ -7,25 +7,33 @@ ghost use Rattle.dvg_words.specs.Memory.{words_of};
 ghost use Rattle.dvg_check.specs.declared.fault.Mode.TheVariants.{Exact};
 ghost use Rattle.dvg_check.specs.Means.{Means};
 ghost use Rattle.dvg_check.specs.Verdict.{memory_on};
+ghost use Rattle.dvg_recipe_cmd.specs.Recipes.{IsAcceptedRecipe};
 ghost use Rattle.dvg_verdict.specs.Verdict.{MeansOn};
 ghost use Rattle.dvg_c.specs.Told.{machine_of, map_of, mode_of, window_of};
 ghost use Rattle.dvg_c.specs.Alone.{TellsAlone};
 ghost use Rattle.dvg_c.specs.ByCertificate.{TellsCheck};
 ghost use Rattle.dvg_c.specs.Texts.{IsExplained};
 ghost use Rattle.dvg_c.specs.Making.{IsMade, root_of};
+ghost use Rattle.dvg_c.specs.Recipes.{IsJudged, TellsMember, options_of, recipe_yes_of};
 
 use crate::alone::own_certificates;
 use crate::answer::{
-    Answer, BAD_MACHINE, BAD_MODE, BAD_WINDOW, NO_TEXT_MEMORY, answer_of, numbered, own_answer,
+    Answer, BAD_MACHINE, BAD_MAP, BAD_MODE, BAD_WINDOW, NO_TEXT_MEMORY, answer_of, numbered,
+    own_answer,
 };
 use crate::explain::account_of;
 use crate::machine::machine_numbered;
 use crate::make::{Root, Unmade, made_text, no_certificate};
 use crate::map::{MapEnds, map_between};
 use crate::mode::mode_numbered;
+use crate::recipe::{
+    RecipeAnswer, member_answer_of, membership_in, put_witness, recipe_answer_of, recipe_numbered,
+    recipe_options,
+};
 use crate::text::{TextAnswer, no_text, put_text};
 use crate::window::{WindowEnds, window_for};
 use dvg_cmd::{Detail, FrameJudge};
+use dvg_recipe_cmd::{Explained, Wanted, judge_text};
 use dvg_verdict::check_on;
 use std::alloc::Global;
 
@@ -172,5 +180,67 @@ pub extern "C" fn dvgcheck_make(
     match made_text(alloc, machine, map, rom, roots, frames, lengths) {
         Ok(made) => put_text(&made, numbered(0), text),
         Err(unmade) => no_certificate(&unmade),
+    }
+}
+
+/// Judges all frames of a recipe on the board: `judge_text` of `dvg_recipe_cmd`, for C. Where it is refused, a frame of it that shows why
+/// goes into a buffer.
+///
+/// `map` says where the ROM lies, `recipe` is the recipe's text, without labels, `budget` how many words a frame may take at most, 1 to
+/// 1,000,000, and `window` where strokes may be lit. The answer is 83 for another map, 80 for another window, else the first that applies
+/// of 51 to 56, 49, 1, 57, 60 to 63, 25 and 44 to 48, or 0. With 0 each frame of some recipe, which is that of the text (only tested), is
+/// safe, as [`dvgcheck_frame_alone`] says, with counts of its own that are no greater than the answered ones.
+///
+/// The answer's `length` is that of a frame of the recipe that is refused with the same number (only tested), or 0 where there is none, as
+/// with 0 and 51 to 57. Its `witness` is 0 where that frame stands whole at the buffer's start, or there is none, 84 where the buffer is
+/// too short for it, and 85 where there was no memory to look for it; with 84 and 85, and where there is none, nothing is written. Takes
+/// memory for the recipe, and for the certificate of its calls and its making, and gives it back.
+#[unsafe(no_mangle)]
+pub extern "C" fn dvgcheck_recipe(
+    alloc: Global,
+    rom: &[u8],
+    map: MapEnds,
+    recipe: &[u8],
+    budget: u32,
+    window: WindowEnds,
+    frame: &mut [u8],
+) -> RecipeAnswer
+    ensures verdict { IsJudged rom.now (map_of map) budget (window_of window) frame.old frame.new result }
+    ensures means { result.number ≡ 0
+        → IsAcceptedRecipe rom.now (options_of (map_of map) budget (window_of window)) (recipe_yes_of result) }
+{
+    match recipe_options(map, budget, window) {
+        Ok(options) => {
+            let explained = Explained {
+                rom,
+                text: recipe,
+                options,
+            };
+            let judged = judge_text(alloc, &explained, None, Wanted::Witness);
+            put_witness(&judged.witness, recipe_answer_of(&judged.verdict), frame)
+        }
+        Err(bad) => recipe_numbered(bad.number()),
+    }
+}
+
+/// Tells whether a frame is one of a recipe's: `membership_of` of `dvg_recipe_cmd`, for C.
+///
+/// `map` says where the ROM lies, and `recipe` is the recipe's text, without labels. The answer is 83 for another map, else the first that
+/// applies of 51 to 56, 1, 57 and 2; else 0 where the frame is one of the frames of some recipe, which is that of the text (only tested),
+/// 88 where it is none, with the word at which it leaves the recipe (only tested), or 63 where there was no memory to find out. Takes
+/// memory for the recipe and for the frame's items, and gives it back.
+#[unsafe(no_mangle)]
+pub extern "C" fn dvgcheck_belongs(
+    alloc: Global,
+    rom: &[u8],
+    map: MapEnds,
+    recipe: &[u8],
+    frame: &[u8],
+) -> RecipeAnswer
+    ensures verdict { TellsMember rom.now (map_of map) frame.now result }
+{
+    match map_between(map) {
+        Some(map) => member_answer_of(&membership_in(alloc, rom, map, recipe, frame)),
+        None => recipe_numbered(BAD_MAP),
     }
 }

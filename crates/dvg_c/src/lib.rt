@@ -1,5 +1,5 @@
-//! The checker for programs in C: a static library whose exports call those of `dvg_verdict` and `dvg_cmd`, and state their clauses
-//! again.
+//! The checker for programs in C: a static library whose exports call those of `dvg_verdict`, `dvg_cmd` and `dvg_recipe_cmd`, and state
+//! their clauses again.
 //!
 //! C meets no `requires`, so no export has one: what a call asks is tested, and answered by a number.
 #![tactic(auto)]
@@ -12,15 +12,17 @@ mod machine;
 mod make;
 mod map;
 mod mode;
+mod recipe;
 mod text;
 mod window;
 
 pub use answer::Answer;
 pub use exports::{
-    dvgcheck_explain, dvgcheck_frame_alone, dvgcheck_frame_by_certificate, dvgcheck_make,
-    dvgcheck_version,
+    dvgcheck_belongs, dvgcheck_explain, dvgcheck_frame_alone, dvgcheck_frame_by_certificate,
+    dvgcheck_make, dvgcheck_recipe, dvgcheck_version,
 };
 pub use make::Root;
 pub use map::MapEnds;
+pub use recipe::RecipeAnswer;
 pub use text::TextAnswer;
 pub use window::WindowEnds;

@@ -40,7 +40,7 @@ pub struct Recorded<'a> {
 }
 
 /// The recipe, or the first that applies of 51 to 56, 1 and 57.
-fn recipe_of<'a>(given: &Recorded<'a>) -> Result<&'a ReadRecipe, RecipeNo>
+pub fn recipe_of<'a>(given: &Recorded<'a>) -> Result<&'a ReadRecipe, RecipeNo>
     ensures ok { IfOk result (λ read. TakesRecipe given.now.rom.now given.now.map given.now.recipe.now read.now) }
     ensures err { IfErr result (λ no. RefusesRecipe given.now.rom.now given.now.map given.now.recipe.now no) }
 {
@@ -93,7 +93,7 @@ fn account_of(
 }
 
 /// What is said of the bytes of a frame, and what the detail asks for behind its line.
-fn membership_of(
+pub fn membership_of(
     alloc: Global,
     read: &ReadRecipe,
     bytes: &[u8],

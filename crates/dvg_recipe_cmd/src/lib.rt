@@ -18,12 +18,13 @@ mod recipes;
 mod tally;
 mod text_lines;
 
+pub use account::Explained;
 pub use answer::{RecipeAnswer, RecipeNo, recipe_line_of, recipe_outcome_of};
 pub use dvg_recipe::RecipeYes;
 pub use dvg_recipe_text::{ReadRecipe, RecipeTextFault, RecipeTextWhy};
 pub use fault::{RecipeRunFault, recipe_message_of, recipe_status_of};
-pub use frames::{Recorded, run_belongs};
-pub use judging::RecipeOptions;
+pub use frames::{Recorded, membership_of, recipe_of, run_belongs};
+pub use judging::{JudgedRecipe, RecipeOptions, Wanted, Witness, judge_text};
 pub use line::Line;
 pub use membership::{Membership, membership_line_of, membership_outcome_of};
 pub use printing::run_print;
