@@ -36,6 +36,8 @@ WORSE = (
     Worse("homebrew", "homebrew", 22, "place 0 1024 0 1023 scale 0", 23, SCREEN, ()),
     Worse("text", "arcade", 17, "repeat 1 21", 18, SCREEN, ()),
     Worse("text", "arcade", 23, "place 0 1 0 1000 scale 0", 24, SCREEN, ()),
+    Worse("lander", "homebrew", 7, "vctr 9 x 12 12 y -60 60 bright 7 7 to 0 1023 80 1024", 7, SCREEN, ()),
+    Worse("lander", "homebrew", 7, "vctr 9 x 12 12 y -60 60 bright 7 7 to 0 1023 -1 320", 7, SCREEN, ()),
     Worse("game", "arcade", 33, "repeat 0 2", 35, ZONE, ("--clip",)),
     Worse("game", "arcade", 31, "place 0 1025 0 1023 scale 0", 35, ZONE, ("--clip",)),
 )

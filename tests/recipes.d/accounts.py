@@ -1,73 +1,27 @@
-"""What `explain recipe` has to tell, by every member of a recipe: each is drawn as docs/MACHINE.md says of the board."""
+"""What `explain recipe` has to tell, by every member of a recipe, each of which is drawn."""
 
 from itertools import groupby
-from typing import NamedTuple, Optional
+from typing import NamedTuple
 
-from answers import MAKING, RULES, UNKNOWN
-from chances import FIRST
-from items import as_long, item_at, length
+from answers import MAKING, RULES
+from beams import Beam, beams
+from items import length
 from members import spelled
+from shapes import UNKNOWN
 from texts import Either, Leaf, Repeat
 
 
-class Beam(NamedTuple):
-    """What is known at a word of a list."""
-    scale: int = UNKNOWN
-    place: Optional[tuple] = None
-    words: int = 0
-    depth: int = 0      # the most return places so far
-
-
-def moved(size, scale):
-    """How far a draw of this size goes at an effective scale: rounded half up, and nowhere from 10 on."""
-    distance = (abs(size) << scale) + 256 >> 9 if scale <= 9 else 0
-    return -distance if size < 0 else distance
-
-
-def past_draw(beam, item):
-    _, local, x, y, _ = as_long(item)
-    if beam.place is None or beam.scale == UNKNOWN:
-        return beam._replace(place=None)
-    scale = (local + beam.scale) % 16
-    return beam._replace(place=(beam.place[0] + moved(x, scale), beam.place[1] + moved(y, scale)))
-
-
-def past_shape(beam, rom, address, depth):
-    """Behind the shape at this address, which is called with so many return places stored."""
-    beam, index = beam._replace(depth=max(beam.depth, depth)), address - FIRST
-    while True:
-        item = item_at(rom.words, index)
-        beam = past(beam, item, rom, depth)
-        if item[0] == "rtsl":
-            return beam
-        index = item[1] - FIRST if item[0] == "jmpl" else index + length(item)
-
-
-def past(beam, item, rom, depth):
-    """Behind an item that stands where so many return places are stored."""
-    beam = beam._replace(words=beam.words + length(item))
-    if item[0] in ("vctr", "svec"):
-        return past_draw(beam, item)
-    if item[0] == "labs":
-        return beam._replace(place=item[1:3], scale=item[3])
-    if item[0] == "jsrl":
-        return past_shape(beam, rom, item[1], depth + 1)
-    return beam
-
-
 class Seen(NamedTuple):
-    """An item of a member, and what is known before and behind it."""
+    """An item of a list, and what is known before it."""
     one: tuple
     before: Beam
     words: int          # it takes, with what it calls
 
 
-def seen(member, rom):
-    beam = Beam(words=1 if member.first else 0)
-    for one in member.spelled:
-        behind = past(beam, one.item, rom, 0)
+def seen(one_list, shapes):
+    known = list(beams(one_list, shapes))
+    for one, beam, behind in zip(one_list.spelled, known, known[1:]):
         yield Seen(one, beam, behind.words - beam.words)
-        beam = behind
 
 
 # ---- the lines
@@ -110,17 +64,30 @@ def extent(places):
     return f"X {min(x)} to {max(x)}, Y {min(y)} to {max(y)}"
 
 
+def by_scale(pair):
+    line, beam = pair
+    return line, beam.scale
+
+
 def known(every):
     """What is known before the first piece of each line, scale by scale."""
     first = {}
     for one, _, _ in every:
         first[one.leaf.line] = min(first.get(one.leaf.line, one.leaf.number), one.leaf.number)
-    beams = {(one.leaf.line, before) for one, before, _ in every if first[one.leaf.line] == one.leaf.number}
-    for (line, scale), some in groupby(sorted(beams, key=lambda pair: (pair[0], pair[1].scale)), lambda pair: (pair[0], pair[1].scale)):
+    before_lines = {(one.leaf.line, before) for one, before, _ in every if first[one.leaf.line] == one.leaf.number}
+    for (line, scale), some in groupby(sorted(before_lines, key=by_scale), by_scale):
         some = [beam for _, beam in some]
         told = "unknown" if scale == UNKNOWN else scale
         words, depth = max(beam.words for beam in some), max(beam.depth for beam in some)
         yield f"before line {line}: scale {told}, place {extent([beam.place for beam in some])}, words {words}, return places {depth}"
+
+
+def seen_up_to(case, answer, shapes):
+    """The items of the line that is refused with 59, up to the turn that is, before which all lead where they have to."""
+    for one_list, count in zip(case.lists, case.led):
+        for one in list(seen(one_list, shapes))[:count + 1]:
+            if one.one.leaf.line == answer.line and one.one.instance <= answer.rank[0]:
+                yield one
 
 
 def lines_of(part):
@@ -143,11 +110,15 @@ def turns(recipe, answer):
     return [f"turn: {turn} of the repeat of line {lines[number]}" for number, turn in zip(instance[::2], instance[1::2])]
 
 
-def account(case, rom, answer, witness):
+def account(case, shapes, answer, witness):
     """The first lines of the account, all of them for an accepted recipe."""
     if answer.number == 57:
         return list(rooms(case.recipe))
+    if answer.number == 59:
+        return list(known(list(seen_up_to(case, answer, shapes))))
+    if answer.number and witness is None:
+        return ["shown by: no frame that was found"]
     if answer.number:
         return [*turns(case.recipe, answer), f"shown by: a frame of {len(witness)} words, as follows"]
-    every = [one for member in case.members for one in seen(member, rom)]
+    every = [one for member in case.members for one in seen(member, shapes)]
     return [*rooms(case.recipe), takes_most(every), *known(every)]

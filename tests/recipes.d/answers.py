@@ -1,19 +1,19 @@
-"""What `recipe` has to answer, by what `frames` says of each member.
+"""What `recipe` has to answer, by what `frames` says of each list that the recipe spells.
 
 It is accepted exactly if all members are, with their greatest counts, and the number of entries that their calls need. Else it is refused
-with 60 to 62 if some member is; else with 25; else with 44 to 48. Of 60 to 62 and of 44 to 48 the least instance counts at which
-some member is refused so: a line in the turns of the repeats around it, in the order of reading. There it is the lowest number, but of 60
-to 62 that at the lowest scale, unknown last, and of one scale that of the first address of the line. Of 25 it is the first shape.
+with 60 to 62 if some list is, whether or not it leads where it has to; else with 59; else with 25 if some member is; else with 44 to 48.
+Of 59 to 62 and of 44 to 48 the least instance counts at which it is so: a line in the turns of the repeats around it, in the order of
+reading. There it is the lowest number, but of 60 to 62 that at the lowest scale, unknown last, and of one scale that of the first address
+of the line. Of 25 it is the first shape.
 """
 
 import re
-from itertools import islice
 from typing import NamedTuple, Optional
 
-from items import item_at, length
+from leading import stuck
 from members import addresses_of, items_of, spelled, too_long
+from shapes import UNKNOWN
 
-UNKNOWN = 16
 MAKING, SHAPE, RULES = (60, 61, 62), (25,), (44, 45, 46, 47, 48)
 ACCEPTED = re.compile(r"accepted shapes=\d+ words=(\d+) depth=(\d+)")
 OF_SHAPE = re.compile(r"refused (25) shape ([0-9A-F]{3})/(\d+|any) at [0-9A-F]{3}")
@@ -25,57 +25,12 @@ class Strange(Exception):
     """An answer that no frame of a recipe can have."""
 
 
-class Entry(NamedTuple):
-    needs: frozenset    # the address and the scale of each entry that it needs, and its own
-    scale: int          # behind it
-
-
-class Shapes:
-    """The entries that calls need, of shapes whose entries can be made."""
-
-    def __init__(self, words, first):
-        self.words, self.first, self.kept = words, first, {}
-
-    def entry(self, address, scale):
-        if (address, scale) not in self.kept:
-            self.kept[address, scale] = self.made(address, scale)
-        return self.kept[address, scale]
-
-    def made(self, address, scale):
-        needs, now, index = {(address, scale)}, scale, address - self.first
-        while True:
-            item = item_at(self.words, index)
-            if item[0] == "labs":
-                now = item[3]
-            if item[0] in ("jsrl", "jmpl"):
-                below = self.entry(item[1], now)
-                needs, now = needs | below.needs, below.scale
-            if item[0] in ("rtsl", "jmpl"):
-                return Entry(frozenset(needs), now)
-            index += length(item)
-
-    def scales(self, one):
-        """The scale that is known before each item of a list."""
-        scale = UNKNOWN
-        for item, _, _ in one:
-            yield scale
-            if item[0] == "labs":
-                scale = item[3]
-            elif item[0] == "jsrl":
-                scale = self.entry(item[1], scale).scale
-
-    def needed(self, one):
-        """The entries that the calls of a list need."""
-        calls = [(item[1], scale) for (item, _, _), scale in zip(one, self.scales(one)) if item[0] == "jsrl"]
-        return frozenset().union(*(self.entry(*call).needs for call in calls))
-
-
 class Answer(NamedTuple):
     told: str                   # what the line says behind the name
     number: int = 0             # of a refusal
     line: Optional[int] = None  # of the recipe, if it is told
     rank: tuple = ()            # among those of the same kind: the least is told
-    has_witness: bool = True
+    has_witness: Optional[bool] = True      # none where it may have one
     items: tuple = ()           # of a member that is refused so
 
 
@@ -96,9 +51,8 @@ def by_shape(found):
 def by_call(found, member, shapes):
     index = index_of(member, found[4])
     item, instance, leaf = member.spelled[index]
-    scale = next(islice(shapes.scales(member.spelled), index, None))
     told = f"{found[1]} for recipe line {leaf.line}"
-    return Answer(told, int(found[2]), leaf.line, (instance, scale, leaf.items.index(item)))
+    return Answer(told, int(found[2]), leaf.line, (instance, shapes.scale_at(member.spelled, index), leaf.items.index(item)))
 
 
 def by_rule(found, member):
@@ -130,12 +84,22 @@ def acceptance(recipe, all_told, shapes):
     return Answer(f"accepted shapes={len(needed)} words={words} depth={depth}", has_witness=False)
 
 
-def answer(recipe, all_members, all_told, shapes):
-    """The answer for a recipe whose longest list fits, by what is said of each member."""
-    refused = [pair for pair in zip(all_members, all_told) if not ACCEPTED.fullmatch(pair[1])]
-    refusals = [refusal(member, told, shapes)._replace(items=items_of(member)) for member, told in refused]
-    for numbers in (MAKING, SHAPE, RULES):
-        some = [one for one in refusals if one.number in numbers]
-        if some:
-            return min(some, key=lambda one: one.rank)
-    return acceptance(recipe, all_told, shapes)
+def stuck_refusal(case):
+    instance, line = stuck(case.lists, case.led) or (None, None)
+    return line and Answer(f"refused 59 recipe line {line}", 59, line, (instance,), has_witness=False)
+
+
+def first_refusal(lists, told, numbers, shapes):
+    """The first refusal with one of these numbers, by what is said of each of these lists."""
+    refused = [one for one in lists if not ACCEPTED.fullmatch(told[items_of(one)])]
+    refusals = [refusal(one, told[items_of(one)], shapes)._replace(items=items_of(one)) for one in refused]
+    return min((one for one in refusals if one.number in numbers), key=lambda one: one.rank, default=None)
+
+
+def answer(case, told, shapes):
+    """The answer for a recipe whose longest list fits, by what is said of the items of each of its lists."""
+    made, none_leads = first_refusal(case.lists, told, MAKING, shapes), stuck_refusal(case)
+    if made:
+        return made._replace(has_witness=None) if none_leads else made
+    return (none_leads or first_refusal(case.members, told, SHAPE, shapes) or first_refusal(case.members, told, RULES, shapes)
+            or acceptance(case.recipe, [told[items_of(one)] for one in case.members], shapes))

@@ -4,7 +4,7 @@ written out. Most of what a recipe lights is near an edge of the window, so that
 import random
 from typing import NamedTuple
 
-from items import vctr_words, labs_words, svec_words, words_of
+from items import labs_words, moved, svec_words, vctr_words, words_of
 from members import count
 from texts import read
 
@@ -125,6 +125,7 @@ class Author:
     def __init__(self, chance, rom, window):
         self.chance, self.rom, self.window = chance, rom, window
         self.lines, self.deep, self.names = ["dvgrecipe 1"], 0, []
+        self.at, self.scale = (0, 0), 0     # where the beam may be: where the last draw or place leads
 
     def put(self, *words):
         if self.chance.one_in(40):
@@ -147,6 +148,7 @@ class Author:
         sides = [side for axis in (0, 1) for side in self.span(-2048, 2047, self.near(axis))]
         scales = {self.chance.one_of(SCALES) for _ in range(self.chance.one_of((1, 1, 2)))}
         self.put("place", *sides, "scale", *sorted(scales))
+        self.at, self.scale = (sides[0], sides[2]), min(scales)
 
     def target(self):
         if self.chance.one_in(60):
@@ -161,10 +163,24 @@ class Author:
     def bright(self):
         return self.span(0, 15, self.chance.one_of((0, 0, 7)), (0, 0, 1))
 
+    def bound(self, axis, low, high):
+        """A bound that leaves all or most of these moves, or now and then none."""
+        inward = (-300, -300, -300, -20, -3, 0, 1)
+        least = max(-2048, min(2047, self.at[axis] + low + self.chance.one_of(inward)))
+        return least, max(least, min(2047, self.at[axis] + high - self.chance.one_of(inward)))
+
+    def to(self, local, x, y):
+        """Where such draws have to lead."""
+        moves = [[moved(size, (local + self.scale) % 16) for size in sizes] for sizes in (x, y)]
+        bounds = [self.bound(axis, *moves[axis]) for axis in (0, 1)]
+        self.at = tuple(max(least, at + low) for at, (low, _), (least, _) in zip(self.at, moves, bounds))
+        return "to", *bounds[0], *bounds[1]
+
     def vctr(self):
-        most = self.chance.one_of((3, 3, 40, 200))
+        most, local = self.chance.one_of((3, 3, 40, 200)), self.chance.one_of(LOCAL_SCALES)
         x, y = (self.span(-1023, 1023, self.chance.between(-most, most), (0, 0, 1, 2, 3)) for _ in "xy")
-        self.put("vctr", self.chance.one_of(LOCAL_SCALES), "x", *x, "y", *y, "bright", *self.bright())
+        to = self.to(local, x, y) if self.chance.one_in(2) else ()
+        self.put("vctr", local, "x", *x, "y", *y, "bright", *self.bright(), *to)
 
     def svec(self):
         x, y = (self.span(-3, 3, self.chance.between(-3, 3)) for _ in "xy")
@@ -207,22 +223,42 @@ class Author:
         self.parts(left, (1, 1, 2))
         self.end()
 
-    def steps(self):
-        """From near an edge some dark steps to or fro, and a dot."""
-        x, y = (self.near(axis) for axis in (0, 1))
-        self.put("place", x, x, y, y, "scale", 0)
+    def some_turns(self):
+        """From near an edge so many turns of what follows."""
+        x, y = self.at = tuple(self.near(axis) for axis in (0, 1))
+        self.scale = self.chance.one_of((0, 0, 0, 15))
+        self.put("place", x, x, y, y, "scale", self.scale)
         least = self.chance.between(0, 2)
         self.block("repeat", least, self.chance.between(max(1, least), 4))
-        across, up = self.chance.one_of(((7, 0), (-7, 0), (0, 7), (0, -7)))
-        self.put("vctr", 9, "x", across, across, "y", up, up, "bright", 0, 0)
+
+    def dot(self):
         self.end()
         self.put("vctr 9 x 0 0 y 0 0 bright 7 7")
+
+    def steps(self):
+        """From near an edge some dark steps to or fro, and a dot."""
+        self.some_turns()
+        across, up = self.chance.one_of(((7, 0), (-7, 0), (0, 7), (0, -7)))
+        self.put("vctr", 9, "x", across, across, "y", up, up, "bright", 0, 0)
+        self.dot()
+
+    def around(self, at):
+        return max(-2048, at - self.chance.one_of((0, 1, 2, 300))), min(2047, at + self.chance.one_of((0, 1, 2, 300)))
+
+    def chain(self):
+        """From near an edge some draws to or fro, each of which has to lead to near it, and a dot."""
+        self.some_turns()
+        sizes, local, bright = self.chance.one_of(((-1, 1), (0, 1), (-2, 1), (3, 4))), self.chance.one_of((9, 9, 8)), self.chance.bright()
+        across, up = self.chance.one_of(((sizes, (0, 0)), ((0, 0), sizes)))
+        sides = [side for at in self.at for side in self.around(at)]
+        self.put("vctr", local, "x", *across, "y", *up, "bright", bright, bright, "to", *sides)
+        self.dot()
 
     def part(self, left):
         if left and self.chance.one_in(3):
             self.chance.one_of((self.either, self.repeat))(left - 1)
-        elif left and self.chance.one_in(12):
-            self.steps()
+        elif left and self.chance.one_in(6):
+            self.chance.one_of((self.steps, self.chain))()
         else:
             self.chance.one_of((self.place, self.place, self.call, self.call, self.call, self.vctr, self.svec, self.fixed))()
 

@@ -33,7 +33,8 @@ LIMITS = (
 )
 SHEET = of_lines(
     "list 001 1FF", "list 201 2FF", "shapes ROCK 800 A", "shapes BOTH ROCK LOW", "place -2048 2047 -2048 2047 scale 0 15", "call BOTH 801",
-    "vctr 9 x -1023 1023 y -1023 1023 bright 0 15", "svec 3 x -3 3 y -3 3 bright 0 15", "words A000 0000 F000 9000 7000 C800",
+    "vctr 9 x -1023 1023 y -1023 1023 bright 0 15", "vctr 0 x 0 9 y -1 1 bright 7 7 to -2048 2047 0 1023",
+    "svec 3 x -3 3 y -3 3 bright 0 15", "words A000 0000 F000 9000 7000 C800",
     "either", "  call 800", "or", "  repeat 0 1023", "    words F000", "  end", "end", "jump 300 3FF")
 
 
@@ -57,7 +58,7 @@ TARGETS = ADDRESSES + b" OWN NONE lower _ LOW A _b SHIP BAD SAME TWICE ODD FAR"
 # what may stand in a line, by its first word: numbers at a limit, a few past it, and others
 LIKELY = {line: words.split() for line, words in {
     b"place": b"-2049 -2048 -1 -0 0 00 1 14 15 16 1023 2047 2048",
-    b"vctr": b"-1024 -1023 -1 0 1 9 10 15 16 1023 1024",
+    b"vctr": b"-2049 -2048 -1024 -1023 -1 -0 0 1 9 10 15 16 1023 1024 2047 2048",
     b"svec": b"-4 -3 -1 0 1 2 3 4 15 16",
     b"repeat": b"-1 0 1 2 1022 1023 1024",
     b"words": b"B000 B0B0 CFFF D000 E001 F000 9000 A000 1234",
@@ -66,7 +67,8 @@ OTHER_LINES = (
     b"|   |;|  ; x|; \t|;\x7f|; \x1f|either|either |or|end|repeat 0 1|  repeat 3 1023|repeat 0 0|halt| halt|dvgrecipe 1|list 000 3FF|"
     b"list 3FF 3FF|shapes OWN 800 A|shapes NEW 800 801|shapes BAD 800|call OWN A|call NONE 80|call 80 NONE|call NONE \t|call 800|"
     b"call 8ff|words A000 0000|words c800|place -2048 2047 0 1023 scale 0 15|svec 3 x -3 3 y 0 0 bright 0 7|"
-    b"vctr 9 x -1023 1023 y 0 0 bright 0 15|vctr 9 x 0 1 y 0 0 bright 0 0 to 0 1023 0 1023|jump 3FE 3FF|jump 200 200").split(b"|")
+    b"vctr 9 x -1023 1023 y 0 0 bright 0 15|vctr 9 x 0 1 y 0 0 bright 0 0 to -2048 2047 0 1023|vctr 9 x 0 1 y 0 0 bright 0 0 to 0 9 0|"
+    b"svec 3 x 0 1 y 0 0 bright 0 0 to 0 1023 0 1023|jump 3FE 3FF|jump 200 200").split(b"|")
 OTHER_LINES += [b";" * 200, b"\t" * 200]
 KEYWORD = re.compile(rb"[a-z;]*")
 

@@ -51,9 +51,14 @@ def is_span(words, least, most):
     return len(words) == 2 and all(is_number(word, least, most) for word in words) and int(words[0]) <= int(words[1])
 
 
+def is_rectangle(words):
+    """Whether these are the sides of a rectangle of places."""
+    return is_span(words[:2], -2048, 2047) and is_span(words[2:], -2048, 2047)
+
+
 def is_place(words):
     scales = words[6:]
-    return (is_span(words[1:3], -2048, 2047) and is_span(words[3:5], -2048, 2047) and words[5:6] == ["scale"] and scales != []
+    return (is_rectangle(words[1:5]) and words[5:6] == ["scale"] and scales != []
             and all(is_number(scale, 0, 15) for scale in scales)
             and all(int(one) < int(other) for one, other in zip(scales, scales[1:])))
 
@@ -64,8 +69,9 @@ def is_draw(words, most_scale, most_size):
 
 
 def is_vctr(words):
-    """A bound of the place behind it, by `to`, has no form as yet."""
-    return is_draw(words, 9, 1023)
+    """Behind the draw may stand a rectangle to which it has to lead."""
+    to = words[11:]
+    return is_draw(words[:11], 9, 1023) and (to == [] or to[0] == "to" and is_rectangle(to[1:]))
 
 
 def is_svec(words):

@@ -1,4 +1,4 @@
-"""Instructions as the board reads them, their words, and the items of a frame: docs/MACHINE.md has the fields.
+"""Instructions as the board reads them, how far they move, their words, and the items of a frame: docs/MACHINE.md has the fields.
 
 An item is a tuple: ("vctr", scale, x, y, bright), ("svec", code, x, y, bright) with sizes of -3 to 3, ("labs", x, y, scale),
 ("jsrl", address), ("jmpl", address), ("halt",), ("rtsl",), or ("missing",) where there are no words for one.
@@ -7,6 +7,12 @@ An item is a tuple: ("vctr", scale, x, y, bright), ("svec", code, x, y, bright) 
 MISSING = ("missing",)
 LONG = ("vctr", "labs")
 FIXED = (*LONG, "svec", "jsrl")     # what a line `words` may have
+
+
+def moved(size, scale):
+    """How far a draw of this size goes at an effective scale: rounded half up, and nowhere from 10 on."""
+    distance = (abs(size) << scale) + 256 >> 9 if scale <= 9 else 0
+    return -distance if size < 0 else distance
 
 
 def length(item):

@@ -1,4 +1,4 @@
-"""All that a recipe spells, written out, and the frames of it."""
+"""All that a recipe spells, written out, and the frames of it. Which of these lead to where they have to, by `to`, leading.py tells."""
 
 from itertools import product
 from math import prod
@@ -15,7 +15,8 @@ class Spelled(NamedTuple):
 
 
 class Member(NamedTuple):
-    first: int          # where its list begins
+    """A list, and where it begins; one of the recipe's if it leads to where it has to."""
+    first: int
     spelled: list
 
 
@@ -48,7 +49,7 @@ def spelled(part, turns=()):
     return [one for most in range(part.least, part.most + 1) for one in joined(each[:most])]
 
 
-def members(recipe):
+def every_list(recipe):
     return [Member(first, one) for first in recipe.lists for one in spelled(recipe.body)]
 
 

@@ -1,10 +1,11 @@
 """Holds `dvgcheck recipe`, `explain recipe` and `dvgcheck belongs` to every member of small random recipes:
 model.py --frames 'PROGRAM' [--recipe 'PROGRAM'] [--count RECIPES] [--seed SEED] [--first LOT]
 
-Each member of a recipe is written out as a frame and judged by `frames --board`. From these answers follow that of `recipe`, which is to
-be just that line, and whether there is a witness; the witness is to be a member, refused with the same number at the same line. The
-account is to tell of all members what accounts.py finds. What `belongs` says of members, and of members with one word changed, is to be
-what their items say. The first difference ends the run; the lot that it names begins it again, by --first.
+Each list that a recipe spells is written out as a frame and judged by `frames --board`; the frame is a member where the list leads to
+where its lines have to lead, by `to`. From these answers follow that of `recipe`, which is to be just that line, and whether there is a
+witness; the witness is to be a member, refused with the same number at the same line. The account is to tell of all members what
+accounts.py finds. What `belongs` says of these frames, and of such with one word changed, is to be what their items say. The first
+difference ends the run; the lot that it names begins it again, by --first.
 """
 
 import argparse
@@ -15,14 +16,16 @@ import tempfile
 from typing import NamedTuple
 
 from accounts import account
-from answers import Shapes, Strange, answer, length_refusal, refusal
+from answers import Strange, answer, length_refusal, refusal
 from chances import FIRST, Asked, Chance, Rom, some_question, some_recipe, some_rom
 from items import as_bytes, as_long, as_words, frame_items
-from members import frame_of, items_of, members
+from leading import front_items, led
+from members import every_list, frame_of, items_of
+from shapes import Shapes
 from texts import Recipe
 
 LOT = 10                # recipes over one ROM
-FEW = 12                # members of each that `belongs` is asked of, and as many changed ones
+FEW = 12                # frames of each that `belongs` is asked of, and as many changed ones
 
 
 class Difference(Exception):
@@ -33,30 +36,36 @@ class Case(NamedTuple):
     name: str
     text: str
     recipe: Recipe
-    members: list
-    frames: dict        # the words of a frame, for the items of each member
+    lists: list         # all that it spells
+    led: list           # how many items of each come before the first one that doesn't lead where it has to
+    members: list       # the lists of which each item does
+    frames: dict        # the words of a frame, for the items of each list
     chance: Chance
 
 
 class Lot(NamedTuple):
     number: int
     rom: Rom
+    shapes: Shapes
     asked: Asked
     cases: list
 
 
 # ---- the lots
 
-def some_case(chance, name, rom, window):
+def some_case(chance, name, rom, shapes, window):
     text, recipe = some_recipe(chance, rom, window)
-    all_members = [] if length_refusal(recipe) else members(recipe)
-    return Case(name, text, recipe, all_members, {items_of(one): frame_of(one, chance) for one in all_members}, chance)
+    lists = [] if length_refusal(recipe) else every_list(recipe)
+    counts = [led(one, shapes) for one in lists]
+    members = [one for one, count in zip(lists, counts) if count == len(one.spelled)]
+    return Case(name, text, recipe, lists, counts, members, {items_of(one): frame_of(one, chance) for one in lists}, chance)
 
 
 def some_lot(seed, number, count):
     chance = Chance(f"{seed} {number}")
     rom, asked = some_rom(chance), some_question(chance)
-    return Lot(number, rom, asked, [some_case(chance, str(index), rom, asked.window) for index in range(count)])
+    shapes = Shapes(rom.words, FIRST)
+    return Lot(number, rom, shapes, asked, [some_case(chance, str(index), rom, shapes, asked.window) for index in range(count)])
 
 
 # ---- the program
@@ -129,8 +138,8 @@ def frame_names(case):
     return [f"{case.name}-{index}.frame" for index in range(len(case.frames))]
 
 
-def judged_members(programs, lot):
-    """What `frames` says of each member, by its items, for each recipe of the lot."""
+def judged_lists(programs, lot):
+    """What `frames` says of each list, by its items, for each recipe of the lot."""
     frames = [words for case in lot.cases for words in case.frames.values()]
     names = [name for case in lot.cases for name in frame_names(case)]
     for name, words in zip(names, frames):
@@ -139,11 +148,11 @@ def judged_members(programs, lot):
     return [dict(zip(case.frames, told)) for case in lot.cases]
 
 
-def wanted_answer(lot, case, told, shapes):
+def wanted_answer(lot, case, told):
     try:
-        return length_refusal(case.recipe) or answer(case.recipe, case.members, [told[items_of(one)] for one in case.members], shapes)
+        return length_refusal(case.recipe) or answer(case, told, lot.shapes)
     except Strange as strange:
-        return differs(lot, case, "what `frames` says of a member", "an answer about an item of the recipe", strange)
+        return differs(lot, case, "what `frames` says of a list", "an answer about an item of the recipe", strange)
 
 
 def try_recipe(programs, lot, case, wanted):
@@ -157,7 +166,7 @@ def try_recipe(programs, lot, case, wanted):
     if (done.stdout, done.returncode) != (line, status):
         differs(lot, case, "the line of `recipe`", f"{line}with status {status}",
                 f"{done.stdout}{done.stderr}with status {done.returncode}", frame)
-    if (words is not None) != wanted.has_witness:
+    if wanted.has_witness not in (None, words is not None):
         which = ("no file", "a file")
         differs(lot, case, "the witness", f"{wanted.told}, {which[wanted.has_witness]}", which[words is not None], frame)
     return words
@@ -167,14 +176,14 @@ def try_account(programs, lot, case, wanted, witness):
     """Compares the account of `explain recipe`: all of it for an accepted recipe, else the lines that no other account has."""
     words = [*programs.recipe, "explain", "recipe", "--rom", lot.rom.map(), *lot.asked.options, "rom", case.name + ".recipe"]
     line, *found = programs.run(words).stdout.splitlines()
-    told = account(case, lot.rom, wanted, witness)
+    told = account(case, lot.shapes, wanted, witness)
     if wanted.number:
         found = found[:len(told)]
     if line != f"{case.name}.recipe: {wanted.told}" or found != told:
         differs(lot, case, "the account of `explain recipe`", "\n".join([wanted.told, *told]), "\n".join([line, *found]))
 
 
-def try_witness(lot, case, wanted, words, told, shapes):
+def try_witness(lot, case, wanted, words, told):
     """Whether a witness, of which `frames` says this, is a member that is refused as the recipe is."""
     items = tuple(item for _, item in frame_items(words))
     same = [one for one in case.members if items_of(one) == items]
@@ -182,34 +191,34 @@ def try_witness(lot, case, wanted, words, told, shapes):
         differs(lot, case, "the witness", "a member", told, words)
     if told.startswith("accepted"):
         differs(lot, case, "the witness", wanted.told, told, words)
-    refusals = {(one.number, one.line) for one in (refusal(member, told, shapes) for member in same)}
+    refusals = {(one.number, one.line) for one in (refusal(member, told, lot.shapes) for member in same)}
     if (wanted.number, wanted.line) not in refusals or wanted.line is None and told != wanted.told:
         differs(lot, case, "the witness", wanted.told, told, words)
 
 
-def try_witnesses(programs, lot, wanted, witnesses, shapes):
+def try_witnesses(programs, lot, wanted, witnesses):
     some = [(case, one, words) for case, one, words in zip(lot.cases, wanted, witnesses) if words is not None]
     names = [case.name + ".shown" for case, _, _ in some]
     for name, (_, _, words) in zip(names, some):
         programs.write(name, as_bytes(words))
     for (case, one, words), line in zip(some, programs.judged(lot, names)):
-        try_witness(lot, case, one, words, line, shapes)
+        try_witness(lot, case, one, words, line)
 
 
 # ---- which frames belong
 
 def tree_of(case):
-    """What the members' items may be, and behind each of them the next."""
+    """What items may be that lead where they have to, and behind each of them the next."""
     tree = {}
-    for items in case.frames:
+    for one, count in zip(case.lists, case.led):
         branch = tree
-        for item in items:
+        for item in front_items(one, count):
             branch = branch.setdefault(item, {})
     return tree
 
 
 def belonging(tree, words):
-    """What `belongs` has to say of a frame: no member has longer a front of its items than that up to the word that is told."""
+    """What `belongs` has to say of a frame: no longer front of its items is spelled than that up to the word that is told."""
     for at, item in frame_items(words):
         if item not in tree:
             return f"outside at {at:03X}"
@@ -229,16 +238,16 @@ def changed(chance, words, other):
 
 
 def lengthened(chance, member):
-    """The frame of a member with VCTRs for its SVECs."""
+    """The frame of a list with VCTRs for its SVECs."""
     return frame_of(member._replace(spelled=[one._replace(item=as_long(one.item)) for one in member.spelled]), chance)
 
 
 def tried_frames(case):
-    """Some members, as many with a word changed, and one with longer draws."""
+    """Some frames, as many with a word changed, and one with longer draws."""
     every = list(case.frames.values())
     some = every if len(every) <= FEW else [case.chance.one_of(every) for _ in range(FEW)]
     others = [changed(case.chance, words, case.chance.one_of(every)) for words in some]
-    return [*some, *others, lengthened(case.chance, case.chance.one_of(case.members))]
+    return [*some, *others, lengthened(case.chance, case.chance.one_of(case.lists))]
 
 
 def try_belongs(programs, lot, case):
@@ -269,11 +278,10 @@ def try_too_long(programs, lot, case, wanted):
 
 def try_lot(programs, lot):
     programs.write("rom", as_bytes(lot.rom.words))
-    shapes = Shapes(lot.rom.words, FIRST)
-    told = judged_members(programs, lot)
-    wanted = [wanted_answer(lot, case, lines, shapes) for case, lines in zip(lot.cases, told)]
+    told = judged_lists(programs, lot)
+    wanted = [wanted_answer(lot, case, lines) for case, lines in zip(lot.cases, told)]
     witnesses = [try_recipe(programs, lot, case, one) for case, one in zip(lot.cases, wanted)]
-    try_witnesses(programs, lot, wanted, witnesses, shapes)
+    try_witnesses(programs, lot, wanted, witnesses)
     for case, one, witness in zip(lot.cases, wanted, witnesses):
         try_account(programs, lot, case, one, witness)
     for case, one in zip(lot.cases, wanted):
@@ -296,7 +304,7 @@ def parser():
 
 
 def try_all(given, folder):
-    """How many members were tried, and the numbers of the recipes' answers."""
+    """How many frames were tried, and the numbers of the recipes' answers."""
     programs, tried, numbers = Programs(given.frames, given.recipe or given.frames, folder), 0, []
     for done in range(0, given.count, LOT):
         lot = some_lot(given.seed, given.first + done // LOT, min(LOT, given.count - done))
@@ -313,7 +321,7 @@ def main():
         except Difference as difference:
             print(f"FAILED: {difference}")
             return 1
-    print(f"model: {given.count} recipes, {tried} members, all as it should be")
+    print(f"model: {given.count} recipes, {tried} frames, all as it should be")
     if given.kinds:
         print(*(f"{number or 'accepted'}: {numbers.count(number)}" for number in sorted(set(numbers))), sep=", ")
     return 0

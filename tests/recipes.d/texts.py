@@ -1,7 +1,7 @@
 """The text of a recipe, read into what it says."""
 
 from itertools import product
-from typing import NamedTuple
+from typing import NamedTuple, Optional
 
 import grammar
 from items import fixed
@@ -12,6 +12,7 @@ class Leaf(NamedTuple):
     number: int
     line: int
     items: list         # what it allows, in the order of the line
+    to: Optional[tuple] = None  # the least and the greatest X, and Y, of the places to which it has to lead
 
 
 class Row(NamedTuple):
@@ -41,7 +42,7 @@ def span(words):
 
 
 def draws(words):
-    """The items of a `vctr` or `svec` line: KIND S x A B y C D bright E F."""
+    """The items of a `vctr` or `svec` line: KIND S x A B y C D bright E F .."""
     kind, scale, sizes = words[0], int(words[1]), product(span(words[3:5]), span(words[6:8]), span(words[9:11]))
     return [(kind, scale, x, y, bright) for x, y, bright in sizes]
 
@@ -49,6 +50,11 @@ def draws(words):
 def places(words):
     """The items of a `place` line: place X0 X1 Y0 Y1 scale S .."""
     return [("labs", x, y, int(scale)) for x, y, scale in product(span(words[1:3]), span(words[3:5]), words[6:])]
+
+
+def target(words):
+    """Where the items of a line have to lead: vctr .. to X0 X1 Y0 Y1."""
+    return tuple(map(int, words[12:])) if words[0] == "vctr" and len(words) > 11 else None
 
 
 class Reader:
@@ -97,7 +103,7 @@ class Reader:
             repeat = Repeat(self.number(), line, int(words[1]), int(words[2]), self.row())
             self.left.pop(0)
             return [repeat]
-        return [Leaf(self.number(), line, items) for items in self.choices(words)]
+        return [Leaf(self.number(), line, items, target(words)) for items in self.choices(words)]
 
     def branches(self):
         branches = [self.row()]

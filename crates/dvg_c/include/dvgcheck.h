@@ -144,7 +144,7 @@ struct dvgcheck_recipe_answer {
     size_t length;   /* of dvgcheck_recipe: how many bytes the frame has that shows why; 0 where there is none, as with 0 */
     uint32_t shapes; /* with 0, of dvgcheck_recipe: how many entries are made for all calls of the recipe */
     uint32_t words;  /* with 0, of dvgcheck_recipe: how many words every run of any of its frames fetches at most */
-    uint32_t line;   /* with 44 to 48, 51 to 57 and 60 to 62: the line of the recipe, counted from 1; of 60 to 62 that of the call */
+    uint32_t line;   /* with 44 to 48, 51 to 57 and 59 to 62: the line of the recipe, counted from 1; of 60 to 62 that of the call */
     uint16_t word;   /* with 25: the word address of the first item that breaks the rule; with 60: of what no shape can have; with
                         DVGCHECK_OUTSIDE: of the frame's item with which it leaves the recipe */
     uint16_t shape;  /* with 25: the word address of the entry whose shape has it */
@@ -208,7 +208,7 @@ struct dvgcheck_text dvgcheck_make(uint32_t machine, const uint8_t *rom, size_t 
 
 /*
  * Judges all frames of a recipe over a ROM on the board at once, as `dvgcheck recipe` does. `recipe` is its text, as bytes. No labels
- * can be given: a label's name is refused with 52. The number is 83, 80, or the first that applies of 51 to 56, 49, 1, 57, 60 to 62,
+ * can be given: a label's name is refused with 52. The number is 83, 80, or the first that applies of 51 to 56, 49, 1, 57, 60 to 62, 59,
  * 25, 44, 46 and 48, or 0. Where it is 0, each frame of the recipe is safe as dvgcheck_frame_alone says of the board, but `words` and
  * `depth` are bounds for all of them. Which recipe the text spells is only tested. With 25, 44 to 48 and 60 to 62 a frame of the
  * recipe that is refused with the same number is written to `frame`, which is not null, also where `frame_size` is 0; 2048 bytes are

@@ -2,6 +2,8 @@
 -- which recipe a text spells, so all that is said is about some recipe: that it is the text's is only tested.
 use Rattle.std.specs.Prelude.{◌≡◌, ℕ, List, Result, Ok, Err}
 use Rattle.dvg_words.specs.Values.{MemoryMap, Window, IsMap}
+use Rattle.dvg_words.specs.Memory.{rom_on}
+use Rattle.dvg_words.specs.declared.machine.Machine.TheVariants.{Board}
 use Rattle.dvg_check.specs.FirstFault.{shape_number, frame_number}
 use Rattle.dvg_make.specs.declared.fault.EntryFault.{EntryFault}
 use Rattle.dvg_make.specs.declared.fault.EntryFault.TheVariants as fault
@@ -49,6 +51,7 @@ told_recipe_no (no.Text f) = at_line (text_number f.why) f.line
 told_recipe_no no.BudgetRange = recipe_numbered 49
 told_recipe_no no.RomLength = recipe_numbered 1
 told_recipe_no (no.TooLong line) = at_line 57 line
+told_recipe_no (no.Stuck line) = at_line 59 line
 told_recipe_no (no.Make why line) = told_unmade_for why line
 told_recipe_no (no.Shape f) = record (recipe_numbered (shape_number f.why)) { shape = f.addr; scale = told_key f.key; word = f.word }
 told_recipe_no (no.Frame why line) = at_line (frame_number why) line
@@ -98,7 +101,7 @@ pub record IsJudged (rom : List ℕ) (map : MemoryMap) (budget : ℕ) (w : Windo
 abbrev pub MemberVerdict : List ℕ → MemoryMap → List ℕ → Result Membership RecipeNo → Type 0
 MemberVerdict rom map frame (Ok membership) =
     (given : Result ReadRecipe RecipeTextFault) × (read : ReadRecipe) × TakesRecipe rom map given read
-    × IsMembership read.recipe frame membership
+    × IsMembership (rom_on Board map rom) read.recipe frame membership
 MemberVerdict rom map frame (Err n) = (given : Result ReadRecipe RecipeTextFault) × RefusesRecipe rom map given n
 
 -- what is said of a frame; none is read, so no reading fails

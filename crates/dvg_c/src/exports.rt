@@ -188,11 +188,11 @@ pub extern "C" fn dvgcheck_make(
 ///
 /// `map` says where the ROM lies, `recipe` is the recipe's text, without labels, `budget` how many words a frame may take at most, 1 to
 /// 1,000,000, and `window` where strokes may be lit. The answer is 83 for another map, 80 for another window, else the first that applies
-/// of 51 to 56, 49, 1, 57, 60 to 63, 25 and 44 to 48, or 0. With 0 each frame of some recipe, which is that of the text (only tested), is
+/// of 51 to 56, 49, 1, 57, 60 to 63, 59, 25 and 44 to 48, or 0. With 0 each frame of some recipe, which is that of the text (only tested), is
 /// safe, as [`dvgcheck_frame_alone`] says, with counts of its own that are no greater than the answered ones.
 ///
 /// The answer's `length` is that of a frame of the recipe that is refused with the same number (only tested), or 0 where there is none, as
-/// with 0 and 51 to 57. Its `witness` is 0 where that frame stands whole at the buffer's start, or there is none, 84 where the buffer is
+/// with 0, 51 to 57 and 59. Its `witness` is 0 where that frame stands whole at the buffer's start, or there is none, 84 where the buffer is
 /// too short for it, and 85 where there was no memory to look for it; with 84 and 85, and where there is none, nothing is written. Takes
 /// memory for the recipe, and for the certificate of its calls and its making, and gives it back.
 #[unsafe(no_mangle)]

@@ -13,7 +13,7 @@ use crate::text::put_text;
 use crate::window::{WindowEnds, window_for};
 use dvg_cmd::{Detail, EntryFault};
 use dvg_recipe_cmd::{
-    Membership, RecipeNo, RecipeOptions, RecipeYes, Recorded, Witness, membership_of, recipe_of,
+    Membership, RecipeNo, RecipeOptions, RecipeYes, Recorded, Witness, membership_of, ready,
 };
 use dvg_recipe_text::read_recipe;
 use dvg_words::{Machine, RomMap};
@@ -29,7 +29,7 @@ pub struct RecipeAnswer {
     pub shapes: u32,
     /// With 0, of a recipe: how many words every run of each of its frames fetches at most.
     pub words: u32,
-    /// With 44 to 48, 51 to 57 and 60 to 62: the recipe's line, counted from 1.
+    /// With 44 to 48, 51 to 57 and 59 to 62: the recipe's line, counted from 1.
     pub line: u32,
     /// With 25: the word address of the first item that breaks the rule. With 60: that of the item that no shape can have. With 88: that
     /// of the frame's item with which it leaves the recipe.
@@ -102,6 +102,7 @@ fn refused_recipe(no: &RecipeNo) -> RecipeAnswer
         RecipeNo::BudgetRange => recipe_numbered(49),
         RecipeNo::RomLength => recipe_numbered(1),
         RecipeNo::TooLong { line } => at_line(57, line),
+        RecipeNo::Stuck { line } => at_line(59, line),
         RecipeNo::Make { why, line } => unmade_for(why, line),
         RecipeNo::Shape(fault) => RecipeAnswer {
             shape: fault.addr,
@@ -188,8 +189,8 @@ pub fn membership_in(
         map,
         recipe: &recipe,
     };
-    let read = recipe_of(&given)?;
-    let (membership, _) = membership_of(alloc, read, frame, Detail::Line);
+    let (read, image) = ready(&given)?;
+    let (membership, _) = membership_of(alloc, &image, read, frame, Detail::Line);
     Ok(membership)
 }
 

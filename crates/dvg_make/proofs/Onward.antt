@@ -1,5 +1,5 @@
 -- A shape in the making, item by item.
-use Rattle.dvg_make.proofs.Common.{Machine, ◌≡◌, ℕ, ◌<◌, ◌≤◌, List, [], ◌∷◌, Option, Some, None, refl, sym, ap, ◌∙◌, subst, arith, Contains, IfSome, AllByRecursion, cell_at, InstrFits, Rom, rom_word, Holds, Format, Instr, IsEntry, Entry, Key, MOST_DEPTH, MOST_WORDS, next_address, LeadsTo, Context, shape_context, target, callee_at, callee, scale_before, words_before, depth_before, known_before, seen_at, seen_with, IsClaim, Item, Shape, Known, Seen, ADDRESS_END, LitBox, Last, step_past, relative_corners, PartialEntry, lit_points, HasEntry, Obstacle, ShapeAt, EntryCause, Reaches, keyed_context, entry_of, shape_of, Passes, AllFine, IsPartial, Extends, IsFinished, IsWaiting, IsStopped, listed_at, Exact, rules, IsSoundStep, at_place, Cursor, Step, Onward, AllTaken, SaysOf, CauseAt, IsAsked, KnowsAt, NeverAt, IsCallee, LacksCallee, IsAbsent, IsDone, IsKey, scale_set, unwrap_or}
+use Rattle.dvg_make.proofs.Common.{Machine, ◌≡◌, ℕ, ◌<◌, ◌≤◌, List, [], ◌∷◌, Option, Some, None, refl, sym, ap, ◌∙◌, subst, arith, Contains, IfSome, AllByRecursion, cell_at, InstrFits, Rom, rom_word, Holds, Format, Instr, IsEntry, Entry, Key, MOST_DEPTH, MOST_WORDS, next_address, LeadsTo, entry_at, Context, shape_context, target, callee_at, callee, scale_before, words_before, depth_before, known_before, seen_at, seen_with, IsClaim, Item, Shape, Known, Seen, ADDRESS_END, LitBox, Last, step_past, relative_corners, PartialEntry, lit_points, HasEntry, Obstacle, ShapeAt, EntryCause, Reaches, keyed_context, entry_of, shape_of, Passes, AllFine, IsPartial, Extends, IsFinished, IsWaiting, IsStopped, listed_at, Exact, rules, IsSoundStep, at_place, Cursor, Step, Onward, AllTaken, SaysOf, CauseAt, IsAsked, KnowsAt, NeverAt, IsCallee, LacksCallee, IsAbsent, IsDone, IsKey, scale_set, unwrap_or}
 use Rattle.std.proofs.lemmas.Option.{IfSome_then}
 use Rattle.dvg_items.proofs.Listed.{named_listed}
 use Rattle.dvg_items.proofs.Stepping.{leads_on, ends_at}
@@ -145,6 +145,12 @@ pub entry_claim : (first last : ℕ) (e : Entry) → last < ADDRESS_END → IsEn
 entry_claim first last e high is = record { key = is.key; stop = is.stop; lit = is.lit; depth = is.depth; words = is.words_high; scale = is.scale; addr = omega (arith, is.addr_high, high) }
 
 -- and so is a called one
+pub found_claim : (first last : ℕ) (list : List Entry) (addr : ℕ) (key : Key) (e : Entry) → addr < ADDRESS_END → ((e : Entry) → Contains list e → IsEntry first last e) → entry_at list addr key ≡ Some e → IsClaim e
+found_claim first last list addr key e near each found =
+    let at = listed_at list addr key e found in
+    let is = each e at.listed in
+    record { key = is.key; stop = is.stop; lit = is.lit; depth = is.depth; words = is.words_high; scale = is.scale; addr = omega (arith, at.addr_is, near) }
+
 pub claim_at : (rom : Rom) (list : List Entry) (t : Option ℕ) (scale : Key) (o : Option Entry) → rom.map.rom_last < ADDRESS_END → ((e : Entry) → Contains list e → IsEntry rom.map.rom_first rom.map.rom_last e) → o ≡ callee_at list t scale → IfSome o IsClaim
 claim_at rom list t scale None last entries e = tt
 claim_at rom list t scale (Some f) last entries e = entry_claim rom.map.rom_first rom.map.rom_last f last (entries f (named_listed list t scale f (sym e)))

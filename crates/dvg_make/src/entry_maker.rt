@@ -4,6 +4,7 @@ ghost use Rattle.std.specs.Prelude.{◌≡◌, ◌<◌, [], Some, OnOk, OnErr, I
 ghost use Rattle.dvg_words.specs.declared.map.TheConstants.{ADDRESS_END};
 ghost use Rattle.dvg_cert.specs.Entry.{IsKey};
 ghost use Rattle.dvg_cert.specs.Lookup.{entry_at};
+ghost use Rattle.dvg_items.specs.Bounds.{IsClaim};
 ghost use Rattle.dvg_make.specs.Made.{AllMade};
 ghost use Rattle.dvg_make.specs.Refusals.{BarsEntry};
 ghost use Rattle.dvg_make.specs.EntryMaker.{HasAllOf};
@@ -60,6 +61,7 @@ impl<'a> EntryMaker<'a> {
         requires key { IsKey key }
         ensures rom { self.new.rom ≡ self.old.rom }
         ensures ok { IfOk result (λ e. entry_at self.new.list addr key ≡ Some e) }
+        ensures claim { IfOk result IsClaim }
         ensures made { OnOk result (AllMade self.new.rom self.new.list) }
         ensures kept { OnOk result (HasAllOf self.old.list self.new.list) }
         ensures err { IfErr result (BarsEntry self.old.rom addr key) }

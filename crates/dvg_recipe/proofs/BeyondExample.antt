@@ -45,7 +45,7 @@ halt_there = refl
 beyond_leads : LeadsTo Frame frame 0 (call_item 0x800 ∷ place_item 0 257 ∷ []) 3
 beyond_leads = ((refl, place_there, refl), call_there, refl)
 
-beyond_belongs : (p : ColumnParts (pos 257)) → Belongs (column_recipe p) beyond_words
+beyond_belongs : (p : ColumnParts (pos 257)) → Belongs (rom_for Board) (column_recipe p) beyond_words
 beyond_belongs p =
     belongs_by 257 beyond_words (pos 257) p (record { some = omega arith; few = omega arith }) beyond_leads halt_there (record { low = omega (arith, ints); high = omega (arith, ints) })
 

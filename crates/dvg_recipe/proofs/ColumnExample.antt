@@ -32,7 +32,7 @@ call_item to = record { at = 2; format = Short; instr = Jsrl to }
 abbrev pub halt_item : Item
 halt_item = record { at = 3; format = Short; instr = Halt }
 
-pub belongs_by : (y : ℕ) (words : List ℕ) (top : ℤ) (p : ColumnParts top) → IsFrame words → LeadsTo Frame (frame_word Board words) 0 (call_item 0x800 ∷ place_item 0 y ∷ []) 3 → cell_at (frame_word Board words) 3 ≡ Holds Short Halt → IsInSpan (record { low = pos 0; high = top }) (signed_field y) → Belongs (column_recipe p) words
+pub belongs_by : (y : ℕ) (words : List ℕ) (top : ℤ) (p : ColumnParts top) → IsFrame words → LeadsTo Frame (frame_word Board words) 0 (call_item 0x800 ∷ place_item 0 y ∷ []) 3 → cell_at (frame_word Board words) 3 ≡ Holds Short Halt → IsInSpan (record { low = pos 0; high = top }) (signed_field y) → Belongs (rom_for Board) (column_recipe p) words
 belongs_by y words top p whole leads halts there =
     let items : List Item = call_item 0x800 ∷ place_item 0 y ∷ [] in
     record {
@@ -48,10 +48,10 @@ belongs_by y words top p whole leads halts there =
         start = [];
         begins = refl;
         between = items;
-        spelled = row_of (column_piece top ∷ call_piece p.targets.0 ∷ []) p.row [] items (
+        spelled = row_of (column_piece top ∷ call_piece p.targets.0 ∷ []) p.row (rom_for Board) [] items (
           place_item 0 y ∷ [],
-          record { item = place_item 0 y; one_more = refl; taken = (record { low = omega (arith, ints); high = omega (arith, ints) }, there, refl) },
-          (items, record { item = call_item 0x800; one_more = refl; taken = subst (λ (l : List ℕ). Contains l 0x800) (sym p.targets.1) (0, omega arith, refl) }, refl),
+          record { item = place_item 0 y; one_more = refl; taken = (record { low = omega (arith, ints); high = omega (arith, ints) }, there, refl); arrives = tt },
+          (items, record { item = call_item 0x800; one_more = refl; taken = subst (λ (l : List ℕ). Contains l 0x800) (sym p.targets.1) (0, omega arith, refl); arrives = tt }, refl),
         );
         jumped = refl;
       };
@@ -65,7 +65,7 @@ edge_halts : cell_at (frame_word Board edge_words) 3 ≡ Holds Short Halt
 unfolding cell_at instruction_of
 edge_halts = refl
 
-edge_belongs : (p : ColumnParts (pos 256)) → Belongs (column_recipe p) edge_words
+edge_belongs : (p : ColumnParts (pos 256)) → Belongs (rom_for Board) (column_recipe p) edge_words
 edge_belongs p =
     belongs_by 256 edge_words (pos 256) p (record { some = omega arith; few = omega arith }) edge_leads edge_halts (record { low = omega (arith, ints); high = omega (arith, ints) })
 
@@ -216,7 +216,7 @@ record IsColumn (words : List ℕ) : Type 0 where
 pub some_same : (m n : ℕ) → Some m ≡ Some n → m ≡ n
 some_same m n e = grind (arith)
 
-module _ (p : ColumnParts (pos 256)) (words : List ℕ) (b : Belongs (column_recipe p) words) where
+module _ (p : ColumnParts (pos 256)) (words : List ℕ) (b : Belongs (rom_for Board) (column_recipe p) words) where
   abbrev source : Source
   source = frame_word Board words
 
@@ -225,8 +225,8 @@ module _ (p : ColumnParts (pos 256)) (words : List ℕ) (b : Belongs (column_rec
       let same = only_area (record { first = 0; last = 0x00F }) b.spelled.area b.spelled.listed in
       subst (λ n. BeginsAt n b.spelled.start) (sym (ap (λ (a : Area). a.first) same)) b.spelled.begins
 
-  abbrev row : AddsRow (column_piece (pos 256) ∷ call_piece p.targets.0 ∷ []) b.spelled.start b.spelled.between
-  row = subst (λ (l : List Piece). AddsRow l b.spelled.start b.spelled.between) p.row.1 b.spelled.spelled
+  abbrev row : AddsRow (column_piece (pos 256) ∷ call_piece p.targets.0 ∷ []) (rom_for Board) b.spelled.start b.spelled.between
+  row = subst (λ (l : List Piece). AddsRow l (rom_for Board) b.spelled.start b.spelled.between) p.row.1 b.spelled.spelled
 
   labs_and_call : (l c : Item) → b.items ≡ c ∷ l ∷ [] → IsLabs l.instr → IsCall (0x800 ∷ 0x802 ∷ []) c.instr → IsColumn words
   labs_and_call l c are labs call =
@@ -256,7 +256,7 @@ module _ (p : ColumnParts (pos 256)) (words : List ℕ) (b : Belongs (column_rec
       labs_and_call l c (b.spelled.jumped ∙ row.2.2 ∙ row.2.1.one_more ∙ ap (λ (items : List Item). c ∷ items) (row.1.one_more ∙ ap (λ (items : List Item). l ∷ items) starts)) (labs_of l.instr row.1.taken)
       (call_of (0x800 ∷ 0x802 ∷ []) c.instr (subst (λ (targets : List ℕ). TakesCall targets c.instr) p.targets.1 row.2.1.taken))
 
-every : (p : ColumnParts (pos 256)) (words : List ℕ) → Belongs (column_recipe p) words → IsGoodMember screen both 20000 (column_recipe p) 7 1 words
+every : (p : ColumnParts (pos 256)) (words : List ℕ) → Belongs (rom_for Board) (column_recipe p) words → IsGoodMember screen both 20000 (column_recipe p) 7 1 words
 every p words b =
     let m = is_column p words b in
     let c = frame_context Board both in

@@ -1,6 +1,6 @@
 -- The changes are those of the instructions that a piece allows.
 use Rattle.dvg_recipe.proofs.Common.{◌≡◌, ◌≤◌, ℕ, zero, suc, List, [], ◌∷◌, Option, Some, None, Contains, IsTrue, get_or, refl, sym, subst, arith, ◌∙◌}
-use Rattle.dvg_check.proofs.Common.{ints, ℤ, pos, negsuc, ◌≤ℤ◌, ◌*◌, Bool, nat_le, Point, Item, Instr, Draws, Labs, Halt, Jsrl, Rtsl, Jmpl, Format, Short, Long, Entry, End, Rel, Abs, Key, At, Any, LitBox, Empty, Span, DrawFields, Frame, target, origin, axis_move, effective_scale, IsWithin, Holds, cell_of_words, nat_tests}
+use Rattle.dvg_check.proofs.Common.{ints, Known, ℤ, pos, negsuc, ◌≤ℤ◌, ◌*◌, Bool, nat_le, Point, Item, Instr, Draws, Labs, Halt, Jsrl, Rtsl, Jmpl, Format, Short, Long, Entry, End, Rel, Abs, Key, At, Any, LitBox, Empty, Span, DrawFields, Frame, target, origin, axis_move, effective_scale, IsWithin, Holds, cell_of_words, nat_tests}
 unfoldable use Rattle.dvg_check.proofs.Common.{displacement, instruction_of}
 use Rattle.std.specs.Prelude.{true, false, if◌then◌else◌, ◌*ℤ◌, ◌^◌, nat_abs}
 use Rattle.std.proofs.Math.IntN.{pos-*ℤ-pos, negsuc-*ℤ-pos}
@@ -14,13 +14,14 @@ use Rattle.dvg_items.specs.Seen.{HasCallee}
 use Rattle.dvg_items.proofs.Leading.{item_same}
 use Rattle.dvg_cert.specs.Entry.{IsKey, IsEnd, IsBox, IsNumber}
 use Rattle.dvg_items.specs.Bounds.{IsNear, IsClaim}
-use Rattle.dvg_recipe.specs.Limits.{PieceFits, SizesFit, IsSvecSize, IsSpanBetween, LscaleFits, DrawRangeFits}
+use Rattle.dvg_recipe.specs.Limits.{PieceFits, ToFits, SizesFit, IsSvecSize, IsSpanBetween, LscaleFits, DrawRangeFits}
 use Rattle.dvg_recipe.proofs.Common.{◌<◌, ◌++◌, ⊎_elim, ap, cases_lt, length, take, take-suc, IfSome, Contains-append_cases, Contains-append_left, Contains-append_right}
-use Rattle.dvg_items.specs.Known.{callee_at, stop_effect}
+use Rattle.dvg_items.specs.Known.{callee_at, stop_effect, known_past}
+use Rattle.dvg_cert.specs.Lookup.{same_key}
 use Rattle.dvg_items.specs.Lit.{draw_extent, box_extent}
-use Rattle.dvg_recipe.specs.Recipes.{PlaceRange, DrawRange, Span as Range, TakesPlace, TakesCall, TakesDraw, Place, Draw, IsInSpan}
+use Rattle.dvg_recipe.specs.Recipes.{PlaceRange, PlaceSpan, IsEndIn, DrawRange, Span as Range, TakesPlace, TakesCall, TakesDraw, Place, Draw, IsInSpan}
 use Rattle.dvg_recipe.specs.Private.Judging.{IsTaken, IsJump}
-use Rattle.dvg_recipe.specs.Private.Hulls.{Rectangle, Change, Shown, IsInRectangle, IsMotion, IsLight, IsChange, IsAnyChange, AreChanges, HasFormat, IsNearRectangle, IsNearMotion, IsNearLight, IsSoundChange, AreSoundChanges, at_point, places_of, place_change, still, stop_motion, box_light, call_change, moves, draw_light, draw_change, IsDrawBetween}
+use Rattle.dvg_recipe.specs.Private.Hulls.{Rectangle, Change, Shown, IsInRectangle, IsMotion, IsLight, IsChange, HasFormat, IsNearRectangle, IsNearMotion, IsNearLight, IsNearInto, IsSoundChange, AreSoundChanges, IsInto, IsAmong, Within, span_places, into_of, Act, DrawsAct, PlaceAct, CallAct, StillAct, act_change, IsAct, at_point, places_of, place_change, still, stop_motion, box_light, call_change, moves, draw_light, draw_change, IsDrawBetween}
 
 -- ---- moves grow with sizes
 
@@ -66,25 +67,25 @@ light_at low high d zero (suc h) g le inside = tt
 light_at low high d (suc b) zero g le inside = absurd (omega (arith, le))
 light_at low high d (suc b) (suc h) g le inside = (at_itself origin, inside)
 
-light_any : (low high d : DrawFields) (b h : ℕ) → b ≤ h → IsLight (draw_change Short low (record high { bright = h }) Any).light (draw_extent Board b d Any)
+light_any : (low high d : DrawFields) (b h : ℕ) → b ≤ h → IsLight (draw_change Short low (record high { bright = h }) None Any).light (draw_extent Board b d Any)
 light_any low high d zero zero le = tt
 light_any low high d zero (suc h) le = tt
 light_any low high d (suc b) zero le = absurd (omega (arith, le))
 light_any low high d (suc b) (suc h) le = tt
 
-pub draw_is : (low high d : DrawFields) (scale : Key) (at : ℕ) (format : Format) → IsDrawBetween low high d → IsChange None scale (draw_change format low high scale) (record { at = at; format = format; instr = Draws d })
-draw_is low high d (At g) at format h =
+pub draw_is : (low high d : DrawFields) (into : Option Rectangle) (scale : Key) (at : ℕ) (format : Format) → IsDrawBetween low high d → IsChange None scale (draw_change format low high into scale) (record { at = at; format = format; instr = Draws d })
+draw_is low high d into (At g) at format h =
     let inside = between_moves low high d g h in
-    record { motion = inside; light = light_at low high d d.bright high.bright g h.bright inside; scale_after = refl; words = omega arith; depth = omega arith; named_one = λ t. tt }
-draw_is low high d Any at format h =
-    record { motion = tt; light = light_any low high d d.bright high.bright h.bright; scale_after = refl; words = omega arith; depth = omega arith; named_one = λ t. tt }
+    record { motion = inside; light = light_at low high d d.bright high.bright g h.bright inside; scale_after = refl; words = omega arith; depth = omega arith; named_one = λ t. tt; keyed = λ t. tt }
+draw_is low high d into Any at format h =
+    record { motion = tt; light = light_any low high d d.bright high.bright h.bright; scale_after = refl; words = omega arith; depth = omega arith; named_one = λ t. tt; keyed = λ t. tt }
 
 -- ---- a LABS
 
 pub place_is : (r : PlaceRange) (x y s : ℕ) (scale : Key) (at : ℕ) (format : Format) → TakesPlace r (Labs x y s) → format ≡ Long → IsChange None scale (place_change (places_of r) s) (record { at = at; format = format; instr = Labs x y s })
 place_is r x y s scale at format h is =
     let inside : IsInRectangle (places_of r) (labs_place Board x y) = record { left = omega (arith, ints, h.0.low); right = omega (arith, ints, h.0.high); bottom = omega (arith, ints, h.1.low); top = omega (arith, ints, h.1.high) } in
-    record { motion = inside; light = tt; scale_after = refl; words = grind (arith, is); depth = omega arith; named_one = λ t. tt }
+    record { motion = inside; light = tt; scale_after = refl; words = grind (arith, is); depth = omega arith; named_one = λ t. tt; keyed = λ t. tt }
 
 -- ---- calls and jumps
 
@@ -100,34 +101,26 @@ box_is (Span a b c d) = (at_itself (record { x = a; y = c }), at_itself (record 
 not_named : (to : ℕ) → IsTrue false → HasCallee (Some to) None
 not_named to h = grind (arith, h)
 
+same_keys : (a b : Key) → IsTrue (same_key a b) → a ≡ b
+same_keys (At m) (At n) h = grind (arith, nat_tests, h)
+same_keys (At m) Any h = grind (arith, nat_tests, h)
+same_keys Any (At n) h = grind (arith, nat_tests, h)
+same_keys Any Any h = refl
+
 pub call_is : (named : Option Entry) (to : ℕ) (scale : Key) (at : ℕ) (format : Format) → format ≡ Short → IsChange named scale (call_change named scale) (record { at = at; format = format; instr = Jsrl to })
-call_is None to scale at format is = record { motion = at_itself origin; light = tt; scale_after = refl; words = grind (arith, is); depth = omega arith; named_one = not_named to }
-call_is (Some e) to scale at format is = record { motion = stop_is e.stop; light = box_is e.lit; scale_after = refl; words = grind (arith, is); depth = omega arith; named_one = λ t. tt }
+call_is None to scale at format is = record { motion = at_itself origin; light = tt; scale_after = refl; words = grind (arith, is); depth = omega arith; named_one = not_named to; keyed = λ t. tt }
+call_is (Some e) to scale at format is = record { motion = stop_is e.stop; light = box_is e.lit; scale_after = refl; words = grind (arith, is); depth = omega arith; named_one = λ t. tt; keyed = same_keys e.key scale }
 
 pub still_is : (to : ℕ) (scale : Key) (at : ℕ) (format : Format) → format ≡ Short → IsChange None scale (still scale) (record { at = at; format = format; instr = Jmpl to })
-still_is to scale at format is = record { motion = at_itself origin; light = tt; scale_after = refl; words = grind (arith, is); depth = omega arith; named_one = λ t. tt }
+still_is to scale at format is = record { motion = at_itself origin; light = tt; scale_after = refl; words = grind (arith, is); depth = omega arith; named_one = λ t. tt; keyed = λ t. tt }
 
--- ---- pieces
-
-module _ (list : List Entry) (scale : Key) (changes : List Change) where
-  pub place_changes : (r : PlaceRange) → ((s : ℕ) → get_or r.scales s false ≡ true → Contains changes (place_change (places_of r) s)) → AreChanges list scale (IsTaken (Place r)) changes
-  place_changes r listed = record { each = λ i taken format. each i.at i.format i.instr taken format }
-    where
-      each : (at : ℕ) (format : Format) (instr : Instr) → TakesPlace r instr → HasFormat format instr → IsAnyChange list scale changes (record { at = at; format = format; instr = instr })
-      each at format (Labs x y s) taken is = record { change = place_change (places_of r) s; listed = listed s taken.2; is = place_is r x y s scale at format taken is }
-      each at format (Draws d) taken is = absurd taken
-      each at format Halt taken is = absurd taken
-      each at format (Jsrl to) taken is = absurd taken
-      each at format Rtsl taken is = absurd taken
-      each at format (Jmpl to) taken is = absurd taken
-
-  pub jump_changes : Contains changes (still scale) → AreChanges list scale IsJump changes
-  jump_changes listed = record { each = λ i jump format. each i.at i.format i.instr jump.0 jump.1 format }
-    where
-      each : (at : ℕ) (format : Format) (instr : Instr) (to : ℕ) → instr ≡ Jmpl to → HasFormat format instr → IsAnyChange list scale changes (record { at = at; format = format; instr = instr })
-      each at format instr to jumps is =
-          subst (λ (j : Instr). HasFormat format j → IsAnyChange list scale changes (record { at = at; format = format; instr = j })) (sym jumps)
-          (λ short. record { change = still scale; listed = listed; is = still_is to scale at format short }) is
+pub jump_is : (list : List Entry) (scale : Key) (known : Known) (i : Item) → IsJump known i → HasFormat i.format i.instr → IsChange (callee_at list (target Frame i.instr) scale) scale (still scale) i
+jump_is list scale known i jump format = each i.at i.format i.instr jump.0 jump.1 format
+  where
+    each : (at : ℕ) (format : Format) (instr : Instr) (to : ℕ) → instr ≡ Jmpl to → HasFormat format instr → IsChange (callee_at list (target Frame instr) scale) scale (still scale) (record { at = at; format = format; instr = instr })
+    each at format instr to jumps is =
+        subst (λ (j : Instr). HasFormat format j → IsChange (callee_at list (target Frame j) scale) scale (still scale) (record { at = at; format = format; instr = j })) (sym jumps)
+        (λ short. still_is to scale at format short) is
 
 -- ---- limits
 
@@ -137,34 +130,30 @@ origin_near = (
   record { left = omega (arith, ints); right = omega (arith, ints); down = omega (arith, ints); up = omega (arith, ints) },
 )
 
-still_sound : (scale : Key) → IsKey scale → IsSoundChange (still scale)
-still_sound scale key = record { motion = origin_near; light = tt; scale = key; some = omega arith; few = omega arith; depth = omega arith }
+pub still_sound : (scale : Key) → IsKey scale → IsSoundChange (still scale)
+still_sound scale key = record { motion = origin_near; light = tt; into = tt; scale = key; some = omega arith; few = omega arith; depth = omega arith }
 
-alone : (x s : Change) → Contains (x ∷ []) s → x ≡ s
-alone x s (zero, lt, is) = is
-alone x s (suc k, lt, is) = absurd (omega (arith, lt))
+pub one_sound : (c : Change) → IsSoundChange c → AreSoundChanges (c ∷ [])
+one_sound c h = record { each = λ x there. subst IsSoundChange (only x there) h }
+  where
+    only : (x : Change) → Contains (c ∷ []) x → c ≡ x
+    only x (zero, lt, is) = is
+    only x (suc k, lt, is) = absurd (omega (arith, lt))
 
-pub stills_sound : (scale : Key) (changes : List Change) → changes ≡ still scale ∷ [] → IsKey scale → AreSoundChanges changes
-stills_sound scale changes only key = subst AreSoundChanges (sym only) (record { each = λ c there. subst IsSoundChange (alone (still scale) c there) (still_sound scale key) })
-
-pub stills_are : (list : List Entry) (scale : Key) (changes : List Change) → changes ≡ still scale ∷ [] → AreChanges list scale IsJump changes
-stills_are list scale changes only = subst (AreChanges list scale IsJump) (sym only) (jump_changes list scale (still scale ∷ []) (zero, omega arith, refl))
+pub none_sound : AreSoundChanges []
+none_sound = record { each = λ c there. absurd (omega (arith, there.1)) }
 
 at_near : (p : Point) → IsNear 1 p → IsNearRectangle 1 (at_point p)
 at_near p h = (h, h)
 
-pub place_sound : (r : PlaceRange) (scale : ℕ) → PieceFits (Place r) → scale ≤ 15 → IsSoundChange (place_change (places_of r) scale)
-place_sound r scale fits le = record {
-  motion = (
-    record { left = omega (arith, ints, fits.0.least, fits.0.ordered); right = omega (arith, ints, fits.0.greatest, fits.0.ordered); down = omega (arith, ints, fits.1.least, fits.1.ordered); up = omega (arith, ints, fits.1.greatest, fits.1.ordered) },
-    record { left = omega (arith, ints, fits.0.least, fits.0.ordered); right = omega (arith, ints, fits.0.greatest, fits.0.ordered); down = omega (arith, ints, fits.1.least, fits.1.ordered); up = omega (arith, ints, fits.1.greatest, fits.1.ordered) },
-  );
-  light = tt;
-  scale = le;
-  some = omega arith;
-  few = omega arith;
-  depth = omega arith;
-}
+pub places_near : (r : PlaceRange) → PieceFits (Place r) → IsNearRectangle 1 (places_of r)
+places_near r fits = (
+  record { left = omega (arith, ints, fits.0.least, fits.0.ordered); right = omega (arith, ints, fits.0.greatest, fits.0.ordered); down = omega (arith, ints, fits.1.least, fits.1.ordered); up = omega (arith, ints, fits.1.greatest, fits.1.ordered) },
+  record { left = omega (arith, ints, fits.0.least, fits.0.ordered); right = omega (arith, ints, fits.0.greatest, fits.0.ordered); down = omega (arith, ints, fits.1.least, fits.1.ordered); up = omega (arith, ints, fits.1.greatest, fits.1.ordered) },
+)
+
+pub place_sound : (places : Rectangle) (scale : ℕ) → IsNearRectangle 1 places → scale ≤ 15 → IsSoundChange (place_change places scale)
+place_sound places scale near le = record { motion = near; light = tt; into = tt; scale = le; some = omega arith; few = omega arith; depth = omega arith }
 
 number_near : (x y : ℤ) → IsNumber x → IsNumber y → IsNear 1 (record { x = x; y = y })
 number_near x y h k = record { left = omega (arith, ints, h.0); right = omega (arith, ints, h.1); down = omega (arith, ints, k.0); up = omega (arith, ints, k.1) }
@@ -179,56 +168,8 @@ box_near Empty h = tt
 box_near (Span a b c d) h = (at_near _ (number_near a c h.0.0 h.1.0), at_near _ (number_near b d h.0.1 h.1.1))
 
 pub call_sound : (named : Option Entry) (scale : Key) → IfSome named IsClaim → IsKey scale → IsSoundChange (call_change named scale)
-call_sound None scale claim key = record { motion = origin_near; light = tt; scale = key; some = omega arith; few = omega arith; depth = omega arith }
-call_sound (Some e) scale claim key = record { motion = stop_near e.stop claim.stop; light = box_near e.lit claim.lit; scale = claim.scale; some = omega arith; few = omega (arith, claim.words); depth = omega (arith, claim.depth) }
-
--- all changes are sound, one more with them
-pub push_sound : (xs more : List Change) (x y : Change) → more ≡ xs ++ x ∷ [] → x ≡ y → AreSoundChanges xs → IsSoundChange y → AreSoundChanges more
-push_sound xs more x y is same h new = subst AreSoundChanges (sym is) (record { each = λ c there. ⊎_elim (h.each c) (λ last. subst IsSoundChange (sym same ∙ alone x c last) new) (Contains-append_cases xs (x ∷ []) c there) })
-
-pub none_sound : (xs : List Change) → xs ≡ [] → AreSoundChanges xs
-none_sound xs is = subst AreSoundChanges (sym is) (record { each = λ c there. absurd (omega (arith, there.1)) })
-
--- the changes at the scales below one more
-pub scales_next : (scales : List Bool) (r : Rectangle) (n m : ℕ) (xs more : List Change) (x : Change) → m ≡ suc n → more ≡ xs ++ x ∷ [] → x ≡ place_change r n
-    → ((s : ℕ) → s < n → get_or scales s false ≡ true → Contains xs (place_change r s)) → (s : ℕ) → s < m → get_or scales s false ≡ true → Contains more (place_change r s)
-scales_next scales r n m xs more x is grown same h s lt there = subst (λ (l : List Change). Contains l (place_change r s)) (sym grown)
-    (⊎_elim (λ less. Contains-append_left xs (x ∷ []) (place_change r s) (h s less there))
-    (λ last. Contains-append_right xs (x ∷ []) (place_change r s) (zero, omega arith, same ∙ ap (place_change r) (omega (arith, is, lt, last))))
-    (cases_lt s n))
-
--- a scale that is not in the set adds none
-pub scales_skip : (scales : List Bool) (r : Rectangle) (n m k : ℕ) (xs : List Change) → m ≡ suc n → k ≡ n → get_or scales k false ≡ false
-    → ((s : ℕ) → s < n → get_or scales s false ≡ true → Contains xs (place_change r s)) → (s : ℕ) → s < m → get_or scales s false ≡ true → Contains xs (place_change r s)
-scales_skip scales r n m k xs next same not h s lt there =
-    ⊎_elim (λ less. h s less there) (λ last. absurd (clash (get_or scales s false) there (subst (λ j. get_or scales j false ≡ false) (omega (arith, same, next, lt, last)) not))) (cases_lt s n)
-  where
-    clash : (b : Bool) → b ≡ true → b ≡ false → ⊥
-    clash b holds not_so = grind (arith, nat_tests)
-
--- the changes of calls to the addresses before one more
-pub calls_next : (targets : List ℕ) (f : ℕ → Change) (i n d : ℕ) (xs more : List Change) (x : Change) → n ≡ suc i → i < length targets → more ≡ xs ++ x ∷ [] → x ≡ f (get_or targets i d)
-    → ((to : ℕ) → Contains (take i targets) to → Contains xs (f to)) → (to : ℕ) → Contains (take n targets) to → Contains more (f to)
-calls_next targets f i n d xs more x is lt grown same h to there = subst (λ (l : List Change). Contains l (f to)) (sym grown)
-    (⊎_elim (λ old. Contains-append_left xs (x ∷ []) (f to) (h to old))
-    (λ last. Contains-append_right xs (x ∷ []) (f to) (zero, omega arith, same ∙ ap f (is_alone (get_or targets i d) to last)))
-    (Contains-append_cases (take i targets) (get_or targets i d ∷ []) to (subst (λ (l : List ℕ). Contains l to) (take-suc targets i d lt) (subst (λ m. Contains (take m targets) to) is there))))
-  where
-    is_alone : (a b : ℕ) → Contains (a ∷ []) b → a ≡ b
-    is_alone a b (zero, less, eq) = eq
-    is_alone a b (suc k, less, eq) = absurd (omega (arith, less))
-
-module _ (list : List Entry) (scale : Key) (changes : List Change) where
-  pub call_changes : (targets : List ℕ) → ((to : ℕ) → Contains targets to → Contains changes (call_change (callee_at list (Some to) scale) scale)) → (i : Item) → TakesCall targets i.instr → HasFormat i.format i.instr → IsAnyChange list scale changes i
-  call_changes targets listed i taken format = each i.at i.format i.instr taken format
-    where
-      each : (at : ℕ) (format : Format) (instr : Instr) → TakesCall targets instr → HasFormat format instr → IsAnyChange list scale changes (record { at = at; format = format; instr = instr })
-      each at format (Jsrl to) taken is = record { change = call_change (callee_at list (Some to) scale) scale; listed = listed to taken; is = call_is (callee_at list (Some to) scale) to scale at format is }
-      each at format (Draws d) taken is = absurd taken
-      each at format Halt taken is = absurd taken
-      each at format (Labs x y s) taken is = absurd taken
-      each at format Rtsl taken is = absurd taken
-      each at format (Jmpl to) taken is = absurd taken
+call_sound None scale claim key = record { motion = origin_near; light = tt; into = tt; scale = key; some = omega arith; few = omega arith; depth = omega arith }
+call_sound (Some e) scale claim key = record { motion = stop_near e.stop claim.stop; light = box_near e.lit claim.lit; into = tt; scale = claim.scale; some = omega arith; few = omega (arith, claim.words); depth = omega (arith, claim.depth) }
 
 -- ---- one change of all
 
@@ -236,19 +177,44 @@ module _ (list : List Entry) (scale : Key) (changes : List Change) where
 pub within_near : (p : Point) → IsWithin (2 ^ 31) p → IsNear 1 p
 within_near p h = record { left = omega (arith, ints, h.left); right = omega (arith, ints, h.right); down = omega (arith, ints, h.down); up = omega (arith, ints, h.up) }
 
--- an item that says what another says does the same
-holds_changes : (list : List Entry) (scale : Key) (c : Change) (format : Format) (instr : Instr) → ((at : ℕ) → HasFormat format instr → IsChange (callee_at list (target Frame instr) scale) scale c (record { at = at; format = format; instr = instr }))
-    → AreChanges list scale (λ i. Holds format instr ≡ Holds i.format i.instr) (c ∷ [])
-holds_changes list scale c format instr does = record {
-  each = λ i same. subst (λ (j : Item). HasFormat j.format j.instr → IsAnyChange list scale (c ∷ []) j) (item_same (record { at = i.at; format = format; instr = instr }) i refl same)
-      (λ has. record { change = c; listed = (zero, omega arith, refl); is = does i.at has });
-}
+-- a call leads anywhere
+pub call_into : (named : Option Entry) (scale : Key) (known : Known) (i : Item) → IsInto (call_change named scale).into known i
+call_into None scale known i = tt
+call_into (Some e) scale known i = tt
 
-module _ (list : List Entry) (scale : Key) (c : Change) (format : Format) where
+draw_into : (format : Format) (low high : DrawFields) (into : Option Rectangle) (scale : Key) (known : Known) (i : Item) → IsInto into known i → IsInto (draw_change format low high into scale).into known i
+draw_into format low high into (At g) known i h = h
+draw_into format low high into Any known i h = h
+
+-- an item that says what another says does the same
+holds_act : (list : List Entry) (act : Act) (format : Format) (instr : Instr) → ((scale : Key) (at : ℕ) → HasFormat format instr → IsChange (callee_at list (target Frame instr) scale) scale (act_change list act scale) (record { at = at; format = format; instr = instr }))
+    → (known : Known) (i : Item) → ((scale : Key) → IsInto (act_change list act scale).into known i) → Holds format instr ≡ Holds i.format i.instr → IsAct list act known i
+holds_act list act format instr does known i into same =
+    record { each = subst (λ (j : Item). (scale : Key) → HasFormat j.format j.instr → IsChange (callee_at list (target Frame j.instr) scale) scale (act_change list act scale) j) (item_same (record { at = i.at; format = format; instr = instr }) i refl same) (λ scale has. does scale i.at has); into = into }
+
+module _ (list : List Entry) (format : Format) (known : Known) (i : Item) where
   -- a draw does what draws between itself and itself do
-  pub draw_alone : (d : DrawFields) → c ≡ draw_change format d d scale → AreChanges list scale (λ i. Holds format (Draws d) ≡ Holds i.format i.instr) (c ∷ [])
-  draw_alone d is = subst (λ (x : Change). AreChanges list scale (λ i. Holds format (Draws d) ≡ Holds i.format i.instr) (x ∷ [])) (sym is) (holds_changes list scale (draw_change format d d scale) format (Draws d)
-      (λ at has. draw_is d d d scale at format (record { lscale_low = refl; lscale_high = refl; dx_low = omega (arith, ints); dx_high = omega (arith, ints); dy_low = omega (arith, ints); dy_high = omega (arith, ints); bright = omega arith })))
+  pub draw_alone : (d : DrawFields) → Holds format (Draws d) ≡ Holds i.format i.instr → IsAct list (DrawsAct format d d None) known i
+  draw_alone d same = holds_act list (DrawsAct format d d None) format (Draws d)
+      (λ scale at has. draw_is d d d None scale at format (record { lscale_low = refl; lscale_high = refl; dx_low = omega (arith, ints); dx_high = omega (arith, ints); dy_low = omega (arith, ints); dy_high = omega (arith, ints); bright = omega arith })) known i (λ scale. draw_into format d d None scale known i tt) same
+
+  pub labs_alone : (x y s : ℕ) → Holds format (Labs x y s) ≡ Holds i.format i.instr → IsAct list (PlaceAct (at_point (labs_place Board x y)) s) known i
+  labs_alone x y s same = holds_act list (PlaceAct (at_point (labs_place Board x y)) s) format (Labs x y s)
+      (λ scale at long. record { motion = at_itself (labs_place Board x y); light = tt; scale_after = refl; words = grind (arith, long); depth = omega arith; named_one = λ t. tt; keyed = λ t. tt }) known i (λ scale. tt) same
+
+  pub jsrl_alone : (to : ℕ) → Holds format (Jsrl to) ≡ Holds i.format i.instr → IsAct list (CallAct to) known i
+  jsrl_alone to same = holds_act list (CallAct to) format (Jsrl to) (λ scale at short. call_is (callee_at list (Some to) scale) to scale at format short) known i (λ scale. call_into (callee_at list (Some to) scale) scale known i) same
+
+  pub jmpl_alone : (to : ℕ) → Holds format (Jmpl to) ≡ Holds i.format i.instr → IsAct list StillAct known i
+  jmpl_alone to same = holds_act list StillAct format (Jmpl to) (λ scale at short. still_is to scale at format short) known i (λ scale. tt) same
+
+  pub halt_alone : Holds format Halt ≡ Holds i.format i.instr → IsAct list StillAct known i
+  halt_alone same = holds_act list StillAct format Halt
+      (λ scale at short. record { motion = at_itself origin; light = tt; scale_after = refl; words = grind (arith, short); depth = omega arith; named_one = λ t. tt; keyed = λ t. tt }) known i (λ scale. tt) same
+
+  pub rtsl_alone : Holds format Rtsl ≡ Holds i.format i.instr → IsAct list StillAct known i
+  rtsl_alone same = holds_act list StillAct format Rtsl
+      (λ scale at short. record { motion = at_itself origin; light = tt; scale_after = refl; words = grind (arith, short); depth = omega arith; named_one = λ t. tt; keyed = λ t. tt }) known i (λ scale. tt) same
 
 -- ---- the draws of a range
 
@@ -293,10 +259,21 @@ pub record IsCorner (r : DrawRange) (x y b : ℤ) (d : DrawFields) : Type 0 wher
   pub dy : d.dy ≡ y
   pub bright : pos d.bright ≡ b
 
+-- a place in the rectangle, in units
+span_among : (span : PlaceSpan) (place : End) → IsEndIn span place → IsAmong (Within (span_places span)) place
+span_among span (Rel x y) h = absurd h
+span_among span (Abs x y) h = record { left = h.0.low; right = h.0.high; bottom = h.1.low; top = h.1.high }
+span_among span LostEnd h = absurd h
+
+-- a draw that leads to where it has to
+draws_into : (to : Option PlaceSpan) (known : Known) (i : Item) (d : DrawFields) → i.instr ≡ Draws d → IfSome to (λ span. IsEndIn span (known_past Board i None known).place) → IsInto (into_of to) known i
+draws_into None known i d is h = tt
+draws_into (Some span) known i d is h = (d, is, span_among span (known_past Board i None known).place h)
+
 -- what lies between two corners does what draws between them do
-pub draws_are : (r : DrawRange) (low high : DrawFields) (scale : Key) (c : Change) → c ≡ draw_change r.format low high scale → IsCorner r r.dx.low r.dy.low r.bright.low low → IsCorner r r.dx.high r.dy.high r.bright.high high
-    → (list : List Entry) → AreChanges list scale (IsTaken (Draw r)) (c ∷ [])
-draws_are r low high scale c is l h list = subst (λ (x : Change). AreChanges list scale (IsTaken (Draw r)) (x ∷ [])) (sym is) (record { each = λ i taken has. each i.at i.format i.instr taken has })
+pub draws_are : (r : DrawRange) (low high : DrawFields) → IsCorner r r.dx.low r.dy.low r.bright.low low → IsCorner r r.dx.high r.dy.high r.bright.high high
+    → (list : List Entry) (known : Known) (i : Item) → IsTaken (Draw r) known i → IsAct list (DrawsAct r.format low high (into_of r.to)) known i
+draws_are r low high l h list known i taken = record { each = λ scale has. each scale i.at i.format i.instr taken.0 has; into = λ scale. draw_into r.format low high (into_of r.to) scale known i (leads i.instr refl taken.0.1) }
   where
     between : (d : DrawFields) → TakesDraw r (Draws d) → IsDrawBetween low high d
     between d t = record {
@@ -309,13 +286,30 @@ draws_are r low high scale c is l h list = subst (λ (x : Change). AreChanges li
       bright = omega (arith, ints, h.bright, t.3.high);
     }
 
-    each : (at : ℕ) (format : Format) (instr : Instr) → IsTaken (Draw r) (record { at = at; format = format; instr = instr }) → HasFormat format instr → IsAnyChange list scale (draw_change r.format low high scale ∷ []) (record { at = at; format = format; instr = instr })
-    each at format (Draws d) t has = record { change = draw_change r.format low high scale; listed = (zero, omega arith, refl); is = subst (λ (f : Format). IsChange None scale (draw_change r.format low high scale) (record { at = at; format = f; instr = Draws d })) (sym t.0) (draw_is low high d scale at r.format (between d t.1)) }
-    each at format Halt t has = absurd t.1
-    each at format (Labs x y s) t has = absurd t.1
-    each at format (Jsrl to) t has = absurd t.1
-    each at format Rtsl t has = absurd t.1
-    each at format (Jmpl to) t has = absurd t.1
+    each : (scale : Key) (at : ℕ) (format : Format) (instr : Instr) → (format ≡ r.format) × TakesDraw r instr → HasFormat format instr → IsChange (callee_at list (target Frame instr) scale) scale (draw_change r.format low high (into_of r.to) scale) (record { at = at; format = format; instr = instr })
+    each scale at format (Draws d) t has = subst (λ (f : Format). IsChange None scale (draw_change r.format low high (into_of r.to) scale) (record { at = at; format = f; instr = Draws d })) (sym t.0) (draw_is low high d (into_of r.to) scale at r.format (between d t.1))
+    each scale at format Halt t has = absurd t.1
+    each scale at format (Labs x y s) t has = absurd t.1
+    each scale at format (Jsrl to) t has = absurd t.1
+    each scale at format Rtsl t has = absurd t.1
+    each scale at format (Jmpl to) t has = absurd t.1
+
+    leads : (instr : Instr) → i.instr ≡ instr → TakesDraw r instr → IsInto (into_of r.to) known i
+    leads (Draws d) is t = draws_into r.to known i d is taken.1
+    leads Halt is t = absurd t
+    leads (Labs x y s) is t = absurd t
+    leads (Jsrl to) is t = absurd t
+    leads Rtsl is t = absurd t
+    leads (Jmpl to) is t = absurd t
+
+-- the rectangle of a range is near
+pub span_near : (format : Format) (to : Option PlaceSpan) → ToFits format to → IsNearInto (into_of to)
+span_near format None fits = tt
+span_near Short (Some span) fits = absurd fits
+span_near Long (Some span) fits = (
+  record { left = omega (arith, ints, fits.0.least, fits.0.ordered); right = omega (arith, ints, fits.0.greatest, fits.0.ordered); down = omega (arith, ints, fits.1.least, fits.1.ordered); up = omega (arith, ints, fits.1.greatest, fits.1.ordered) },
+  record { left = omega (arith, ints, fits.0.least, fits.0.ordered); right = omega (arith, ints, fits.0.greatest, fits.0.ordered); down = omega (arith, ints, fits.1.least, fits.1.ordered); up = omega (arith, ints, fits.1.greatest, fits.1.ordered) },
+)
 
 -- ---- the instruction of two words
 

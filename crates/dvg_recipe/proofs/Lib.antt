@@ -6,6 +6,7 @@ pub mod Fronts
 pub mod Frames
 pub mod Fitting
 pub mod Past
+pub mod Knowing
 pub mod Judging
 pub mod Sounds
 pub mod Doing

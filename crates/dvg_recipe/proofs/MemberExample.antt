@@ -4,6 +4,8 @@ use Rattle.dvg_check.proofs.Common.{ints, pos, negsuc, Item, Board, Short, Long,
 unfoldable use Rattle.dvg_check.proofs.Common.{cell_at, instruction_of}
 use Rattle.dvg_items.proofs.Leading.{same_lead, too_long}
 use Rattle.dvg_recipe.specs.Recipes.{Recipe, Area, Piece, Row, Either', AddsRow, Spells, Takes, Belongs}
+use Rattle.dvg_words.specs.Memory.{Rom}
+use Rattle.dvg_recipe.specs.Private.KnownPlaces.{ItemsOver}
 use Rattle.dvg_recipe.specs.Private.Indices.{Leads, PieceLeads, RowLeads, PartLeads, TimesOver, ListStarts, RecipeLeads}
 use Rattle.dvg_recipe.specs.Examples.{VecOf, call_piece, place_piece, stroke_piece, dot_piece, ExampleParts, example_recipe, member_words, member_items, past_place_words, third_turn_words, WorkedMembers}
 use Rattle.dvg_recipe.proofs.Fronts.{recipe_back}
@@ -11,8 +13,8 @@ use Rattle.dvg_recipe.proofs.Fronts.{recipe_back}
 -- ---- the items of a frame
 
 -- items that lead to a HALT are those by which the frame belongs to a recipe
-pub one_way : (words : List ℕ) (items : List Item) (at : ℕ) → LeadsTo Frame (frame_word Board words) 0 items at → cell_at (frame_word Board words) at ≡ Holds Short Halt → (recipe : Recipe) → (b : Belongs recipe words) → b.items ≡ items
-one_way words items at leads halts recipe b =
+pub one_way : (words : List ℕ) (items : List Item) (at : ℕ) → LeadsTo Frame (frame_word Board words) 0 items at → cell_at (frame_word Board words) at ≡ Holds Short Halt → (rom : Rom) (recipe : Recipe) → (b : Belongs rom recipe words) → b.items ≡ items
+one_way words items at leads halts rom recipe b =
     let source : Source = frame_word Board words in
     let theirs : Item = record { at = b.at; format = b.format; instr = Halt } in
     let ours : Item = record { at = at; format = Short; instr = Halt } in
@@ -64,30 +66,30 @@ unfolding instruction_of
 dot_taken = refl
 
 -- a vector of pieces adds what they add
-pub row_of : (pieces : List Piece) (v : VecOf pieces) (before after : List Item) → AddsRow pieces before after → Spells (Row v.0) before after
-row_of pieces v before after h = subst (λ (l : List Piece). AddsRow l before after) (sym v.1) h
+pub row_of : (pieces : List Piece) (v : VecOf pieces) (rom : Rom) (before after : List Item) → AddsRow pieces rom before after → Spells (Row v.0) rom before after
+row_of pieces v rom before after h = subst (λ (l : List Piece). AddsRow l rom before after) (sym v.1) h
 
-module _ (p : ExampleParts) where
+module _ (rom : Rom) (p : ExampleParts) where
   call_taken : Takes (call_piece p.targets.0).kind Short (Jsrl 0x803)
   call_taken = subst (λ (l : List ℕ). Contains l 0x803) (sym p.targets.1) (1, omega arith, refl)
 
-  start_spelled : Spells (Row p.start.0) [] (call_item ∷ place_item 0xFF8 ∷ [])
+  start_spelled : Spells (Row p.start.0) rom [] (call_item ∷ place_item 0xFF8 ∷ [])
   start_spelled =
-      row_of (place_piece ∷ call_piece p.targets.0 ∷ []) p.start [] (call_item ∷ place_item 0xFF8 ∷ []) (
+      row_of (place_piece ∷ call_piece p.targets.0 ∷ []) p.start rom [] (call_item ∷ place_item 0xFF8 ∷ []) (
         place_item 0xFF8 ∷ [],
-        record { item = place_item 0xFF8; one_more = refl; taken = place_taken },
-        (call_item ∷ place_item 0xFF8 ∷ [], record { item = call_item; one_more = refl; taken = call_taken }, refl),
+        record { item = place_item 0xFF8; one_more = refl; taken = place_taken; arrives = tt },
+        (call_item ∷ place_item 0xFF8 ∷ [], record { item = call_item; one_more = refl; taken = call_taken; arrives = tt }, refl),
       )
 
-  stroke_spelled : (before : List Item) → Spells (Row p.stroke.0) before (stroke_item ∷ before)
+  stroke_spelled : (before : List Item) → Spells (Row p.stroke.0) rom before (stroke_item ∷ before)
   stroke_spelled before =
-      row_of (stroke_piece ∷ []) p.stroke before (stroke_item ∷ before) (stroke_item ∷ before, record { item = stroke_item; one_more = refl; taken = stroke_taken }, refl)
+      row_of (stroke_piece ∷ []) p.stroke rom before (stroke_item ∷ before) (stroke_item ∷ before, record { item = stroke_item; one_more = refl; taken = stroke_taken; arrives = tt }, refl)
 
-  dot_spelled : (before : List Item) → Spells (Row p.dot.0) before (dot_item 5 ∷ before)
+  dot_spelled : (before : List Item) → Spells (Row p.dot.0) rom before (dot_item 5 ∷ before)
   dot_spelled before =
-      row_of (dot_piece ∷ []) p.dot before (dot_item 5 ∷ before) (dot_item 5 ∷ before, record { item = dot_item 5; one_more = refl; taken = dot_taken }, refl)
+      row_of (dot_piece ∷ []) p.dot rom before (dot_item 5 ∷ before) (dot_item 5 ∷ before, record { item = dot_item 5; one_more = refl; taken = dot_taken; arrives = tt }, refl)
 
-  belongs : Belongs (example_recipe p) member_words
+  belongs : Belongs rom (example_recipe p) member_words
   belongs =
       let two : List Item = call_item ∷ place_item 0xFF8 ∷ [] in
       record {
@@ -116,12 +118,12 @@ only_area a b (zero, lt, is) = is
 only_area a b (suc k, lt, is) = absurd (omega (arith, lt))
 
 -- a list of a recipe whose one area is at 000 begins with the frame's first item
-pub starts_at : (recipe : Recipe) (area : Area) (items : List Item) (j : ℕ) → recipe.lists ≡ area ∷ [] → area.first ≡ 0 → (h : RecipeLeads recipe items j) → h.start ≡ 0
+pub starts_at : (recipe : Recipe) (area : Area) (items : ItemsOver) (j : ℕ) → recipe.lists ≡ area ∷ [] → area.first ≡ 0 → (h : RecipeLeads recipe items j) → h.start ≡ 0
 starts_at recipe area items j one first h =
     let same : area ≡ h.starts.area = only_area area h.starts.area (subst (λ (l : List Area). Contains l h.starts.area) one h.starts.listed) in
     subst (λ n. ListStarts n items h.start) (sym (ap (λ (a : Area). a.first) same) ∙ first) h.starts.starts
 
-module _ (p : ExampleParts) (items : List Item) where
+module _ (p : ExampleParts) (items : ItemsOver) where
   -- where a row of one piece leads
   one_on : (piece : Piece) (v : VecOf (piece ∷ [])) (i j : ℕ) → PartLeads (Row v.0) items i j → j ≡ suc i
   one_on piece v i j h = let r = subst (λ (l : List Piece). RowLeads l items i j) v.1 h in r.2 ∙ r.1.next
@@ -169,23 +171,23 @@ third_turn_halts : cell_at (frame_word Board third_turn_words) 6 ≡ Holds Short
 unfolding cell_at instruction_of
 third_turn_halts = refl
 
-module _ (p : ExampleParts) where
-  past_place : Belongs (example_recipe p) past_place_words → ⊥
+module _ (rom : Rom) (p : ExampleParts) where
+  past_place : Belongs rom (example_recipe p) past_place_words → ⊥
   past_place b =
-      let items : List Item = place_item 0xFF7 ∷ call_item ∷ [] in
-      let same = one_way past_place_words (call_item ∷ place_item 0xFF7 ∷ []) 3 past_place_leads past_place_halts (example_recipe p) b in
+      let items : ItemsOver = record { rom = rom; items = place_item 0xFF7 ∷ call_item ∷ [] } in
+      let same = one_way past_place_words (call_item ∷ place_item 0xFF7 ∷ []) 3 past_place_leads past_place_halts rom (example_recipe p) b in
       let placed = (is_short p items 2 (recipe_back items (example_recipe p) b.items 2 (omega arith) same b.spelled)).placed in
       let taken = subst (λ (i : Item). Takes place_piece.kind i.format i.instr) (sym placed.there) placed.taken in
       omega (arith, ints, taken.1.low)
 
-  third_turn : Belongs (example_recipe p) third_turn_words → ⊥
+  third_turn : Belongs rom (example_recipe p) third_turn_words → ⊥
   third_turn b =
-      let items : List Item = place_item 0xFF8 ∷ call_item ∷ dot_item 3 ∷ dot_item 4 ∷ dot_item 5 ∷ [] in
-      let same = one_way third_turn_words (dot_item 5 ∷ dot_item 4 ∷ dot_item 3 ∷ call_item ∷ place_item 0xFF8 ∷ []) 6 third_turn_leads third_turn_halts (example_recipe p) b in
+      let items : ItemsOver = record { rom = rom; items = place_item 0xFF8 ∷ call_item ∷ dot_item 3 ∷ dot_item 4 ∷ dot_item 5 ∷ [] } in
+      let same = one_way third_turn_words (dot_item 5 ∷ dot_item 4 ∷ dot_item 3 ∷ call_item ∷ place_item 0xFF8 ∷ []) 6 third_turn_leads third_turn_halts rom (example_recipe p) b in
       omega (arith, (is_short p items 5 (recipe_back items (example_recipe p) b.items 5 (omega arith) same b.spelled)).few)
 
 -- ---- all
 
 pub worked_members : WorkedMembers
 unfolding belongs
-worked_members p = record { belongs = belongs p; items = refl; past_place = past_place p; third_turn = third_turn p }
+worked_members rom p = record { belongs = belongs rom p; items = refl; past_place = past_place rom p; third_turn = third_turn rom p }

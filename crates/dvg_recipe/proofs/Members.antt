@@ -18,12 +18,25 @@ use Rattle.dvg_words.specs.declared.machine.Machine.TheVariants.{Board}
 use Rattle.dvg_recipe.specs.Recipes.{Recipe, Belongs, Spells, SpellsJumps}
 use Rattle.dvg_recipe.specs.Means.{AllMean}
 use Rattle.dvg_recipe.specs.Private.Hulls.{Hull}
-use Rattle.dvg_recipe.specs.Private.Judging.{IsFront, Carries, AreListStarts, IsCounted}
+use Rattle.dvg_make.specs.Made.{AllMade}
+use Rattle.dvg_recipe.specs.Private.Judging.{Carries, AreListStarts, AreGoodMembers, IsCounted}
 use Rattle.dvg_recipe.proofs.Past.{format_there}
 use Rattle.dvg_recipe.proofs.Judging.{extends_part, extends_jumps}
 
 halt_keeps : (w : Window) (budget : ℕ) (list : List Entry) (words : List ℕ) (earlier : List Item) (at : ℕ) → 1 + (known_before (frame_context Board list) earlier).words ≤ budget → (why : FrameWhy) → FrameKeeps w budget (seen_at (frame_context Board list) earlier (record { at = at; format = Short; instr = Halt })) why
 halt_keeps w budget list words earlier at le why = grind (arith)
+
+-- all items of a recipe's lists are good fronts where each of its parts leads to good fronts
+pub every_front : (w : Window) (list : List Entry) (budget : ℕ) (recipe : Recipe) (start between ends : List Hull) → AreListStarts w list budget recipe.lists start → Carries w list budget (Spells recipe.body) start between
+    → Carries w list budget (SpellsJumps recipe.jumps) between ends → AreGoodMembers w list budget recipe ends
+every_front w list budget recipe start between ends lists body jumps = record {
+  each = λ rom made words items s all.
+      let middle = (extends_jumps recipe.jumps).front rom words s.between items s.jumped all in
+      let first = (extends_part recipe.body).front rom words s.start s.between s.spelled middle in
+      let g0 = lists.each words s.start (s.area, s.listed, s.begins) first in
+      let g1 = body.each rom made words s.start s.between s.spelled middle g0 in
+      jumps.each rom made words s.between items s.jumped all g1;
+}
 
 module _ (w : Window) (list : List Entry) (budget : ℕ) (recipe : Recipe) (words depth : ℕ) where
   -- a frame of the recipe keeps all rules, with no more words and no more depth
@@ -34,46 +47,38 @@ module _ (w : Window) (list : List Entry) (budget : ℕ) (recipe : Recipe) (word
     pub shallow : d ≤ depth
     pub good : GoodFrame w Board words_of list budget n d
 
-  module _ (start between ends : List Hull) (lists : AreListStarts w list budget recipe.lists start) (body : Carries w list budget (Spells recipe.body) start between)
-      (jumps : Carries w list budget (SpellsJumps recipe.jumps) between ends) (last : (h : Hull) → Contains ends h → IsCounted words depth h) (within : words ≤ budget) where
-    pub every_good : (frame : List ℕ) → Belongs recipe frame → IsGoodMember frame
-    every_good frame b =
-        let c : Context = frame_context Board list in
-        let source : Source = frame_word Board frame in
-        let s = b.spelled in
-        let all : IsFront frame b.items = (b.at, b.leads) in
-        let middle = (extends_jumps recipe.jumps).front frame s.between b.items s.jumped all in
-        let first = (extends_part recipe.body).front frame s.start s.between s.spelled middle in
-        let g0 = lists.each frame s.start (s.area, s.listed, s.begins) first in
-        let g1 = body.each frame s.start s.between s.spelled middle g0 in
-        let g2 = jumps.each frame s.between b.items s.jumped all g1 in
-        let end = last g2.covered.hull g2.covered.listed in
-        let inside = g2.covered.inside in
-        let short : b.format ≡ Short = format_there source b.at b.format Halt b.halts in
-        let halts : cell_at source b.at ≡ Holds Short Halt = b.halts ∙ ap (λ (f : Format). Holds f Halt) short in
-        let i : Item = record { at = b.at; format = Short; instr = Halt } in
-        let rules = halt_keeps w budget list frame b.items b.at (omega (arith, inside.words, end.count, within)) in
-        let kept : (why : FrameWhy) → FramePlaceKeeps w Board frame list budget b.items b.at why = λ why. subst (λ (cell : Cell). CellKeeps rule.Unmapped rule.Odd (λ j. FrameKeeps w budget (seen_at c b.items j)) b.at cell why) (sym halts) (rules why) in
-        record {
-          n = 1 + (known_before c b.items).words;
-          d = (known_before c b.items).depth;
-          few = omega (arith, inside.words, end.count);
-          shallow = omega (arith, inside.depth, end.shallow);
-          good = record {
-            keeps = everywhere Frame source 0 (λ earlier p. (why : FrameWhy) → FramePlaceKeeps w Board frame list budget earlier p why) b.items i b.leads halts refl (g2.kept, kept);
-            items = b.items;
-            at = b.at;
-            format = Short;
-            leads = b.leads;
-            halts = halts;
-            count_is = omega arith;
-            depth_is = refl;
-          };
-        }
+  pub every_good : (rom : Rom) → AllMade rom list → (ends : List Hull) → AreGoodMembers w list budget recipe ends → ((h : Hull) → Contains ends h → IsCounted words depth h) → words ≤ budget → (frame : List ℕ) → Belongs rom recipe frame → IsGoodMember frame
+  every_good rom made ends members last within frame b =
+      let c : Context = frame_context Board list in
+      let source : Source = frame_word Board frame in
+      let g2 = members.each rom made frame b.items b.spelled (b.at, b.leads) in
+      let end = last g2.covered.hull g2.covered.listed in
+      let inside = g2.covered.inside in
+      let short : b.format ≡ Short = format_there source b.at b.format Halt b.halts in
+      let halts : cell_at source b.at ≡ Holds Short Halt = b.halts ∙ ap (λ (f : Format). Holds f Halt) short in
+      let i : Item = record { at = b.at; format = Short; instr = Halt } in
+      let rules = halt_keeps w budget list frame b.items b.at (omega (arith, inside.words, end.count, within)) in
+      let kept : (why : FrameWhy) → FramePlaceKeeps w Board frame list budget b.items b.at why = λ why. subst (λ (cell : Cell). CellKeeps rule.Unmapped rule.Odd (λ j. FrameKeeps w budget (seen_at c b.items j)) b.at cell why) (sym halts) (rules why) in
+      record {
+        n = 1 + (known_before c b.items).words;
+        d = (known_before c b.items).depth;
+        few = omega (arith, inside.words, end.count);
+        shallow = omega (arith, inside.depth, end.shallow);
+        good = record {
+          keeps = everywhere Frame source 0 (λ earlier p. (why : FrameWhy) → FramePlaceKeeps w Board frame list budget earlier p why) b.items i b.leads halts refl (g2.kept, kept);
+          items = b.items;
+          at = b.at;
+          format = Short;
+          leads = b.leads;
+          halts = halts;
+          count_is = omega arith;
+          depth_is = refl;
+        };
+      }
 
 -- so each of them is all that a yes means
 pub every_means : (rom : Rom) (list : List Entry) (w : Window) (budget : ℕ) (recipe : Recipe) (words depth : ℕ) → IsJudged (record { rom = rom; list = list; window = w; mode = Exact }) → IsWindowOrZone w → rom.machine ≡ Board
-    → ((frame : List ℕ) → Belongs recipe frame → IsGoodMember w list budget recipe words depth frame) → AllMean rom recipe w words depth
+    → ((frame : List ℕ) → Belongs rom recipe frame → IsGoodMember w list budget recipe words depth frame) → AllMean rom recipe w words depth
 every_means rom list w budget recipe words depth judged fits board each frame b =
     let t = each frame b in
     let yes : Accepted = record { words = t.n; depth = t.d } in

@@ -5,8 +5,8 @@ use Rattle.dvg_check.proofs.Common.{Window, Entry, Item, ◌≢◌}
 use Rattle.dvg_recipe.specs.Limits.{PartFits, RowFits, JumpsFit, MOST_LEVELS, MOST_NESTED}
 use Rattle.dvg_recipe.specs.Recipes.{Part, Row, Then', Either', Repeat', Piece, Jump, Area, AddsRow, AddsJump, Spells, SpellsJumps, Times, BeginsAt}
 use Rattle.dvg_recipe.specs.Private.Hulls.{Hull, AreUnder, LeadOn}
-use Rattle.dvg_recipe.specs.Private.Judging.{Adds, Both, Turns, IsTaken, IsJump, IsGoodFront, Carries, IsWithin, IsFirst, AreListStarts, IsCounted}
-use Rattle.dvg_recipe.proofs.Judging.{extends_part, good_under, carries_same, carries_row_whole, carries_both, carries_under, carries_either, carries_piece, carries_jump, carries_row_next, turn_next, turns_more, carries_jumps_next}
+use Rattle.dvg_recipe.specs.Private.Judging.{Adds, Both, TimesOver, Turns, IsTaken, IsJump, IsFront, IsGoodFront, Carries, IsWithin, IsFirst, AreListStarts, IsCounted}
+use Rattle.dvg_recipe.proofs.Judging.{extends_part, good_under, carries_same, carries_row_whole, carries_both, carries_under, carries_either, good_item, carries_piece, carries_jump, carries_row_next, turn_next, turns_more, carries_jumps_next}
 
 -- ---- hulls behind hulls
 
@@ -45,22 +45,22 @@ module _ (w : Window) (list : List Entry) (budget : ℕ) where
   pub then_both : (a b : Part) (xs ys zs : List Hull) → Carries w list budget (Spells a) xs ys → Carries w list budget (Spells b) ys zs → Carries w list budget (Both (Spells a) (Spells b)) xs zs
   then_both a b xs ys zs h k = carries_both w list budget (Spells a) (Spells b) xs ys zs (extends_part b) h k
 
-  pub either_one : (R S : Adds) (xs ys zs all : List Hull) → AreUnder ys all → AreUnder zs all → Carries w list budget R xs ys → Carries w list budget S xs zs → Carries w list budget (λ before after. R before after ⊎ S before after) xs all
+  pub either_one : (R S : Adds) (xs ys zs all : List Hull) → AreUnder ys all → AreUnder zs all → Carries w list budget R xs ys → Carries w list budget S xs zs → Carries w list budget (λ rom before after. R rom before after ⊎ S rom before after) xs all
   either_one R S xs ys zs all u v h k = carries_either w list budget R S xs xs all (carries_under w list budget R xs ys all u h) (carries_under w list budget S xs zs all v k)
 
   module _ (body : Part) where
-    pub one_turn : (n m : ℕ) (xs ys zs : List Hull) → m ≡ suc n → Carries w list budget (Times n (Spells body)) xs ys → Carries w list budget (Spells body) ys zs → Carries w list budget (Times m (Spells body)) xs zs
+    pub one_turn : (n m : ℕ) (xs ys zs : List Hull) → m ≡ suc n → Carries w list budget (TimesOver n (Spells body)) xs ys → Carries w list budget (Spells body) ys zs → Carries w list budget (TimesOver m (Spells body)) xs zs
     one_turn n m xs ys zs is h k = turn_next w list budget (Spells body) n m xs ys zs is (extends_part body) h k
 
-    pub times_none : (xs ys : List Hull) → xs ≡ ys → Carries w list budget (Times 0 (Spells body)) xs ys
-    times_none xs ys is = subst (λ (l : List Hull). Carries w list budget (Times 0 (Spells body)) xs l) is (carries_same w list budget xs)
+    pub times_none : (xs ys : List Hull) → xs ≡ ys → Carries w list budget (TimesOver 0 (Spells body)) xs ys
+    times_none xs ys is = subst (λ (l : List Hull). Carries w list budget (TimesOver 0 (Spells body)) xs l) is (carries_same w list budget xs)
 
-    pub least_turns : (least : ℕ) (xs ys zs : List Hull) → AreUnder ys zs → Carries w list budget (Times least (Spells body)) xs ys → Carries w list budget (Turns least least (Spells body)) xs zs
+    pub least_turns : (least : ℕ) (xs ys zs : List Hull) → AreUnder ys zs → Carries w list budget (TimesOver least (Spells body)) xs ys → Carries w list budget (Turns least least (Spells body)) xs zs
     least_turns least xs ys zs u h =
         carries_under w list budget (Turns least least (Spells body)) xs ys zs u
-        (record { each = λ words before after t f good. h.each words before after (subst (λ n. Times n (Spells body) before after) (omega (arith, t.1, t.2)) t.3) f good })
+        (record { each = λ rom made words before after t f good. h.each rom made words before after (subst (λ n. Times n (Spells body rom) before after) (omega (arith, t.1, t.2)) t.3) f good })
 
-    pub more_turns : (least n m : ℕ) (xs here next more : List Hull) → m ≡ suc n → Carries w list budget (Turns least n (Spells body)) xs next → Carries w list budget (Times m (Spells body)) xs here → AreUnder next more → AreUnder here more → Carries w list budget (Turns least m (Spells body)) xs more
+    pub more_turns : (least n m : ℕ) (xs here next more : List Hull) → m ≡ suc n → Carries w list budget (Turns least n (Spells body)) xs next → Carries w list budget (TimesOver m (Spells body)) xs here → AreUnder next more → AreUnder here more → Carries w list budget (Turns least m (Spells body)) xs more
     more_turns least n m xs here next more is h k u v = turns_more w list budget (Spells body) least n m xs here next more is h k u v
 
   pub jumps_next : (jumps : List Jump) (i n : ℕ) (d : Jump) (xs ys zs all : List Hull) → n ≡ suc i → i < length jumps → Carries w list budget (SpellsJumps (take i jumps)) xs ys → LeadOn w list budget IsJump ys zs → Carries w list budget (Spells (get_or jumps i d).body) zs all → Carries w list budget (SpellsJumps (take n jumps)) xs all
@@ -82,7 +82,7 @@ only_area a b (suc k, lt, is) = absurd (omega (arith, lt))
 
 module _ (w : Window) (list : List Entry) (budget : ℕ) where
   good_start : (h : Hull) (words : List ℕ) → IsFirst h → IsGoodFront w list budget (h ∷ []) words []
-  good_start h words first = record { covered = first; kept = tt }
+  good_start h words first = record { covered = first; comes = λ rom made. refl; kept = tt }
 
   pub starts_none : (areas : List Area) (here : List Hull) → AreListStarts w list budget (take 0 areas) here
   starts_none areas here = record { each = λ words items b f. absurd (omega (arith, b.1.1)) }
@@ -103,7 +103,8 @@ module _ (w : Window) (list : List Entry) (budget : ℕ) where
   pub starts_there : (area : Area) (h : Hull) (there : List Hull) → area.first ≢ 0 → IsFirst h → LeadOn w list budget IsJump (h ∷ []) there → AreListStarts w list budget (area ∷ []) there
   starts_there area h there not known on = record {
     each = λ words items b f.
-        (carries_jump w list budget area.first (h ∷ []) there on).each words [] items (begins_there area.first items not (subst (λ (a : Area). BeginsAt a.first items) (sym (only_area area b.0 b.1)) b.2)) f (good_start h words known);
+        let a = begins_there area.first items not (subst (λ (a : Area). BeginsAt a.first items) (sym (only_area area b.0 b.1)) b.2) in
+        subst (IsGoodFront w list budget there words) (sym a.one_more) (good_item w list budget IsJump (h ∷ []) there words [] a.item on (area.first, a.jumps) (subst (IsFront words) a.one_more f) (good_start h words known));
   }
 
   pub starts_whole : (areas : List Area) (here : List Hull) (i : ℕ) → length areas ≤ i → AreListStarts w list budget (take i areas) here → AreListStarts w list budget areas here

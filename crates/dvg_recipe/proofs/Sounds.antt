@@ -127,5 +127,8 @@ fronts_last fronts rest last here is some h =
 pub piece_at : (row : List Piece) (i : ℕ) (d : Piece) → RowFits row → i < length row → PieceFits (get_or row i d).kind
 piece_at row i d h lt = h.each (get_or row i d) (Contains-get_or row i d lt)
 
+pub piece_got : (row : List Piece) (i : ℕ) (p : Piece) → RowFits row → i < length row → get_or row i p ≡ p → PieceFits p.kind
+piece_got row i p h lt is = h.each p (i, lt, is)
+
 pub jump_at : (jumps : List Jump) (i : ℕ) (d : Jump) → AreWithin jumps → i < length jumps → IsWithin (get_or jumps i d).body
 jump_at jumps i d h lt = h.each (get_or jumps i d) (Contains-get_or jumps i d lt)

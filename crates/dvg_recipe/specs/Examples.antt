@@ -1,10 +1,11 @@
 -- Worked recipes. Of the first, a frame that belongs to it and two that don't. Of the second, each frame is all that a yes means
 -- with places up to one, and a frame is refused with places up to the next. What words say is from the documentation of the DVG.
-use Rattle.std.specs.Prelude.{◌≡◌, ℕ, ℤ, pos, negsuc, true, false, List, [], ◌∷◌, replicate, Err}
+use Rattle.std.specs.Prelude.{◌≡◌, ℕ, ℤ, pos, negsuc, true, false, List, [], ◌∷◌, None, replicate, Err}
 use Rattle.std.specs.Global.{Vec, Box}
 use Rattle.dvg_words.specs.declared.machine.Machine.TheVariants.{Board}
 use Rattle.dvg_words.specs.declared.instruction.Instr.TheVariants.{Draw as Draws, Labs, Jsrl}
 use Rattle.dvg_words.specs.declared.instruction.Format.TheVariants.{Short, Long}
+use Rattle.dvg_words.specs.Memory.{Rom}
 use Rattle.dvg_words.specs.Beam.{screen}
 use Rattle.dvg_items.specs.declared.item.Item.{Item}
 use Rattle.dvg_check.specs.Example.{rom_for}
@@ -49,6 +50,7 @@ stroke_piece =
         dx = record { low = negsuc 2; high = pos 3 };
         dy = record { low = pos 0; high = pos 2 };
         bright = record { low = pos 0; high = pos 7 };
+        to = None;
       });
     }
 
@@ -97,15 +99,15 @@ abbrev pub third_turn_words : List ℕ
 third_turn_words = 0xAFF8 ∷ 0x2064 ∷ 0xC803 ∷ 0xF0F0 ∷ 0xF0F0 ∷ 0xF0F0 ∷ 0xB000 ∷ []
 
 -- the first frame belongs by these items; one with a place past the range does not, nor does one with a turn too many
-pub record WorkedBelonging (recipe : Recipe) : Type 0 where
-  pub belongs : Belongs recipe member_words
+pub record WorkedBelonging (rom : Rom) (recipe : Recipe) : Type 0 where
+  pub belongs : Belongs rom recipe member_words
   pub items : belongs.items ≡ member_items
-  pub past_place : Belongs recipe past_place_words → ⊥
-  pub third_turn : Belongs recipe third_turn_words → ⊥
+  pub past_place : Belongs rom recipe past_place_words → ⊥
+  pub third_turn : Belongs rom recipe third_turn_words → ⊥
 
--- wherever the recipe lies in memory
+-- over any ROM, and wherever the recipe lies in memory
 abbrev pub WorkedMembers : Type 0
-WorkedMembers = (p : ExampleParts) → WorkedBelonging (example_recipe p)
+WorkedMembers = (rom : Rom) (p : ExampleParts) → WorkedBelonging rom (example_recipe p)
 
 -- ---- which frames are accepted
 
@@ -138,7 +140,7 @@ edge_words = 0xA100 ∷ 0x0000 ∷ 0xC800 ∷ 0xB000 ∷ []
 -- from Y 256 the stroke ends at 1023, the edge of the screen: each frame is all that a yes means, with at most seven words and one return
 -- place
 pub record WorkedAcceptance (recipe : Recipe) : Type 0 where
-  pub member : Belongs recipe edge_words
+  pub member : Belongs (rom_for Board) recipe edge_words
   pub accepted : AllMean (rom_for Board) recipe screen 7 1
 
 -- the bytes of LABS to X 0 and Y 257 at scale 0; JSRL 800; HALT

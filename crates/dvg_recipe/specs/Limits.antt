@@ -1,5 +1,5 @@
 -- Limits of recipes. All of it is this project's own.
-use Rattle.std.specs.Prelude.{◌≡◌, ◌⊎◌, ◌≤◌, ◌<◌, ◌≤ℤ◌, ◌+◌, ◌*◌, ◌-◌, ℕ, suc, ℤ, pos, negsuc, true, List, [], ◌∷◌, Contains, Some, length, min}
+use Rattle.std.specs.Prelude.{◌≡◌, ◌⊎◌, ◌≤◌, ◌<◌, ◌≤ℤ◌, ◌+◌, ◌*◌, ◌-◌, ℕ, suc, ℤ, pos, negsuc, true, List, [], ◌∷◌, Contains, Option, None, Some, length, min}
 use Rattle.std.specs.List.{sum_by}
 use Rattle.dvg_words.specs.declared.machine.Machine.TheVariants.{Board}
 use Rattle.dvg_words.specs.declared.instruction.Instr.TheVariants.{Draw as Draws, Labs, Jsrl}
@@ -9,7 +9,7 @@ use Rattle.dvg_words.specs.declared.instruction.Cell.{Cell}
 use Rattle.dvg_words.specs.declared.instruction.Cell.TheVariants.{Holds}
 use Rattle.dvg_words.specs.declared.map.TheConstants.{ADDRESS_END, RAM_WORDS}
 use Rattle.dvg_words.specs.Decoding.{cell_of_words}
-use Rattle.dvg_recipe.specs.Recipes.{Recipe, Area, Span, DrawRange, Piece, PieceKind, Place, Call, Draw, Fixed, Part, Row, Then', Either', Repeat', Jump}
+use Rattle.dvg_recipe.specs.Recipes.{Recipe, Area, Span, PlaceSpan, DrawRange, Piece, PieceKind, Place, Call, Draw, Fixed, Part, Row, Then', Either', Repeat', Jump}
 pub use Rattle.dvg_recipe.specs.declared.limits.TheConstants.{MOST_LISTS, MOST_PIECES, MOST_TURNS, MOST_LEVELS, MOST_NESTED}
 pub use Rattle.dvg_recipe.specs.declared.options.TheConstants.{MOST_OPTIONS}
 
@@ -35,12 +35,23 @@ abbrev pub LscaleFits : Format → ℕ → Type 0
 LscaleFits Short lscale = (2 ≤ lscale) × (lscale ≤ 5)
 LscaleFits Long lscale = lscale ≤ 9
 
+-- the rectangle has a place, and its places are those that a LABS can say
+abbrev pub PlaceSpanFits : PlaceSpan → Type 0
+PlaceSpanFits span = IsSpanBetween (negsuc 2047) (pos 2047) span.x × IsSpanBetween (negsuc 2047) (pos 2047) span.y
+
+-- a VCTR alone may have to lead to a rectangle: an SVEC's moves have gaps (profile)
+abbrev pub ToFits : Format → Option PlaceSpan → Type 0
+ToFits format None = Unit {0}
+ToFits Short (Some span) = ⊥
+ToFits Long (Some span) = PlaceSpanFits span
+
 -- the format can say the local scale, and the ends of all three ranges
 pub record DrawRangeFits (r : DrawRange) : Type 0 where
   pub lscale : LscaleFits r.format r.lscale
   pub dx : SizesFit r.format r.dx
   pub dy : SizesFit r.format r.dy
   pub bright : IsSpanBetween (pos 0) (pos 15) r.bright
+  pub to : ToFits r.format r.to
 
 -- the cell has a draw, a LABS or a JSRL
 abbrev pub IsStraight : Cell → Type 0

@@ -11,12 +11,12 @@ use Rattle.dvg_make.specs.declared.judging.FrameRefusal.TheVariants.{Make as Unm
 use Rattle.dvg_make.specs.Refusals.{fault_number, make_fault_of}
 use Rattle.dvg_recipe.specs.Recipes.{Recipe, Belongs}
 use Rattle.dvg_recipe.specs.declared.verdict.RecipeRefusal.{RecipeRefusal}
-use Rattle.dvg_recipe.specs.declared.verdict.RecipeRefusal.TheVariants.{TooLong, Make, Shape, Frame, Memory}
+use Rattle.dvg_recipe.specs.declared.verdict.RecipeRefusal.TheVariants.{TooLong, Stuck, Make, Shape, Frame, Memory}
 
 -- the frame of these bytes belongs to the recipe, and this is the verdict on it by its own certificate (profile)
 pub record IsMemberVerdict (rom : Rom) (recipe : Recipe) (w : Window) (budget : ℕ) (bytes : List ℕ) (verdict : Result Yes FrameRefusal)
     : Type 0 where
-  pub belongs : Belongs recipe (words_of bytes)
+  pub belongs : Belongs rom recipe (words_of bytes)
   pub judged : VerdictByMade rom (words_of bytes) w budget verdict
 
 -- the number of a refusal by a frame's own certificate (profile)
@@ -28,6 +28,7 @@ judged_number (Check refusal) = refusal_number refusal
 -- the number of a refusal of a recipe; none where there was no memory (profile)
 abbrev pub recipe_number : RecipeRefusal → Option ℕ
 recipe_number (TooLong piece) = Some 57
+recipe_number (Stuck piece) = Some 59
 recipe_number (Make unmade) = Some (fault_number (make_fault_of unmade.why))
 recipe_number (Shape fault) = Some (shape_number fault.why)
 recipe_number (Frame fault) = Some (frame_number fault.why)

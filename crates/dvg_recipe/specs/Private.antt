@@ -4,3 +4,4 @@ pub mod FrameItems
 pub mod Belonging
 pub mod Hulls
 pub mod Judging
+pub mod KnownPlaces

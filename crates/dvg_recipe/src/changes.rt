@@ -1,25 +1,25 @@
-//! What the items of a piece may do at a scale.
+//! What the items of a piece may do, and what that is at a scale.
 
-ghost use Rattle.std.specs.Prelude.{◌≡◌, List, [], ◌∷◌, ◌≤◌, ◌*ℤ◌, pos, true, false, Some, get_or, Contains, IfOk, IfSome, ℕ};
+ghost use Rattle.std.specs.Prelude.{◌≡◌, List, ◌≤◌, ◌*ℤ◌, pos, true, IfSome};
 ghost use Rattle.dvg_words.specs.Decoding.{InstrFits, word_count};
 ghost use Rattle.dvg_words.specs.declared.machine.Machine.TheVariants.{Board};
 ghost use Rattle.dvg_words.specs.declared.instruction.Cell.TheVariants.{Holds};
 ghost use Rattle.dvg_cert.specs.Entry.{IsKey};
 ghost use Rattle.dvg_cert.specs.declared.entry.Entry.{Entry};
 ghost use Rattle.dvg_items.specs.Bounds.{IsClaim, IsSomeCertificate};
-ghost use Rattle.dvg_items.specs.Known.{callee_at};
+ghost use Rattle.dvg_items.specs.declared.item.Item.{Item};
+ghost use Rattle.dvg_items.specs.declared.known.Known.{Known};
 ghost use Rattle.dvg_recipe.specs.Limits.{DrawRangeFits, PieceFits};
-ghost use Rattle.dvg_recipe.specs.Recipes.{Place, Call, Draw as Draws, Fixed, IsInSpan};
+ghost use Rattle.dvg_recipe.specs.Recipes.{Draw as Draws, Fixed, IsInSpan};
 ghost use Rattle.dvg_recipe.specs.Private.Judging.{IsTaken};
-ghost use Rattle.dvg_recipe.specs.Private.Hulls.{IsNearRectangle, IsNearMotion, IsNearLight, AreChanges, AreSoundChanges, IsSoundChange, at_point, places_of, place_change, still, stop_motion, box_light, call_change, moves, draw_light, draw_change};
+ghost use Rattle.dvg_recipe.specs.Private.Hulls.{IsNearRectangle, IsNearMotion, IsNearLight, IsNearInto, IsSoundChange, IsAct, ActFits, act_change, at_point, places_of, span_places, into_of, place_change, still, stop_motion, box_light, call_change, moves, draw_light, draw_change};
 
-use crate::hull::{Change, Light, Motion, Rectangle};
-use crate::piece::{DrawRange, PieceKind, PlaceRange};
+use crate::hull::{Act, Change, Light, Motion, Rectangle};
+use crate::piece::{DrawRange, PlaceRange, PlaceSpan};
 use crate::takes::cell_of_words;
 use dvg_cert::{End, Entries, Entry, Key, LitBox};
 use dvg_items::callee;
-use dvg_words::{Cell, Draw, Format, Instr, Machine, Point, draw_move, labs_place};
-use std::alloc::{AllocError, Global};
+use dvg_words::{Cell, Draw, Format, Instr, Machine, Point, draw_move, in_units, labs_place};
 
 fn at_point(p: Point) -> Rectangle
     ensures { result ≡ at_point p }
@@ -32,17 +32,27 @@ fn place(x: i16, y: i16) -> Point
     ensures { result ≡ record { x = pos 1024 *ℤ x; y = pos 1024 *ℤ y } }
 {
     Point {
-        x: 1024 * i64::from(x),
-        y: 1024 * i64::from(y),
+        x: in_units(x),
+        y: in_units(y),
     }
 }
 
-fn places_of(range: &PlaceRange) -> Rectangle
+/// The places of a range.
+pub fn places_of(range: &PlaceRange) -> Rectangle
     ensures { result ≡ places_of range.now }
 {
     Rectangle {
         low: place(range.x.low, range.y.low),
         high: place(range.x.high, range.y.high),
+    }
+}
+
+fn span_places(span: &PlaceSpan) -> Rectangle
+    ensures { result ≡ span_places span.now }
+{
+    Rectangle {
+        low: place(span.x.low, span.y.low),
+        high: place(span.x.high, span.y.high),
     }
 }
 
@@ -56,6 +66,7 @@ fn place_change(places: Rectangle, scale: u8) -> Change
         words: 2,
         depth: 0,
         named: true,
+        into: None,
     }
 }
 
@@ -70,6 +81,7 @@ pub fn still(scale: Key) -> Change
         words: 1,
         depth: 0,
         named: true,
+        into: None,
     }
 }
 
@@ -118,7 +130,8 @@ fn call_change(named: Option<Entry>, scale: Key) -> Change
             scale: e.scale,
             words: 1 + e.words,
             depth: 1 + e.depth,
-            named: true,
+            named: e.key == scale,
+            into: None,
         },
     }
 }
@@ -145,12 +158,19 @@ fn draw_light(bright: u8, lit: Light) -> Light
     if bright == 0 { Light::Dark } else { lit }
 }
 
-/// Draws of a format that move and light so, at a scale.
-fn drawn(format: Format, motion: Motion, light: Light, scale: Key) -> Change
+/// Draws of a format that move and light so, at a scale, into a rectangle, if there is one.
+fn drawn(
+    format: Format,
+    motion: Motion,
+    light: Light,
+    into: Option<Rectangle>,
+    scale: Key,
+) -> Change
     requires motion { IsNearMotion motion }
     requires light { IsNearLight light }
+    requires into { IsNearInto into }
     requires scale { IsKey scale }
-    ensures value { result ≡ record { motion = motion; light = light; scale = scale; words = word_count format; depth = 0; named = true } }
+    ensures value { result ≡ record { motion = motion; light = light; scale = scale; words = word_count format; depth = 0; named = true; into = into } }
     ensures sound { IsSoundChange result }
 {
     Change {
@@ -160,14 +180,22 @@ fn drawn(format: Format, motion: Motion, light: Light, scale: Key) -> Change
         words: u32::from(format.words()),
         depth: 0,
         named: true,
+        into,
     }
 }
 
-/// Draws between two, at a scale.
+/// Draws between two, at a scale, into a rectangle, if there is one.
 #[tactic(auto, using(crate::proofs::Doing::origin_near))]
-fn draw_change(format: Format, low: &Draw, high: &Draw, scale: Key) -> Change
-    requires { IsKey scale }
-    ensures value { result ≡ draw_change format low.now high.now scale }
+fn draw_change(
+    format: Format,
+    low: &Draw,
+    high: &Draw,
+    into: Option<Rectangle>,
+    scale: Key,
+) -> Change
+    requires into { IsNearInto into }
+    requires key { IsKey scale }
+    ensures value { result ≡ draw_change format low.now high.now into scale }
     ensures sound { IsSoundChange result }
 {
     match scale {
@@ -175,49 +203,13 @@ fn draw_change(format: Format, low: &Draw, high: &Draw, scale: Key) -> Change
             let by = moves(low, high, gscale);
             let from = at_point(Point::ORIGIN);
             let light = draw_light(high.bright, Light::Shown { from, to: by });
-            drawn(format, Motion::By(by), light, scale)
+            drawn(format, Motion::By(by), light, into, scale)
         }
         Key::Any => {
             let light = draw_light(high.bright, Light::Unbounded);
-            drawn(format, Motion::Away, light, scale)
+            drawn(format, Motion::Away, light, into, scale)
         }
     }
-}
-
-/// LABS to places of a range, at each of its scales.
-#[tactic(auto, using(crate::proofs::Doing::place_sound))]
-fn of_place(alloc: Global, range: &PlaceRange) -> Result<Vec<Change>, AllocError>
-    requires fits { PieceFits (Place range.now) }
-    ensures has { IfOk result (λ all. (s : ℕ) → get_or range.now.scales s false ≡ true → Contains all.items (place_change (places_of range.now) s)) }
-    ensures sound { IfOk result (λ all. AreSoundChanges all.items) }
-{
-    let places = places_of(range);
-    let mut changes = Vec::new(alloc);
-    for scale in 0..16u8 {
-        if range.scales[usize::from(scale)] {
-            changes.push(place_change(places, scale))?;
-        }
-    }
-    Ok(changes)
-}
-
-/// JSRLs to each of some word addresses, at a scale.
-fn of_calls<E: Entries>(
-    alloc: Global,
-    entries: &E,
-    targets: &[u16],
-    scale: Key,
-) -> Result<Vec<Change>, AllocError>
-    requires entries { IsSomeCertificate (E.list entries.now) }
-    requires key { IsKey scale }
-    ensures has { IfOk result (λ all. (to : ℕ) → Contains targets.now to → Contains all.items (call_change (callee_at (E.list entries.now) (Some to) scale) scale)) }
-    ensures sound { IfOk result (λ all. AreSoundChanges all.items) }
-{
-    let mut changes = Vec::new(alloc);
-    for &to in targets {
-        changes.push(call_change(callee(entries, Some(to), scale), scale))?;
-    }
-    Ok(changes)
 }
 
 /// A draw of a range, of these sizes and this intensity.
@@ -239,33 +231,83 @@ fn corner(range: &DrawRange, dx: i16, dy: i16, bright: i16) -> Draw
     }
 }
 
-/// What each draw of a range does, at a scale.
-fn draws_change(range: &DrawRange, scale: Key) -> Change
-    requires key { IsKey scale }
-    requires fits { PieceFits (Draws range.now) }
-    ensures are { (list : List Entry) → AreChanges list scale (IsTaken (Draws range.now)) (result ∷ []) }
-    ensures sound { IsSoundChange result }
+/// Where draws of a range have to lead.
+fn into_of(range: &DrawRange) -> Option<Rectangle>
+    requires { DrawRangeFits range.now }
+    ensures value { result ≡ into_of range.now.to }
+    ensures near { IsNearInto result }
 {
-    let low = corner(range, range.dx.low, range.dy.low, range.bright.low);
-    let high = corner(range, range.dx.high, range.dy.high, range.bright.high);
-    draw_change(range.format, &low, &high, scale)
+    match &range.to {
+        None => None,
+        Some(span) => Some(span_places(span)),
+    }
 }
 
-/// What an instruction does at a scale, with the entry that it calls.
-fn instr_change<E: Entries>(entries: &E, format: Format, instr: &Instr, scale: Key) -> Change
-    requires entries { IsSomeCertificate (E.list entries.now) }
-    requires key { IsKey scale }
+/// What the draws of a range do.
+pub fn draws_act(range: &DrawRange) -> Act
+    requires fits { PieceFits (Draws range.now) }
+    ensures is { (list : List Entry) (known : Known) (i : Item) → IsTaken (Draws range.now) known i → IsAct list result known i }
+    ensures fits { ActFits result }
+{
+    Act::Draws {
+        format: range.format,
+        low: corner(range, range.dx.low, range.dy.low, range.bright.low),
+        high: corner(range, range.dx.high, range.dy.high, range.bright.high),
+        into: into_of(range),
+    }
+}
+
+/// What an instruction does.
+fn instr_act(format: Format, instr: &Instr) -> Act
     requires fits { InstrFits instr.now }
-    ensures are { AreChanges (E.list entries.now) scale (λ i. Holds format instr.now ≡ Holds i.format i.instr) (result ∷ []) }
-    ensures sound { IsSoundChange result }
+    ensures is { (list : List Entry) (known : Known) (i : Item) → Holds format instr.now ≡ Holds i.format i.instr → IsAct list result known i }
+    ensures fits { ActFits result }
 {
     match *instr {
-        Instr::Draw(draw) => draw_change(format, &draw, &draw, scale),
-        Instr::Labs { x, y, gscale } => {
-            place_change(at_point(labs_place(Machine::Board, x, y)), gscale)
-        }
-        Instr::Jsrl { to } => call_change(callee(entries, Some(to), scale), scale),
-        Instr::Halt | Instr::Rtsl | Instr::Jmpl { .. } => still(scale),
+        Instr::Draw(draw) => Act::Draws {
+            format,
+            low: draw,
+            high: draw,
+            into: None,
+        },
+        Instr::Labs { x, y, gscale } => Act::Place {
+            places: at_point(labs_place(Machine::Board, x, y)),
+            scale: gscale,
+        },
+        Instr::Jsrl { to } => Act::Call { to },
+        Instr::Halt | Instr::Rtsl | Instr::Jmpl { .. } => Act::Still,
+    }
+}
+
+/// What the instruction of two words does.
+pub fn words_act(first: u16, second: u16) -> Act
+    ensures is { (list : List Entry) (known : Known) (i : Item) → IsTaken (Fixed first second) known i → IsAct list result known i }
+    ensures fits { ActFits result }
+{
+    match cell_of_words(first, second) {
+        Cell::Holds { format, instr } => instr_act(format, &instr),
+        Cell::Missing | Cell::Odd => Act::Still,
+    }
+}
+
+/// What an act does at a scale.
+pub fn act_change<E: Entries>(entries: &E, act: &Act, scale: Key) -> Change
+    requires entries { IsSomeCertificate (E.list entries.now) }
+    requires fits { ActFits act.now }
+    requires key { IsKey scale }
+    ensures value { result ≡ act_change (E.list entries.now) act.now scale }
+    ensures sound { IsSoundChange result }
+{
+    match act {
+        Act::Draws {
+            format,
+            low,
+            high,
+            into,
+        } => draw_change(*format, low, high, *into, scale),
+        Act::Place { places, scale } => place_change(*places, *scale),
+        Act::Call { to } => call_change(callee(entries, Some(*to), scale), scale),
+        Act::Still => still(scale),
     }
 }
 
@@ -273,69 +315,7 @@ fn instr_change<E: Entries>(entries: &E, format: Format, instr: &Instr, scale: K
 pub fn words_change<E: Entries>(entries: &E, first: u16, second: u16, scale: Key) -> Change
     requires entries { IsSomeCertificate (E.list entries.now) }
     requires key { IsKey scale }
-    ensures are { AreChanges (E.list entries.now) scale (IsTaken (Fixed first second)) (result ∷ []) }
-    ensures sound { IsSoundChange result }
+    ensures { IsSoundChange result }
 {
-    match cell_of_words(first, second) {
-        Cell::Holds { format, instr } => instr_change(entries, format, &instr, scale),
-        Cell::Missing | Cell::Odd => still(scale),
-    }
-}
-
-/// A list of one change.
-fn one(alloc: Global, change: Change) -> Result<Vec<Change>, AllocError>
-    requires { IsSoundChange change }
-    ensures only { IfOk result (λ all. all.items ≡ change ∷ []) }
-    ensures sound { IfOk result (λ all. AreSoundChanges all.items) }
-{
-    let mut changes = Vec::new(alloc);
-    changes.push(change)?;
-    Ok(changes)
-}
-
-/// The change of all draws of a range, at a scale.
-fn of_draws(alloc: Global, range: &DrawRange, scale: Key) -> Result<Vec<Change>, AllocError>
-    requires key { IsKey scale }
-    requires fits { PieceFits (Draws range.now) }
-    ensures are { IfOk result (λ all. (list : List Entry) → AreChanges list scale (IsTaken (Draws range.now)) all.items) }
-    ensures sound { IfOk result (λ all. AreSoundChanges all.items) }
-{
-    one(alloc, draws_change(range, scale))
-}
-
-/// The change of the instruction of two words, at a scale.
-fn of_words<E: Entries>(
-    alloc: Global,
-    entries: &E,
-    first: u16,
-    second: u16,
-    scale: Key,
-) -> Result<Vec<Change>, AllocError>
-    requires entries { IsSomeCertificate (E.list entries.now) }
-    requires key { IsKey scale }
-    ensures are { IfOk result (λ all. AreChanges (E.list entries.now) scale (IsTaken (Fixed first second)) all.items) }
-    ensures sound { IfOk result (λ all. AreSoundChanges all.items) }
-{
-    one(alloc, words_change(entries, first, second, scale))
-}
-
-/// What the items that a piece allows may do, at a scale.
-pub fn changes_of<E: Entries>(
-    alloc: Global,
-    entries: &E,
-    kind: &PieceKind,
-    scale: Key,
-) -> Result<Vec<Change>, AllocError>
-    requires entries { IsSomeCertificate (E.list entries.now) }
-    requires key { IsKey scale }
-    requires fits { PieceFits kind.now }
-    ensures are { IfOk result (λ all. AreChanges (E.list entries.now) scale (IsTaken kind.now) all.items) }
-    ensures sound { IfOk result (λ all. AreSoundChanges all.items) }
-{
-    match kind {
-        PieceKind::Place(range) => of_place(alloc, range),
-        PieceKind::Call(targets) => of_calls(alloc, entries, targets, scale),
-        PieceKind::Draw(range) => of_draws(alloc, range, scale),
-        PieceKind::Fixed { first, second } => of_words(alloc, entries, *first, *second, scale),
-    }
+    act_change(entries, &words_act(first, second), scale)
 }

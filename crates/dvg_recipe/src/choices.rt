@@ -71,6 +71,22 @@ pub fn jsrl(to: u16) -> Words {
     }
 }
 
+/// A JMPL to a word address.
+pub fn jmpl(to: u16) -> Words {
+    Words {
+        first: 0xE000 | (to & 0x0FFF),
+        second: 0,
+    }
+}
+
+/// The brightest draw of a range of these sizes.
+pub fn draw(range: &DrawRange, dx: i16, dy: i16) -> Words {
+    match range.format {
+        Format::Short => svec(range.lscale, dx, dy, range.bright.high),
+        Format::Long => vctr(range.lscale, dx, dy, range.bright.high),
+    }
+}
+
 /// The ends of a range.
 fn ends(range: Span) -> [i16; 2] {
     [range.low, range.high]
@@ -91,25 +107,6 @@ fn of_place(alloc: Global, range: &PlaceRange) -> Result<Vec<Words>, AllocError>
     Ok(all)
 }
 
-/// A draw of a range.
-fn draw(range: &DrawRange, dx: i16, dy: i16) -> Words {
-    match range.format {
-        Format::Short => svec(range.lscale, dx, dy, range.bright.high),
-        Format::Long => vctr(range.lscale, dx, dy, range.bright.high),
-    }
-}
-
-/// The brightest draws of the corners of a range.
-fn of_draws(alloc: Global, range: &DrawRange) -> Result<Vec<Words>, AllocError> {
-    let mut all = Vec::new(alloc);
-    for dx in ends(range.dx) {
-        for dy in ends(range.dy) {
-            all.push(draw(range, dx, dy))?;
-        }
-    }
-    Ok(all)
-}
-
 /// JSRLs to each of some word addresses.
 fn of_calls(alloc: Global, targets: &[u16]) -> Result<Vec<Words>, AllocError> {
     let mut all = Vec::new(alloc);
@@ -119,12 +116,13 @@ fn of_calls(alloc: Global, targets: &[u16]) -> Result<Vec<Words>, AllocError> {
     Ok(all)
 }
 
-/// Items that a piece allows, among them one for each end of what its items do.
+/// Items that a piece allows, among them one for each end of what its items do; none of draws, whose sizes are chosen when they are
+/// written.
 pub fn choices(alloc: Global, kind: &PieceKind) -> Result<Vec<Words>, AllocError> {
     match kind {
         PieceKind::Place(range) => of_place(alloc, range),
         PieceKind::Call(targets) => of_calls(alloc, targets),
-        PieceKind::Draw(range) => of_draws(alloc, range),
+        PieceKind::Draw(_) => Ok(Vec::new(alloc)),
         PieceKind::Fixed { first, second } => {
             let mut all = Vec::new(alloc);
             all.push(Words {

@@ -63,7 +63,7 @@ fn member_verdict(
     let Ok(frame) = FrameImage::from_bytes(bytes) else {
         return Ok(None);
     };
-    match belongs(alloc, recipe, &frame) {
+    match belongs(alloc, rom, recipe, &frame) {
         Ok(()) => {}
         Err(NotMember::Leaves(_)) => return Ok(None),
         Err(NotMember::Memory) => return Err(AllocError),
@@ -108,9 +108,10 @@ fn refused_with(
     }
 }
 
-/// A frame that leads to where it has to stop.
+/// A frame over a ROM that leads to where it has to stop.
 fn find_bytes(
     alloc: Global,
+    rom: &RomImage,
     cert: &Cert,
     asked: &Asked,
     stop: &Stop,
@@ -121,7 +122,7 @@ fn find_bytes(
     // Its clause says that the list is that of a certificate.
     let _entries = cert.entries();
     let entries = HashIndex::new(alloc, cert)?;
-    match find(alloc, &entries, asked, stop, recipe)? {
+    match find(alloc, rom, &entries, asked, stop, recipe)? {
         Some(LeadingFrame { words, turns }) => {
             let frame = bytes_of(alloc, &words)?;
             Ok(Some(FoundFrame { frame, turns }))
@@ -176,7 +177,7 @@ fn find_end(
     let Ok(cert) = make(alloc, rom, &roots.asked) else {
         return Err(AllocError);
     };
-    let found = find_bytes(alloc, &cert, asked, stop, recipe)?;
+    let found = find_bytes(alloc, rom, &cert, asked, stop, recipe)?;
     Ok(found.map(|found| found.frame))
 }
 
@@ -197,15 +198,15 @@ fn stop_of(
             let (to, scale) = root_of(alloc, rom, roots, fault)?;
             Some(Stop::Call { to, scale })
         }
-        RecipeRefusal::TooLong { .. } | RecipeRefusal::Memory => None,
+        RecipeRefusal::TooLong { .. } | RecipeRefusal::Stuck { .. } | RecipeRefusal::Memory => None,
     }
 }
 
 /// A frame of the recipe that is refused with the number with which [`judge_recipe`](crate::judge_recipe) refuses the recipe, over this ROM,
 /// with this budget and this window.
 ///
-/// `None` if none is found: 57 has none, and each other refusal has one (only tested). An `Err` says that there was no memory to look for it.
-/// Takes memory as `judge_recipe` does.
+/// `None` if none is found: 57 and 59 have none, and 60 to 62 may have none where a draw can't lead from some place to where it has to;
+/// each other refusal has one (only tested). An `Err` says that there was no memory to look for it. Takes memory as `judge_recipe` does.
 pub fn find_refused(
     alloc: Global,
     rom: &RomImage,
@@ -231,7 +232,7 @@ pub fn find_refused(
     let Ok(cert) = make(alloc, rom, &roots.asked) else {
         return Err(AllocError);
     };
-    match find_bytes(alloc, &cert, &asked, &stop, recipe)? {
+    match find_bytes(alloc, rom, &cert, &asked, &stop, recipe)? {
         Some(found) => refused_with(alloc, rom, recipe, &asked, found, number),
         None => Ok(None),
     }

@@ -2,6 +2,7 @@
 
 ghost use Rattle.std.specs.Prelude.{IfOk};
 ghost use Rattle.dvg_recipe.specs.Private.FrameItems.{AreItems};
+ghost use Rattle.dvg_recipe.specs.Private.KnownPlaces.{AreFramesItems};
 
 use dvg_items::{Item, Kind};
 use dvg_words::{Cell, FrameImage, FrameOn, Instr, Machine, read_cell};
@@ -19,7 +20,8 @@ pub struct FrameItems {
 
 /// The items of a frame.
 pub fn frame_items(alloc: Global, frame: &FrameImage) -> Result<FrameItems, AllocError>
-    ensures { IfOk result (AreItems frame.now) }
+    ensures items { IfOk result (AreItems frame.now) }
+    ensures fits { IfOk result (λ all. AreFramesItems all.items.items) }
 {
     let frame = FrameOn::new(Machine::Board, frame);
     let mut items = Vec::new(alloc);

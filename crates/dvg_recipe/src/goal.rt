@@ -1,10 +1,10 @@
 //! What a front of items has to lead to: a number of a hull.
 
 ghost use Rattle.dvg_cert.specs.declared.limits.TheConstants.{MOST_WORDS};
-ghost use Rattle.dvg_recipe.specs.Private.Hulls.{IsSoundHull, IsSoundChange, IsNearRectangle, AreNearPlaces, IsNearLight};
+ghost use Rattle.dvg_recipe.specs.Private.Hulls.{IsSoundHull, IsSoundChange, IsNearRectangle, AreNearPlaces};
 
 use crate::hull::{Change, Hull, Light, Motion, Places, Rectangle};
-use crate::rectangles::moved;
+use crate::rectangles::{moved, part_in};
 use dvg_cert::Key;
 use dvg_check::FrameWhy;
 use dvg_words::{Window, in_units};
@@ -125,26 +125,32 @@ fn side_out(window: &Window, seen: &Rectangle, r: &Rectangle) -> Option<Number> 
     }
 }
 
-/// The side of a rectangle from which what is lit between two corners leaves the window.
-fn side_lit(window: &Window, r: &Rectangle, from: &Rectangle, to: &Rectangle) -> Option<Number>
+/// The side of a rectangle from which what is lit between two corners leaves the window. What a draw into a rectangle lights ends there.
+fn side_lit(
+    window: &Window,
+    into: &Option<Rectangle>,
+    r: &Rectangle,
+    from: &Rectangle,
+    to: &Rectangle,
+) -> Option<Number>
     requires r { IsNearRectangle MOST_WORDS r.now }
     requires from { IsNearRectangle 1 from.now }
     requires to { IsNearRectangle 1 to.now }
 {
     match side_out(window, &moved(r, from), r) {
         Some(side) => Some(side),
-        None => side_out(window, &moved(r, to), r),
+        None => side_out(window, &part_in(into, &moved(r, to)), r),
     }
 }
 
-/// The side of places from which what is lit leaves the window.
-fn side_leaving(window: &Window, places: &Places, light: &Light) -> Number
+/// The side of places from which what a change lights leaves the window.
+fn side_leaving(window: &Window, places: &Places, change: &Change) -> Number
     requires places { AreNearPlaces MOST_WORDS places.now }
-    requires light { IsNearLight light.now }
+    requires change { IsSoundChange change.now }
 {
-    match (light, places) {
+    match (&change.light, places) {
         (Light::Shown { from, to }, Places::Within(r)) => {
-            side_lit(window, r, from, to).unwrap_or(Number::Any)
+            side_lit(window, &change.into, r, from, to).unwrap_or(Number::Any)
         }
         _ => Number::Any,
     }
@@ -158,7 +164,7 @@ pub fn goal_of_fault(window: &Window, hull: &Hull, change: &Change, why: FrameWh
 {
     let number = match why {
         FrameWhy::BeamUnknown => Number::Lost,
-        FrameWhy::OffScreen => side_leaving(window, &hull.places, &change.light),
+        FrameWhy::OffScreen => side_leaving(window, &hull.places, change),
         FrameWhy::Budget => Number::Words(hull.words),
         _ => Number::Any,
     };

@@ -1,7 +1,7 @@
 //! All that may be known at a point of a recipe: one hull for each scale.
 
 use dvg_cert::Key;
-use dvg_words::Point;
+use dvg_words::{Draw, Format, Point};
 
 /// Places between two corners, in units of 1/1024 of a screen place, ends included; or moves.
 #[derive(Clone, Copy)]
@@ -53,7 +53,30 @@ pub enum Light {
     Unbounded,
 }
 
-/// What items of a piece may do at a scale.
+/// What instructions do that a piece allows, before the scale at them is known.
+#[derive(Clone, Copy)]
+pub enum Act {
+    /// Draws of a format between two, and where they have to lead, if anywhere.
+    Draws {
+        format: Format,
+        low: Draw,
+        high: Draw,
+        into: Option<Rectangle>,
+    },
+    /// A LABS to one of these places.
+    Place {
+        places: Rectangle,
+        scale: u8,
+    },
+    /// A JSRL to this word address.
+    Call {
+        to: u16,
+    },
+    /// A short instruction that leaves place and scale as they are.
+    Still,
+}
+
+/// What an act does at a scale.
 #[derive(Clone, Copy)]
 pub struct Change {
     pub motion: Motion,
@@ -64,6 +87,8 @@ pub struct Change {
     pub words: u32,
     /// The most return places stored at once.
     pub depth: u8,
-    /// Whether what they call has an entry.
+    /// Whether what they call has an entry at the very scale.
     pub named: bool,
+    /// Where they have to leave the beam, if they are draws that have to lead somewhere.
+    pub into: Option<Rectangle>,
 }

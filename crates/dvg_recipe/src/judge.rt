@@ -1,25 +1,27 @@
 //! Judges all frames of a recipe at once, by hulls of what may be known.
 
-ghost use Rattle.std.specs.Prelude.{◌≡◌, ◌≤◌, ◌+◌, [], ◌∷◌, List, None, Contains, IfOk, IfNone};
+ghost use Rattle.std.specs.Prelude.{◌≡◌, ◌≤◌, ◌+◌, [], ◌∷◌, List, None, true, false, get_or, Contains, IfOk, IfNone};
 ghost use Rattle.dvg_cert.specs.declared.limits.TheConstants.{MOST_WORDS};
 ghost use Rattle.dvg_cert.specs.declared.entry.Entry.{Entry};
 ghost use Rattle.dvg_words.specs.declared.machine.Machine.TheVariants.{Board};
 ghost use Rattle.dvg_items.specs.Bounds.{IsSomeCertificate};
 ghost use Rattle.dvg_check.specs.Rules.{Good};
+ghost use Rattle.dvg_make.specs.Made.{AllMade};
 ghost use Rattle.dvg_check.specs.declared.fault.Mode.TheVariants.{Exact};
 ghost use Rattle.dvg_recipe.specs.Limits.{PieceFits, RowFits};
 ghost use Rattle.dvg_recipe.specs.Means.{AllMean};
-ghost use Rattle.dvg_recipe.specs.Recipes.{AddsRow, Spells, SpellsJumps};
-ghost use Rattle.dvg_recipe.specs.Private.Judging.{IsJump, IsTaken, Carries, IfFine, IsWithin, AreWithin, Turns, IsFirst, AreListStarts, IsCounted};
-ghost use Rattle.dvg_recipe.specs.Private.Hulls.{AreUnder, AreSoundHulls, IsSoundHull, IsSoundChange, AreSoundChanges, HullKeeps, LightsIn, IsNearLight, AreNearPlaces, AllPut, LeadOn, hull_past};
+ghost use Rattle.dvg_recipe.specs.Recipes.{Place, TakesCall, AddsRow, Spells, SpellsJumps};
+ghost use Rattle.dvg_recipe.specs.Private.Judging.{IsJump, IsTaken, Carries, IfFine, IsWithin, AreWithin, Turns, IsFirst, AreListStarts, AreGoodMembers, IsCounted};
+ghost use Rattle.dvg_recipe.specs.Private.Hulls.{AreUnder, AreSoundHulls, IsSoundHull, IsSoundChange, HullKeeps, LightsIn, IsNearLight, AreNearPlaces, IsAct, ActFits, PlaceAct, LeadOn, hull_past, places_of};
 
-use crate::changes::{changes_of, still};
-use crate::hull::{Change, Hull, Light, Places};
+use crate::changes::{act_change, draws_act, places_of, still, words_act};
+use crate::hull::{Act, Change, Hull, Light, Places, Rectangle};
 use crate::hulls::{add, add_all};
 use crate::notes::{Notes, RecipeFault};
-use crate::piece::Piece;
+use crate::piece::{Piece, PieceKind, PlaceRange};
 use crate::recipe::{Area, Jump, Part, Recipe};
-use crate::rectangles::{is_shown, moved, places_past};
+use crate::rectangles::{is_shown, moved, part_in, places_in, places_past};
+use crate::takes::has_scale;
 use crate::verdict::RecipeRefusal;
 use dvg_cert::{Entries, Key, MOST_WORDS};
 use dvg_check::{Accepted, FrameWhy};
@@ -33,18 +35,24 @@ pub struct Asked {
     pub window: Window,
 }
 
-/// The first rule that is broken by what is lit from some place.
-fn light_broken(window: &Window, places: &Places, light: &Light) -> Option<FrameWhy>
+/// The first rule that is broken by what is lit from some place. What a draw into a rectangle lights ends there.
+fn light_broken(
+    window: &Window,
+    into: &Option<Rectangle>,
+    places: &Places,
+    light: &Light,
+) -> Option<FrameWhy>
     requires places { AreNearPlaces MOST_WORDS places.now }
     requires light { IsNearLight light.now }
-    ensures { IfNone result (LightsIn window.now places.now light.now) }
+    ensures { IfNone result (LightsIn window.now into.now places.now light.now) }
 {
     match (light, places) {
         (Light::Dark, _) => None,
         (_, Places::Lost) => Some(FrameWhy::BeamUnknown),
         (Light::Unbounded, _) => Some(FrameWhy::ScaleUnknown),
         (Light::Shown { from, to }, Places::Within(r)) => {
-            if is_shown(window, &moved(r, from)) && is_shown(window, &moved(r, to)) {
+            let ends = part_in(into, &moved(r, to));
+            if is_shown(window, &moved(r, from)) && is_shown(window, &ends) {
                 None
             } else {
                 Some(FrameWhy::OffScreen)
@@ -60,7 +68,7 @@ pub fn first_broken(asked: &Asked, hull: &Hull, change: &Change) -> Option<Frame
     requires change { IsSoundChange change.now }
     ensures { IfNone result (HullKeeps asked.now.window asked.now.budget hull.now change.now) }
 {
-    match light_broken(&asked.window, &hull.places, &change.light) {
+    match light_broken(&asked.window, &change.into, &hull.places, &change.light) {
         Some(why) => Some(why),
         None if !change.named => Some(FrameWhy::NoEntry),
         None if change.words + hull.words > asked.budget => Some(FrameWhy::Budget),
@@ -79,7 +87,7 @@ pub fn hull_past(change: &Change, hull: &Hull) -> Hull
 {
     Hull {
         scale: change.scale,
-        places: places_past(&change.motion, &hull.places),
+        places: places_in(&change.into, &places_past(&change.motion, &hull.places)),
         words: change.words + hull.words,
         depth: change.depth.max(hull.depth),
     }
@@ -120,29 +128,6 @@ fn put(
     Ok(())
 }
 
-/// Adds what is known past each of some changes to other hulls, and notes the rule of the lowest number that one of them breaks.
-fn put_all(
-    next: &mut Vec<Hull>,
-    broken: &mut Option<FrameWhy>,
-    asked: &Asked,
-    hull: &Hull,
-    changes: &[Change],
-) -> Result<(), AllocError>
-    requires budget { asked.now.budget ≤ MOST_WORDS }
-    requires hull { IsSoundHull hull.now }
-    requires changes { AreSoundChanges changes.now }
-    requires sound { AreSoundHulls next.old.items }
-    ensures fine { IfOk result (λ _. broken.new ≡ None → broken.old ≡ None) }
-    ensures put { IfOk result (λ _. broken.new ≡ None → AllPut asked.now.window asked.now.budget hull.now changes.now next.new.items) }
-    ensures kept { IfOk result (λ _. AreUnder next.old.items next.new.items) }
-    ensures sound { IfOk result (λ _. AreSoundHulls next.new.items) }
-{
-    for change in changes {
-        put(next, broken, asked, hull, change)?;
-    }
-    Ok(())
-}
-
 /// The hulls behind a jump of this number. The first fault is noted.
 pub fn past_jump(
     alloc: Global,
@@ -160,16 +145,170 @@ pub fn past_jump(
     let mut broken = None;
     for hull in here {
         notes.see(number, hull, &[]);
-        put_all(&mut next, &mut broken, asked, hull, &[still(hull.scale)])?;
+        put(&mut next, &mut broken, asked, hull, &still(hull.scale))?;
     }
     notes.end(number, broken);
     Ok(next)
 }
 
+/// Adds what is known past an act of a piece from some hulls to others, and notes the rule of the lowest number that it breaks.
+fn add_act<E: Entries>(
+    entries: &E,
+    asked: &Asked,
+    notes: &mut Notes,
+    number: u16,
+    act: &Act,
+    here: &[Hull],
+    next: &mut Vec<Hull>,
+    broken: &mut Option<FrameWhy>,
+) -> Result<(), AllocError>
+    requires entries { IsSomeCertificate (E.list entries.now) }
+    requires budget { asked.now.budget ≤ MOST_WORDS }
+    requires fits { ActFits act.now }
+    requires here { AreSoundHulls here.now }
+    requires next { AreSoundHulls next.old.items }
+    ensures fine { IfOk result (λ _. broken.new ≡ None → broken.old ≡ None) }
+    ensures leads { IfOk result (λ _. broken.new ≡ None → LeadOn asked.now.window (E.list entries.now) asked.now.budget (IsAct (E.list entries.now) act.now) here.now next.new.items) }
+    ensures noted { IfOk result (λ _. notes.new ≡ notes.old) }
+    ensures kept { IfOk result (λ _. AreUnder next.old.items next.new.items) }
+    ensures sound { IfOk result (λ _. AreSoundHulls next.new.items) }
+{
+    for hull in here {
+        let change = act_change(entries, act, hull.scale);
+        notes.see(Some(number), hull, &[change]);
+        put(next, broken, asked, hull, &change)?;
+    }
+    Ok(())
+}
+
+/// Adds what is known past a LABS to places of a range at a scale, as `add_act` does, if the scale is one of the range's.
+fn add_place<E: Entries>(
+    entries: &E,
+    asked: &Asked,
+    notes: &mut Notes,
+    number: u16,
+    range: &PlaceRange,
+    scale: u8,
+    here: &[Hull],
+    next: &mut Vec<Hull>,
+    broken: &mut Option<FrameWhy>,
+) -> Result<(), AllocError>
+    requires entries { IsSomeCertificate (E.list entries.now) }
+    requires budget { asked.now.budget ≤ MOST_WORDS }
+    requires fits { PieceFits (Place range.now) }
+    requires scale { scale ≤ 15 }
+    requires here { AreSoundHulls here.now }
+    requires next { AreSoundHulls next.old.items }
+    ensures fine { IfOk result (λ _. broken.new ≡ None → broken.old ≡ None) }
+    ensures leads { IfOk result (λ _. broken.new ≡ None → get_or range.now.scales scale false ≡ true → LeadOn asked.now.window (E.list entries.now) asked.now.budget (IsAct (E.list entries.now) (PlaceAct (places_of range.now) scale)) here.now next.new.items) }
+    ensures noted { IfOk result (λ _. notes.new ≡ notes.old) }
+    ensures kept { IfOk result (λ _. AreUnder next.old.items next.new.items) }
+    ensures sound { IfOk result (λ _. AreSoundHulls next.new.items) }
+{
+    if !has_scale(&range.scales, scale) {
+        return Ok(());
+    }
+    let places = places_of(range);
+    let act = Act::Place { places, scale };
+    add_act(entries, asked, notes, number, &act, here, next, broken)
+}
+
+/// Adds what is known past a LABS to places of a range, at each of its scales, as `add_act` does.
+fn add_places<E: Entries>(
+    entries: &E,
+    asked: &Asked,
+    notes: &mut Notes,
+    number: u16,
+    range: &PlaceRange,
+    here: &[Hull],
+    next: &mut Vec<Hull>,
+    broken: &mut Option<FrameWhy>,
+) -> Result<(), AllocError>
+    requires entries { IsSomeCertificate (E.list entries.now) }
+    requires budget { asked.now.budget ≤ MOST_WORDS }
+    requires fits { PieceFits (Place range.now) }
+    requires here { AreSoundHulls here.now }
+    requires next { AreSoundHulls next.old.items }
+    ensures fine { IfOk result (λ _. broken.new ≡ None → broken.old ≡ None) }
+    ensures leads { IfOk result (λ _. broken.new ≡ None → LeadOn asked.now.window (E.list entries.now) asked.now.budget (IsTaken (Place range.now)) here.now next.new.items) }
+    ensures noted { IfOk result (λ _. notes.new ≡ notes.old) }
+    ensures kept { IfOk result (λ _. AreUnder next.old.items next.new.items) }
+    ensures sound { IfOk result (λ _. AreSoundHulls next.new.items) }
+{
+    for scale in 0..16u8 {
+        add_place(
+            entries, asked, notes, number, range, scale, here, next, broken,
+        )?;
+    }
+    Ok(())
+}
+
+/// Adds what is known past a JSRL to each of some word addresses, as `add_act` does.
+fn add_calls<E: Entries>(
+    entries: &E,
+    asked: &Asked,
+    notes: &mut Notes,
+    number: u16,
+    targets: &[u16],
+    here: &[Hull],
+    next: &mut Vec<Hull>,
+    broken: &mut Option<FrameWhy>,
+) -> Result<(), AllocError>
+    requires entries { IsSomeCertificate (E.list entries.now) }
+    requires budget { asked.now.budget ≤ MOST_WORDS }
+    requires here { AreSoundHulls here.now }
+    requires next { AreSoundHulls next.old.items }
+    ensures fine { IfOk result (λ _. broken.new ≡ None → broken.old ≡ None) }
+    ensures leads { IfOk result (λ _. broken.new ≡ None → LeadOn asked.now.window (E.list entries.now) asked.now.budget (λ known i. TakesCall targets.now i.instr) here.now next.new.items) }
+    ensures noted { IfOk result (λ _. notes.new ≡ notes.old) }
+    ensures kept { IfOk result (λ _. AreUnder next.old.items next.new.items) }
+    ensures sound { IfOk result (λ _. AreSoundHulls next.new.items) }
+{
+    for &to in targets {
+        let act = Act::Call { to };
+        add_act(entries, asked, notes, number, &act, here, next, broken)?;
+    }
+    Ok(())
+}
+
+/// Adds what is known past the items of a piece, as `add_act` does.
+fn add_items<E: Entries>(
+    entries: &E,
+    asked: &Asked,
+    notes: &mut Notes,
+    piece: &Piece,
+    here: &[Hull],
+    next: &mut Vec<Hull>,
+    broken: &mut Option<FrameWhy>,
+) -> Result<(), AllocError>
+    requires entries { IsSomeCertificate (E.list entries.now) }
+    requires budget { asked.now.budget ≤ MOST_WORDS }
+    requires fits { PieceFits piece.now.kind }
+    requires here { AreSoundHulls here.now }
+    requires next { AreSoundHulls next.old.items }
+    ensures fine { IfOk result (λ _. broken.new ≡ None → broken.old ≡ None) }
+    ensures leads { IfOk result (λ _. broken.new ≡ None → LeadOn asked.now.window (E.list entries.now) asked.now.budget (IsTaken piece.now.kind) here.now next.new.items) }
+    ensures noted { IfOk result (λ _. notes.new ≡ notes.old) }
+    ensures kept { IfOk result (λ _. AreUnder next.old.items next.new.items) }
+    ensures sound { IfOk result (λ _. AreSoundHulls next.new.items) }
+{
+    let number = piece.number;
+    let act = match &piece.kind {
+        PieceKind::Place(range) => {
+            return add_places(entries, asked, notes, number, range, here, next, broken);
+        }
+        PieceKind::Call(targets) => {
+            return add_calls(entries, asked, notes, number, targets, here, next, broken);
+        }
+        PieceKind::Draw(range) => draws_act(range),
+        PieceKind::Fixed { first, second } => words_act(*first, *second),
+    };
+    add_act(entries, asked, notes, number, &act, here, next, broken)
+}
+
 /// Adds the hulls behind the items of a piece to others. The first fault is noted.
 #[inline(never)]
 pub fn add_piece<E: Entries>(
-    alloc: Global,
     entries: &E,
     asked: &Asked,
     notes: &mut Notes,
@@ -187,11 +326,7 @@ pub fn add_piece<E: Entries>(
     ensures sound { IfOk result (λ _. AreSoundHulls next.new.items) }
 {
     let mut broken = None;
-    for hull in here {
-        let changes = changes_of(alloc, entries, &piece.kind, hull.scale)?;
-        notes.see(Some(piece.number), hull, &changes);
-        put_all(next, &mut broken, asked, hull, &changes)?;
-    }
+    add_items(entries, asked, notes, piece, here, next, &mut broken)?;
     notes.end(Some(piece.number), broken);
     Ok(())
 }
@@ -214,7 +349,7 @@ pub fn past_piece<E: Entries>(
     ensures sound { IfOk result (λ next. AreSoundHulls next.items) }
 {
     let mut next = Vec::new(alloc);
-    add_piece(alloc, entries, asked, notes, piece, here, &mut next)?;
+    add_piece(entries, asked, notes, piece, here, &mut next)?;
     Ok(next)
 }
 
@@ -287,7 +422,7 @@ fn add_row<E: Entries>(
     ensures sound { IfOk result (λ _. AreSoundHulls next.new.items) }
 {
     if row.len() == 1 {
-        return add_piece(alloc, entries, asked, notes, &row[0], here, next);
+        return add_piece(entries, asked, notes, &row[0], here, next);
     }
     add_pieces(alloc, entries, asked, notes, row, here, next)
 }
@@ -494,16 +629,19 @@ fn counts(here: &[Hull]) -> Accepted
     yes
 }
 
-/// Counts, if there is no fault, and they are within the budget.
+/// Counts, if no piece is stuck, there is no fault, and they are within the budget.
 fn accepted(
     asked: &Asked,
     halt: u16,
-    fault: Option<RecipeFault>,
+    notes: &Notes,
     yes: Accepted,
 ) -> Result<Accepted, RecipeRefusal>
-    ensures { IfOk result (λ answer. (fault ≡ None) × (answer ≡ yes) × (yes.words ≤ asked.now.budget)) }
+    ensures { IfOk result (λ answer. (notes.now ≡ None) × (answer ≡ yes) × (yes.words ≤ asked.now.budget)) }
 {
-    if let Some(fault) = fault {
+    if let Some(piece) = notes.stuck() {
+        return Err(RecipeRefusal::Stuck { piece });
+    }
+    if let Some(fault) = notes.fault() {
         return Err(RecipeRefusal::Frame(fault));
     }
     if yes.words > asked.budget {
@@ -515,8 +653,26 @@ fn accepted(
     Ok(yes)
 }
 
+/// The hulls behind all items of a recipe's lists. The first fault is noted.
+pub fn past_recipe<E: Entries>(
+    alloc: Global,
+    entries: &E,
+    asked: &Asked,
+    recipe: &Recipe,
+    notes: &mut Notes,
+) -> Result<Vec<Hull>, AllocError>
+    requires budget { asked.now.budget ≤ MOST_WORDS }
+    requires entries { IsSomeCertificate (E.list entries.now) }
+    ensures good { IfOk result (λ ends. IfFine notes.old notes.new (AreGoodMembers asked.now.window (E.list entries.now) asked.now.budget recipe.now ends.items)) }
+    ensures sound { IfOk result (λ ends. AreSoundHulls ends.items) }
+{
+    let here = starts(alloc, asked, notes, recipe.lists())?;
+    let here = past_part(recipe.body(), alloc, entries, asked, notes, &here)?;
+    past_jumps(alloc, entries, asked, notes, recipe.jumps(), here)
+}
+
 /// Judges all frames of a recipe at once over a ROM on the board, whose shapes are good by these entries: the greatest counts of its
-/// frames, or the first fault of one of them.
+/// frames, the first piece that is stuck, or the first fault of one of them.
 pub fn judge_over<E: Entries>(
     alloc: Global,
     rom: &RomImage,
@@ -527,6 +683,7 @@ pub fn judge_over<E: Entries>(
 ) -> Result<Accepted, RecipeRefusal>
     requires budget { asked.now.budget ≤ MOST_WORDS }
     requires list { IsSomeCertificate (E.list entries.now) }
+    requires made { AllMade rom.now (E.list entries.now) }
     requires good { Good Exact asked.now.window rom.now (E.list entries.now) }
     requires board { rom.now.machine ≡ Board }
     ensures { IfOk result (λ yes. AllMean rom.now recipe.now asked.now.window yes.words yes.depth) }
@@ -534,9 +691,7 @@ pub fn judge_over<E: Entries>(
     // Their clauses say that the ROM is whole, and that the window is a part of the screen, or the zone.
     let _map = rom.map();
     let _fits = asked.window.is_for(Machine::Board);
-    let here = starts(alloc, asked, notes, recipe.lists())?;
-    let here = past_part(recipe.body(), alloc, entries, asked, notes, &here)?;
-    let here = past_jumps(alloc, entries, asked, notes, recipe.jumps(), here)?;
-    notes.see_end(recipe.halt(), &here);
-    accepted(asked, recipe.halt(), notes.fault(), counts(&here))
+    let ends = past_recipe(alloc, entries, asked, recipe, notes)?;
+    notes.see_end(recipe.halt(), &ends);
+    accepted(asked, recipe.halt(), notes, counts(&ends))
 }

@@ -4,11 +4,11 @@ ghost use Rattle.std.specs.Prelude.{◌≡◌, ◌↔◌, ◌≤◌, ◌<◌, �
 ghost use Rattle.dvg_words.specs.declared.map.TheConstants.{ADDRESS_END};
 ghost use Rattle.dvg_words.specs.declared.machine.Machine.TheVariants.{Board};
 ghost use Rattle.dvg_words.specs.Decoding.{cell_of_words};
-ghost use Rattle.dvg_recipe.specs.Limits.{IsSpanBetween, IsSvecSize, SizesFit, LscaleFits, DrawRangeFits, IsStraight, AreAddresses, PieceFits, RowFits, HasPiece, PartFits, RowNumbered, Numbered, AreaFits, AreasFit, JumpFits, JumpsFit, IsRecipe};
+ghost use Rattle.dvg_recipe.specs.Limits.{IsSpanBetween, IsSvecSize, SizesFit, LscaleFits, PlaceSpanFits, ToFits, DrawRangeFits, IsStraight, AreAddresses, PieceFits, RowFits, HasPiece, PartFits, RowNumbered, Numbered, AreaFits, AreasFit, JumpFits, JumpsFit, IsRecipe};
 ghost use Rattle.dvg_recipe.specs.Recipes.{Piece, Place};
 
 use crate::options::has_few_options;
-use crate::piece::{DrawRange, Piece, PieceKind, PlaceRange, Span};
+use crate::piece::{DrawRange, Piece, PieceKind, PlaceRange, PlaceSpan, Span};
 use crate::recipe::{Area, Jump, Part};
 use crate::takes::cell_of_words;
 use dvg_words::{ADDRESS_END, Cell, Format, Instr, RAM_WORDS};
@@ -60,6 +60,22 @@ fn lscale_fits(format: Format, lscale: u8) -> bool
     }
 }
 
+fn place_span_fits(span: &PlaceSpan) -> bool
+    ensures { IsTrue result ↔ PlaceSpanFits span.now }
+{
+    is_span_between(span.x, -2048, 2047) && is_span_between(span.y, -2048, 2047)
+}
+
+fn to_fits(format: Format, to: &Option<PlaceSpan>) -> bool
+    ensures { IsTrue result ↔ ToFits format to.now }
+{
+    match (to, format) {
+        (None, _) => true,
+        (Some(_), Format::Short) => false,
+        (Some(span), Format::Long) => place_span_fits(span),
+    }
+}
+
 fn draw_fits(range: &DrawRange) -> bool
     ensures { IsTrue result ↔ DrawRangeFits range.now }
 {
@@ -67,6 +83,7 @@ fn draw_fits(range: &DrawRange) -> bool
         && sizes_fit(range.format, range.dx)
         && sizes_fit(range.format, range.dy)
         && is_span_between(range.bright, 0, 15)
+        && to_fits(range.format, &range.to)
 }
 
 fn place_fits(range: &PlaceRange) -> bool

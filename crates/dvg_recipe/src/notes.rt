@@ -1,10 +1,13 @@
-//! What is noted while a recipe is judged: the first fault, and, if that is asked for, what is seen before each piece.
+//! What is noted while a recipe is judged: the first fault, the first piece that is stuck, and, if that is asked for, what is seen before
+//! each piece.
 
 ghost use Rattle.std.specs.Prelude.{◌≡◌, None};
+ghost use Rattle.dvg_recipe.specs.Private.Hulls.{IsSoundHull, AreSoundHulls, AreSoundChanges};
 ghost use Rattle.dvg_recipe.specs.Private.Judging.{IfFine};
 
 use crate::hull::{Change, Hull};
 use crate::hulls::joined;
+use crate::rectangles::is_stuck;
 use dvg_cert::Key;
 use dvg_check::FrameWhy;
 use std::alloc::{AllocError, Global};
@@ -78,10 +81,27 @@ fn index_of_piece(piece: Option<u16>) -> usize {
     usize::from(piece.unwrap_or(u16::MAX))
 }
 
+/// Whether from some place that a hull has some of these changes can't lead to where they have to.
+fn is_any_stuck(hull: &Hull, changes: &[Change]) -> bool
+    requires hull { IsSoundHull hull.now }
+    requires changes { AreSoundChanges changes.now }
+{
+    for change in changes {
+        if is_stuck(&change.into, &change.motion, &hull.places) {
+            return true;
+        }
+    }
+    false
+}
+
 /// What is noted so far.
 #[derive(Drop)]
 pub struct Notes {
     fault: Option<RecipeFault>,
+    /// The first piece whose draws can't lead from some place to where they have to.
+    stuck: Option<u16>,
+    /// Whether the turn in which it is stuck has ended: what follows is in no frame, and nothing more is seen.
+    is_over: bool,
     /// What is seen of each piece, by its number; of none, if that is not asked for.
     seen: Vec<SeenPiece>,
 }
@@ -102,6 +122,8 @@ impl Notes {
     {
         Notes {
             fault: None,
+            stuck: None,
+            is_over: false,
             seen: Vec::new(alloc),
         }
     }
@@ -110,7 +132,12 @@ impl Notes {
     pub fn seeing(alloc: Global, pieces: usize) -> Result<Notes, AllocError> {
         let mut seen = Vec::new(alloc);
         seen.resize(pieces, SeenPiece::NOTHING)?;
-        Ok(Notes { fault: None, seen })
+        Ok(Notes {
+            fault: None,
+            stuck: None,
+            is_over: false,
+            seen,
+        })
     }
 
     /// The first fault.
@@ -120,15 +147,28 @@ impl Notes {
         self.fault
     }
 
+    /// The first piece that is stuck: from some place, none of its draws leads to where it has to.
+    pub fn stuck(&self) -> Option<u16> {
+        self.stuck
+    }
+
     /// What is seen of each piece.
     pub fn into_seen(self) -> Vec<SeenPiece> {
         self.seen
     }
 
-    /// Sees what may be known before a piece, and what its items may do from there, if that is asked for.
+    /// Sees what may be known before a piece, and what its items may do from there.
     pub fn see(&mut self, piece: Option<u16>, hull: &Hull, changes: &[Change])
+        requires hull { IsSoundHull hull.now }
+        requires changes { AreSoundChanges changes.now }
         ensures { self.new ≡ self.old }
     {
+        if self.is_over {
+            return;
+        }
+        if self.stuck.is_none() && is_any_stuck(hull, changes) {
+            self.stuck = piece;
+        }
         if let Some(seen) = self.seen.get_mut(index_of_piece(piece)) {
             seen.see(hull, changes);
         }
@@ -136,6 +176,7 @@ impl Notes {
 
     /// Sees what may be known before the HALT of this number.
     pub fn see_end(&mut self, halt: u16, here: &[Hull])
+        requires { AreSoundHulls here.now }
         ensures { self.new ≡ self.old }
     {
         for hull in here {
@@ -153,5 +194,6 @@ impl Notes {
         if let Some(seen) = self.seen.get_mut(index_of_piece(piece)) {
             seen.end();
         }
+        self.is_over = self.stuck.is_some();
     }
 }

@@ -18,6 +18,13 @@ pub struct PlaceRange {
     pub scales: [bool; 16],
 }
 
+/// The places of a rectangle, in whole places of the screen.
+#[derive(Clone, Copy)]
+pub struct PlaceSpan {
+    pub x: Span,
+    pub y: Span,
+}
+
 /// Draws of one format and one local scale, with sizes and intensities in ranges. The sizes are those that the words say: an SVEC's are
 /// 256 times its two bits.
 #[derive(Clone, Copy)]
@@ -27,6 +34,8 @@ pub struct DrawRange {
     pub dx: Span,
     pub dy: Span,
     pub bright: Span,
+    /// Where such a draw has to lead: behind it the place is known, and in this rectangle. Of VCTR alone.
+    pub to: Option<PlaceSpan>,
 }
 
 /// Which instructions a piece allows.

@@ -11,10 +11,9 @@ use crate::piece::{Piece, PieceKind};
 use crate::recipe::{Jump, Part, Recipe};
 use crate::takes::cell_of_words;
 use dvg_cert::{Key, is_key};
-use dvg_check::Keys;
+use dvg_check::{KEYS, Keys, key_index};
 use dvg_make::{EntryFault, EntryMaker};
-use dvg_words::{Cell, Instr, RomImage};
-use indexmap::IndexMap;
+use dvg_words::{ADDRESS_END, Cell, Instr, RomImage};
 use std::alloc::{AllocError, Global};
 
 /// A call whose entry can't be made.
@@ -46,8 +45,18 @@ impl From<AllocError> for RootsFault {
 struct Roots<'a> {
     maker: EntryMaker<'a>,
     asked: Vec<(u16, Key)>,
-    /// The scales behind the calls of a piece, for each scale before it at which they are made.
-    behind: IndexMap<(u16, Key), Keys>,
+    /// The scale behind a call of each word address at each scale, where that is a root.
+    behind: Vec<Keys>,
+}
+
+/// How many calls there are: of each word address, at each scale.
+const CALLS: usize = ADDRESS_END as usize * KEYS as usize;
+
+/// Where a call stands among all.
+fn call_index(to: u16, scale: Key) -> usize
+    requires key { IsKey scale }
+{
+    usize::from(to) * usize::from(KEYS) + usize::from(key_index(scale))
 }
 
 /// The scales of a set.
@@ -72,88 +81,80 @@ fn only(scale: Key) -> Keys {
 
 impl<'a> Roots<'a> {
     /// No root so far.
-    fn new(alloc: Global, rom: &'a RomImage<'a>) -> Roots<'a> {
-        Roots {
+    fn new(alloc: Global, rom: &'a RomImage<'a>) -> Result<Roots<'a>, AllocError> {
+        Ok(Roots {
             maker: EntryMaker::new(alloc, rom),
             asked: Vec::new(alloc),
-            behind: IndexMap::new(alloc),
-        }
+            behind: vec![in alloc; Keys::NONE; CALLS]?,
+        })
     }
 
-    /// Adds a root.
-    fn note(&mut self, to: u16, scale: Key) -> Result<(), AllocError> {
+    /// Adds a root, and keeps the scale behind it.
+    fn note(&mut self, to: u16, scale: Key, behind: Keys) -> Result<(), AllocError>
+        requires key { IsKey scale }
+    {
         self.asked.push((to, scale))?;
+        if let Some(kept) = self.behind.get_mut(call_index(to, scale)) {
+            *kept = behind;
+        }
         Ok(())
     }
 
-    /// Keeps the scales behind the calls of a piece.
-    fn keep(&mut self, piece: u16, scale: Key, next: Keys) -> Result<(), AllocError> {
-        self.behind.insert((piece, scale), next)?;
-        Ok(())
-    }
-
-    /// Makes the entries of the shapes at these word addresses, called at a scale: the scales at their ends.
-    fn make_all(&mut self, piece: u16, targets: &[u16], scale: Key) -> Result<Keys, RootsFault>
-        requires near { (to : ℕ) → Contains targets.now to → to < ADDRESS_END }
+    /// Makes the entry of the shape at a word address, called by a piece at a scale: the scale at its end.
+    #[inline(never)]
+    fn make(&mut self, piece: u16, to: u16, scale: Key) -> Result<Keys, RootsFault>
+        requires near { to < ADDRESS_END }
         requires key { IsKey scale }
     {
-        let mut next = Keys::NONE;
-        for &to in targets {
-            match self.maker.entry(to, scale) {
-                Ok(entry) => next = next.with(only(entry.scale)),
-                Err(EntryFault::Memory) => return Err(RootsFault::Memory),
-                Err(why) => {
-                    return Err(RootsFault::Unmade(Unmade {
-                        piece,
-                        to,
-                        scale,
-                        why,
-                    }));
-                }
+        match self.maker.entry(to, scale) {
+            Ok(entry) => {
+                let behind = only(entry.scale);
+                self.note(to, scale, behind)?;
+                Ok(behind)
             }
-            self.note(to, scale)?;
+            Err(EntryFault::Memory) => Err(RootsFault::Memory),
+            Err(why) => Err(RootsFault::Unmade(Unmade {
+                piece,
+                to,
+                scale,
+                why,
+            })),
         }
-        Ok(next)
     }
 
-    /// The scales behind calls of a piece, at one scale before it.
-    fn past_calls(&mut self, piece: u16, targets: &[u16], scale: Key) -> Result<Keys, RootsFault>
-        requires near { (to : ℕ) → Contains targets.now to → to < ADDRESS_END }
+    /// The scale behind a call of a piece at a scale, whose entry is made if it is not made yet.
+    fn past_call(&mut self, piece: u16, to: u16, scale: Key) -> Result<Keys, RootsFault>
+        requires near { to < ADDRESS_END }
         requires key { IsKey scale }
     {
-        if let Some(next) = self.behind.get(&(piece, scale)) {
-            return Ok(*next);
+        match self.behind.get(call_index(to, scale)) {
+            Some(behind) if !behind.is_empty() => Ok(*behind),
+            _ => self.make(piece, to, scale),
         }
-        let next = self.make_all(piece, targets, scale)?;
-        self.keep(piece, scale, next)?;
+    }
+
+    /// The scales behind calls of a piece.
+    fn past_calls(&mut self, piece: u16, targets: &[u16], here: Keys) -> Result<Keys, RootsFault>
+        requires near { (to : ℕ) → Contains targets.now to → to < ADDRESS_END }
+    {
+        let mut left = here;
+        let mut next = Keys::NONE;
+        while let Some(scale) = left.take_first() {
+            for &to in targets {
+                next = next.with(self.past_call(piece, to, scale)?);
+            }
+        }
         Ok(next)
     }
 
-    /// The scales behind an instruction of a piece, at one scale before it.
-    fn past_instr(&mut self, piece: u16, instr: &Instr, scale: Key) -> Result<Keys, RootsFault>
+    /// The scales behind an instruction of a piece.
+    fn past_instr(&mut self, piece: u16, instr: &Instr, here: Keys) -> Result<Keys, RootsFault>
         requires fits { InstrFits instr.now }
-        requires key { IsKey scale }
     {
         match *instr {
             Instr::Labs { gscale, .. } => Ok(Keys::one(Key::At(gscale))),
-            Instr::Jsrl { to } => self.past_calls(piece, &[to], scale),
-            _ => Ok(Keys::one(scale)),
-        }
-    }
-
-    /// The scales behind the items of a piece, at one scale before it.
-    fn past_scale(&mut self, piece: &Piece, scale: Key) -> Result<Keys, RootsFault>
-        requires fits { PieceFits piece.now.kind }
-        requires key { IsKey scale }
-    {
-        match &piece.kind {
-            PieceKind::Place(range) => Ok(keys_of(&range.scales)),
-            PieceKind::Call(targets) => self.past_calls(piece.number, targets, scale),
-            PieceKind::Draw(_) => Ok(Keys::one(scale)),
-            PieceKind::Fixed { first, second } => match cell_of_words(*first, *second) {
-                Cell::Holds { instr, .. } => self.past_instr(piece.number, &instr, scale),
-                Cell::Missing | Cell::Odd => Ok(Keys::one(scale)),
-            },
+            Instr::Jsrl { to } => self.past_calls(piece, &[to], here),
+            _ => Ok(here),
         }
     }
 
@@ -161,12 +162,15 @@ impl<'a> Roots<'a> {
     fn past_piece(&mut self, piece: &Piece, here: Keys) -> Result<Keys, RootsFault>
         requires fits { PieceFits piece.now.kind }
     {
-        let mut left = here;
-        let mut next = Keys::NONE;
-        while let Some(scale) = left.take_first() {
-            next = next.with(self.past_scale(piece, scale)?);
+        match &piece.kind {
+            PieceKind::Place(range) => Ok(keys_of(&range.scales)),
+            PieceKind::Call(targets) => self.past_calls(piece.number, targets, here),
+            PieceKind::Draw(_) => Ok(here),
+            PieceKind::Fixed { first, second } => match cell_of_words(*first, *second) {
+                Cell::Holds { instr, .. } => self.past_instr(piece.number, &instr, here),
+                Cell::Missing | Cell::Odd => Ok(here),
+            },
         }
-        Ok(next)
     }
 
     /// The scales behind the items of a row.
@@ -248,10 +252,13 @@ pub struct RecipeRoots {
     pub unmade: Option<Unmade>,
 }
 
-/// The roots of a recipe over a ROM, in the order in which they are met, the pieces in the order of reading with repeats written out.
+/// The roots of a recipe over a ROM, each once, in the order in which they are met, the pieces in the order of reading with repeats
+/// written out.
 /// `None` if there was no memory.
 pub fn roots_of(alloc: Global, rom: &RomImage, recipe: &Recipe) -> Option<RecipeRoots> {
-    let mut roots = Roots::new(alloc, rom);
+    let Ok(mut roots) = Roots::new(alloc, rom) else {
+        return None;
+    };
     let unmade = match recipe_past(recipe, &mut roots) {
         Ok(_) => None,
         Err(RootsFault::Unmade(unmade)) => Some(unmade),

@@ -30,7 +30,7 @@ fn signed_field(field: u16) -> i32
 }
 
 /// Whether a scale is in a set.
-fn has_scale(scales: &[bool; 16], scale: u8) -> bool
+pub fn has_scale(scales: &[bool; 16], scale: u8) -> bool
     ensures { result ≡ get_or scales.now scale false }
 {
     usize::from(scale) < 16 && scales[usize::from(scale)]

@@ -1,17 +1,18 @@
 //! The items of a frame that is to be written.
 
-use crate::choices::{Words, choices};
-use crate::piece::Piece;
+use crate::choices::{Words, choices, jmpl};
+use crate::goal::Number;
+use crate::piece::{DrawRange, Piece, PieceKind};
 use crate::recipe::{Jump, Part};
-use dvg_words::is_long;
 use std::alloc::{AllocError, Global};
 
-/// What is written.
+/// An item that is to be written.
 #[derive(Clone, Copy)]
 pub enum Written {
-    Item(Words),
-    /// A JMPL to this word address, where the next items stand.
-    Jump(u16),
+    Words(Words),
+    /// A draw of a range that leads as far as can be to the side of which the number speaks. Its sizes are chosen where it is known from
+    /// which place.
+    Draw(DrawRange, Number),
 }
 
 /// The items before a place in a recipe, and those from it on.
@@ -25,44 +26,22 @@ pub struct Trail {
     turns: Vec<u16>,
 }
 
-/// What stands where nothing is written: HALT.
-const HALT: u16 = 0xB000;
-
-/// The words of a frame, as far as it is written.
+/// The items of a frame, from word 000 on.
 #[derive(Drop)]
-struct Writing {
-    words: Vec<u16>,
-    /// Where the next item stands.
-    at: u16,
+pub struct Trailed {
+    pub items: Vec<Written>,
+    /// The turns of the repeats around the place, the outermost first.
+    pub turns: Vec<u16>,
 }
 
-impl Writing {
-    /// Writes a word.
-    fn put(&mut self, word: u16) -> Result<(), AllocError> {
-        let at = usize::from(self.at);
-        if self.words.len() <= at {
-            self.words.resize(at + 1, HALT)?;
-        }
-        self.words[at] = word;
-        self.at = self.at.saturating_add(1);
-        Ok(())
-    }
-
-    /// Writes an item.
-    fn put_item(&mut self, item: &Written) -> Result<(), AllocError> {
-        match item {
-            Written::Item(words) => {
-                self.put(words.first)?;
-                if is_long(words.first) {
-                    self.put(words.second)?;
-                }
-            }
-            Written::Jump(to) => {
-                self.put(0xE000 | (*to & 0x0FFF))?;
-                self.at = *to;
-            }
-        }
-        Ok(())
+/// An item that a piece allows.
+fn some_item(alloc: Global, kind: &PieceKind) -> Result<Option<Written>, AllocError> {
+    match kind {
+        PieceKind::Draw(range) => Ok(Some(Written::Draw(*range, Number::Any))),
+        _ => match choices(alloc, kind)?.first() {
+            Some(words) => Ok(Some(Written::Words(*words))),
+            None => Ok(None),
+        },
     }
 }
 
@@ -83,25 +62,23 @@ impl Trail {
         Ok(())
     }
 
+    /// Adds a JMPL to a word address in front of all others.
+    pub fn push_jump_before(&mut self, to: u16) -> Result<(), AllocError> {
+        self.push_before(Written::Words(jmpl(to)))
+    }
+
     /// Notes the turn, counted from 1, of the next repeat around the place.
     pub fn push_turn(&mut self, turn: u16) -> Result<(), AllocError> {
         self.turns.push(turn)?;
         Ok(())
     }
 
-    /// The turns of the repeats around the place, the outermost first.
-    pub fn into_turns(self) -> Vec<u16> {
-        let mut turns = self.turns;
-        turns.reverse();
-        turns
-    }
-
     /// Adds an item of each piece of a row behind all others.
     #[inline(never)]
     pub fn push_row(&mut self, row: &[Piece]) -> Result<(), AllocError> {
         for piece in row {
-            if let Some(words) = choices(self.alloc, &piece.kind)?.first() {
-                self.behind.push(Written::Item(*words))?;
+            if let Some(item) = some_item(self.alloc, &piece.kind)? {
+                self.behind.push(item)?;
             }
         }
         Ok(())
@@ -110,29 +87,24 @@ impl Trail {
     /// Adds jumps and items of their parts behind all others.
     pub fn push_jumps(&mut self, jumps: &[Jump]) -> Result<(), AllocError> {
         for jump in jumps {
-            self.behind.push(Written::Jump(jump.area.first))?;
+            self.behind.push(Written::Words(jmpl(jump.area.first)))?;
             push_part(&jump.body, self)?;
         }
         Ok(())
     }
 
-    /// The words of the frame of these items, in a list that begins at a word address.
-    pub fn words(&self, first: u16) -> Result<Vec<u16>, AllocError> {
-        let mut writing = Writing {
-            words: Vec::new(self.alloc),
-            at: 0,
-        };
-        if first > 0 {
-            writing.put_item(&Written::Jump(first))?;
-        }
-        for item in self.before.iter().rev() {
-            writing.put_item(item)?;
-        }
-        for item in &self.behind {
-            writing.put_item(item)?;
-        }
-        writing.put(HALT)?;
-        Ok(writing.words)
+    /// All items, in the order in which they stand, and the turns.
+    pub fn into_trailed(self) -> Result<Trailed, AllocError> {
+        let Trail {
+            before: mut items,
+            behind,
+            mut turns,
+            ..
+        } = self;
+        items.reverse();
+        items.extend_from_slice(&behind)?;
+        turns.reverse();
+        Ok(Trailed { items, turns })
     }
 }
 

@@ -3,16 +3,18 @@
 ghost use Rattle.std.specs.Prelude.{◌≡◌, ◌≤◌, IfOk};
 ghost use Rattle.dvg_words.specs.declared.machine.Machine.TheVariants.{Board};
 ghost use Rattle.dvg_cert.specs.declared.limits.TheConstants.{MOST_WORDS};
+ghost use Rattle.dvg_items.specs.Bounds.{IsSomeCertificate};
+ghost use Rattle.dvg_make.specs.Made.{AllMade};
 ghost use Rattle.dvg_recipe.specs.Means.{AllMean};
 ghost use Rattle.dvg_recipe.specs.Members.{recipe_number};
 ghost use Rattle.dvg_recipe.specs.Lengths.{FitsAreas};
 
-use crate::judge::{Asked, judge_over};
+use crate::judge::{Asked, judge_over, past_recipe};
 use crate::lengths::too_long;
 use crate::notes::{Notes, RecipeFault, SeenPiece};
 use crate::recipe::Recipe;
 use crate::roots::{Unmade, roots_of};
-use dvg_cert::{Cert, HashIndex};
+use dvg_cert::{Cert, Entries, HashIndex};
 use dvg_check::{Accepted, ShapeFault, check_shapes_exact};
 use dvg_make::{MakeFault, make};
 use dvg_words::{RomImage, Window};
@@ -34,6 +36,9 @@ pub enum RecipeRefusal {
     TooLong { piece: u16 },
     /// 60 to 62: the entry of a call can't be made.
     Make(Unmade),
+    /// 59: from some place that may be known before this piece, no size of its draw leads into the rectangle to which it has to lead; or
+    /// the place is lost there, or the scale unknown. It is not about a frame.
+    Stuck { piece: u16 },
     /// 25: a shape that the recipe calls lights outside the window.
     Shape(ShapeFault),
     /// 44 to 48: some frame breaks a rule.
@@ -43,12 +48,13 @@ pub enum RecipeRefusal {
 }
 
 impl RecipeRefusal {
-    /// 25, 44, 46, 48, 57 or 60 to 62. `None` where there was no memory.
+    /// 25, 44, 46, 48, 57 or 59 to 62. `None` where there was no memory.
     pub fn number(&self) -> Option<u8>
         ensures { result ≡ recipe_number self.now }
     {
         match *self {
             RecipeRefusal::TooLong { .. } => Some(57),
+            RecipeRefusal::Stuck { .. } => Some(59),
             RecipeRefusal::Make(unmade) => Some(MakeFault::from(unmade.why).number()),
             RecipeRefusal::Shape(fault) => Some(fault.number()),
             RecipeRefusal::Frame(fault) => Some(fault.why.number()),
@@ -69,6 +75,27 @@ impl From<ShapeFault> for RecipeRefusal {
     }
 }
 
+/// What is answered where a shape breaks a rule: first a piece that is stuck, if there is one.
+fn stuck_or<E: Entries>(
+    alloc: Global,
+    entries: &E,
+    asked: &Asked,
+    recipe: &Recipe,
+    fault: ShapeFault,
+    notes: &mut Notes,
+) -> RecipeRefusal
+    requires budget { asked.now.budget ≤ MOST_WORDS }
+    requires entries { IsSomeCertificate (E.list entries.now) }
+{
+    if past_recipe(alloc, entries, asked, recipe, notes).is_err() {
+        return RecipeRefusal::Memory;
+    }
+    match notes.stuck() {
+        Some(piece) => RecipeRefusal::Stuck { piece },
+        None => RecipeRefusal::Shape(fault),
+    }
+}
+
 /// Judges the shapes of a certificate, and by it all frames of a recipe.
 fn judge_by(
     alloc: Global,
@@ -80,13 +107,16 @@ fn judge_by(
 ) -> Result<Accepted, RecipeRefusal>
     requires budget { asked.now.budget ≤ MOST_WORDS }
     requires map { rom.now.map ≡ cert.now.map }
+    requires made { AllMade rom.now cert.now.entries }
     requires board { rom.now.machine ≡ Board }
     ensures { IfOk result (λ yes. AllMean rom.now recipe.now asked.now.window yes.words yes.depth) }
 {
     // Its clause says that the list is that of a certificate.
     let _entries = cert.entries();
     let entries = HashIndex::new(alloc, cert)?;
-    check_shapes_exact(rom, cert, &entries, &asked.window)?;
+    if let Err(fault) = check_shapes_exact(rom, cert, &entries, &asked.window) {
+        return Err(stuck_or(alloc, &entries, asked, recipe, fault, notes));
+    }
     judge_over(alloc, rom, &entries, asked, recipe, notes)
 }
 
@@ -150,7 +180,7 @@ pub fn judge_recipe(
 }
 
 /// The verdict on a recipe, and what is seen of each of its pieces, by their numbers, the HALT the last; of none where a piece can't be
-/// come to, since 57, 60 to 62 or 25 is answered.
+/// come to, since 57 or 60 to 62 is answered. Where 59 is answered, what is seen up to the turn in which a piece is stuck.
 #[derive(Drop)]
 pub struct SurveyedRecipe {
     pub verdict: Result<RecipeYes, RecipeRefusal>,

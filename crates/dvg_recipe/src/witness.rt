@@ -2,28 +2,32 @@
 //!
 //! Nothing here is trusted: what is found is a frame, which `belongs` and the judge of frames confirm before it is told. The hulls are
 //! followed up to the place that is looked for, and then back, item by item: each number of a hull comes from one number of a hull before.
+//! So it is where a draw has to lead into a rectangle, too: if the rectangle cuts what is known behind it, the front before it that is
+//! furthest out reaches just to the cut.
 
 ghost use Rattle.std.specs.Prelude.{◌≤◌, IfOk};
 ghost use Rattle.dvg_cert.specs.declared.limits.TheConstants.{MOST_WORDS};
 ghost use Rattle.dvg_items.specs.Bounds.{IsSomeCertificate};
 ghost use Rattle.dvg_recipe.specs.Limits.{PieceFits, RowFits};
+ghost use Rattle.dvg_recipe.specs.Recipes.{Draw as Draws};
 ghost use Rattle.dvg_recipe.specs.Private.Judging.{IsWithin, AreWithin};
-ghost use Rattle.dvg_recipe.specs.Private.Hulls.{AreSoundHulls, IsSoundHull, AreSoundFronts};
+ghost use Rattle.dvg_recipe.specs.Private.Hulls.{AreSoundHulls, IsSoundHull, IsSoundChange, AreSoundFronts};
 
-use crate::changes::words_change;
+use crate::changes::{act_change, draws_act, words_change};
 use crate::choices::{Words, choices, jsrl};
 use crate::goal::{Goal, Number, goal_of_fault, most_depth, most_words};
 use crate::hull::{Change, Hull};
 use crate::hulls::add_all;
 use crate::judge::{Asked, first_broken, hull_past, past_jump, past_part, past_piece, starts};
 use crate::notes::{Notes, RecipeFault};
-use crate::piece::{Piece, PieceKind};
+use crate::piece::{DrawRange, Piece, PieceKind};
 use crate::recipe::{Area, Jump, Part, Recipe};
 use crate::takes::cell_of_words;
-use crate::trail::{Trail, Written, push_part, push_turns};
+use crate::trail::{Trail, Trailed, Written, push_part, push_turns};
+use crate::writing::frame_words;
 use dvg_cert::{Entries, Key, MOST_WORDS};
 use dvg_check::FrameWhy;
-use dvg_words::{Cell, Instr};
+use dvg_words::{Cell, Instr, RomImage};
 use std::alloc::{AllocError, Global};
 
 /// Where a frame has to lead to.
@@ -54,53 +58,96 @@ impl From<AllocError> for Unfound {
     }
 }
 
-/// What an item does from what a hull has, and the hull past it.
-fn past<E: Entries>(entries: &E, words: &Words, hull: &Hull) -> Option<(Change, Hull)>
-    requires entries { IsSomeCertificate (E.list entries.now) }
-    requires hull { IsSoundHull hull.now }
-{
-    let change = words_change(entries, words.first, words.second, hull.scale);
-    if change.words + hull.words > MOST_WORDS {
-        return None;
-    }
-    Some((change, hull_past(&change, hull)))
+/// What an item has to do.
+#[derive(Clone, Copy)]
+enum Sought {
+    /// Lead to a goal.
+    Goal(Goal),
+    /// Break this rule first.
+    Fault(FrameWhy),
 }
 
-/// An item among some that leads to a goal from what a hull has, and what the items before it have to lead to.
-fn item_from<E: Entries>(
+impl Sought {
+    /// What the items before an item have to lead to, if it does what it has to by this change from what a hull has.
+    fn before(&self, asked: &Asked, change: &Change, hull: &Hull) -> Option<Goal>
+        requires hull { IsSoundHull hull.now }
+        requires change { IsSoundChange change.now }
+    {
+        match self {
+            Sought::Goal(goal) => {
+                if change.words + hull.words > MOST_WORDS || !goal.is_at(&hull_past(change, hull)) {
+                    return None;
+                }
+                Some(goal.before(change, hull))
+            }
+            Sought::Fault(why) => {
+                if first_broken(asked, hull, change) != Some(*why) {
+                    return None;
+                }
+                Some(goal_of_fault(&asked.window, hull, change, *why))
+            }
+        }
+    }
+}
+
+/// A draw of a range that does what is sought from what a hull has, and what the items before it have to lead to.
+fn draw_from<E: Entries>(
     entries: &E,
+    asked: &Asked,
+    range: &DrawRange,
+    hull: &Hull,
+    sought: &Sought,
+) -> Option<(Written, Goal)>
+    requires entries { IsSomeCertificate (E.list entries.now) }
+    requires fits { PieceFits (Draws range.now) }
+    requires hull { IsSoundHull hull.now }
+{
+    let change = act_change(entries, &draws_act(range), hull.scale);
+    let goal = sought.before(asked, &change, hull)?;
+    Some((Written::Draw(*range, goal.number), goal))
+}
+
+/// An item among some that does what is sought from what a hull has, and what the items before it have to lead to.
+fn words_from<E: Entries>(
+    entries: &E,
+    asked: &Asked,
     all: &[Words],
     hull: &Hull,
-    goal: &Goal,
-) -> Option<(Words, Goal)>
+    sought: &Sought,
+) -> Option<(Written, Goal)>
     requires entries { IsSomeCertificate (E.list entries.now) }
     requires hull { IsSoundHull hull.now }
 {
     for words in all {
-        if let Some((change, next)) = past(entries, words, hull) {
-            if goal.is_at(&next) {
-                return Some((*words, goal.before(&change, hull)));
-            }
+        let change = words_change(entries, words.first, words.second, hull.scale);
+        if let Some(goal) = sought.before(asked, &change, hull) {
+            return Some((Written::Words(*words), goal));
         }
     }
     None
 }
 
-/// An item of a piece that leads to a goal from one of some hulls, and what the items before it have to lead to.
+/// An item of a piece that does what is sought from one of some hulls, and what the items before it have to lead to.
 #[tactic(auto, using(crate::proofs::Sounds::sound_at))]
-fn item_before<E: Entries>(
+fn item_from<E: Entries>(
     alloc: Global,
     entries: &E,
+    asked: &Asked,
     kind: &PieceKind,
     here: &[Hull],
-    goal: &Goal,
-) -> Result<(Words, Goal), Unfound>
+    sought: &Sought,
+) -> Result<(Written, Goal), Unfound>
     requires entries { IsSomeCertificate (E.list entries.now) }
+    requires fits { PieceFits kind.now }
     requires here { AreSoundHulls here.now }
 {
     let all = choices(alloc, kind)?;
     for hull in here {
-        if let Some(found) = item_from(entries, &all, hull, goal) {
+        let found = match kind {
+            PieceKind::Draw(range) => draw_from(entries, asked, range, hull, sought),
+            _ => words_from(entries, asked, &all, hull, sought),
+        };
+        if let Some(found) = found {
             return Ok(found);
         }
     }
@@ -109,17 +156,19 @@ fn item_before<E: Entries>(
 
 /// Adds items of a row that lead to a goal, in front of all others. `fronts` are the hulls before each piece. What the items before the
 /// row have to lead to.
-#[tactic(auto, using(crate::proofs::Sounds::fronts_last, crate::proofs::Sounds::fronts_rest))]
+#[tactic(auto, using(crate::proofs::Sounds::fronts_last, crate::proofs::Sounds::fronts_rest, crate::proofs::Sounds::piece_got))]
 #[inline(never)]
 fn row_back<E: Entries>(
     alloc: Global,
     entries: &E,
+    asked: &Asked,
     row: &[Piece],
     fronts: Vec<Vec<Hull>>,
     goal: Goal,
     trail: &mut Trail,
 ) -> Result<Goal, Unfound>
     requires entries { IsSomeCertificate (E.list entries.now) }
+    requires fits { RowFits row.now }
     requires fronts { AreSoundFronts fronts.items }
 {
     let mut fronts = fronts;
@@ -128,8 +177,9 @@ fn row_back<E: Entries>(
         let Some(piece) = row.get(fronts.len()) else {
             return Err(Unfound::NoFrame);
         };
-        let (words, before) = item_before(alloc, entries, &piece.kind, &here, &goal)?;
-        trail.push_before(Written::Item(words))?;
+        let sought = Sought::Goal(goal);
+        let (item, before) = item_from(alloc, entries, asked, &piece.kind, &here, &sought)?;
+        trail.push_before(item)?;
         goal = before;
     }
     Ok(goal)
@@ -261,7 +311,7 @@ fn part_before<E: Entries>(
     match part {
         Part::Row(row) => {
             let fronts = row_fronts(alloc, entries, asked, row, here)?;
-            row_back(alloc, entries, row, fronts, goal, trail)
+            row_back(alloc, entries, asked, row, fronts, goal, trail)
         }
         Part::Then(first, second) => {
             let between = behind_part(first, alloc, entries, asked, here)?;
@@ -311,49 +361,6 @@ fn turns_back<E: Entries>(
     Ok(goal)
 }
 
-/// An item among some that breaks a rule first from what a hull has, and what the items before it have to lead to.
-fn breaking<E: Entries>(
-    entries: &E,
-    asked: &Asked,
-    all: &[Words],
-    hull: &Hull,
-    why: FrameWhy,
-) -> Option<(Words, Goal)>
-    requires entries { IsSomeCertificate (E.list entries.now) }
-    requires hull { IsSoundHull hull.now }
-{
-    for words in all {
-        let change = words_change(entries, words.first, words.second, hull.scale);
-        if first_broken(asked, hull, &change) == Some(why) {
-            let goal = goal_of_fault(&asked.window, hull, &change, why);
-            return Some((*words, goal));
-        }
-    }
-    None
-}
-
-/// An item of a piece that breaks a rule first from one of some hulls, and what the items before it have to lead to.
-#[tactic(auto, using(crate::proofs::Sounds::sound_at))]
-fn fault_at<E: Entries>(
-    alloc: Global,
-    entries: &E,
-    asked: &Asked,
-    kind: &PieceKind,
-    here: &[Hull],
-    why: FrameWhy,
-) -> Result<(Words, Goal), Unfound>
-    requires entries { IsSomeCertificate (E.list entries.now) }
-    requires here { AreSoundHulls here.now }
-{
-    let all = choices(alloc, kind)?;
-    for hull in here {
-        if let Some(found) = breaking(entries, asked, &all, hull, why) {
-            return Ok(found);
-        }
-    }
-    Err(Unfound::NoFrame)
-}
-
 /// Whether a piece allows a JSRL to a word address.
 fn calls(kind: &PieceKind, to: u16) -> bool {
     match kind {
@@ -379,20 +386,22 @@ fn stop_at<E: Entries>(
     piece: &Piece,
     fault: Option<RecipeFault>,
     here: &[Hull],
-) -> Result<Option<(Words, Goal)>, Unfound>
+) -> Result<Option<(Written, Goal)>, Unfound>
     requires entries { IsSomeCertificate (E.list entries.now) }
+    requires fits { PieceFits piece.now.kind }
     requires here { AreSoundHulls here.now }
 {
     match (*stop, fault) {
         (Stop::Fault, Some(fault)) => {
-            let found = fault_at(alloc, entries, asked, &piece.kind, here, fault.why)?;
+            let sought = Sought::Fault(fault.why);
+            let found = item_from(alloc, entries, asked, &piece.kind, here, &sought)?;
             Ok(Some(found))
         }
         (Stop::Call { to, scale }, _) if calls(&piece.kind, to) => {
             let number = Number::Any;
             let goal = Goal { scale, number };
             if goal.is_in(here) {
-                Ok(Some((jsrl(to), goal)))
+                Ok(Some((Written::Words(jsrl(to)), goal)))
             } else {
                 Ok(None)
             }
@@ -429,10 +438,10 @@ fn find_in_row<E: Entries>(
         let mut notes = Notes::new(alloc);
         let behind = past_piece(alloc, entries, asked, &mut notes, piece, &here)?;
         let found = stop_at(alloc, entries, asked, stop, piece, notes.fault(), &here)?;
-        if let Some((words, goal)) = found {
-            trail.push_before(Written::Item(words))?;
+        if let Some((item, goal)) = found {
+            trail.push_before(item)?;
             trail.push_row(&row[index + 1..])?;
-            return Ok(Some(row_back(alloc, entries, row, fronts, goal, trail)?));
+            return Ok(Some(row_back(alloc, entries, asked, row, fronts, goal, trail)?));
         }
         keep(&mut fronts, here)?;
         here = behind;
@@ -567,13 +576,13 @@ fn find_in_jump<E: Entries>(
     let mut notes = Notes::new(alloc);
     let there = past_jump(alloc, asked, &mut notes, Some(jump.number), here)?;
     if let (Stop::Fault, Some(_), Some(goal)) = (*stop, notes.fault(), most_words(here)) {
-        trail.push_before(Written::Jump(jump.area.first))?;
+        trail.push_jump_before(jump.area.first)?;
         push_part(&jump.body, trail)?;
         return Ok(Some(goal));
     }
     match find_in(&jump.body, alloc, entries, asked, stop, &there, trail, next)? {
         Some(goal) => {
-            trail.push_before(Written::Jump(jump.area.first))?;
+            trail.push_jump_before(jump.area.first)?;
             Ok(Some(goal.before_jump()))
         }
         None => Ok(None),
@@ -611,7 +620,7 @@ fn jumps_back<E: Entries>(
             &here,
         )?;
         let between = part_before(&jump.body, alloc, entries, asked, &there, goal, trail)?;
-        trail.push_before(Written::Jump(jump.area.first))?;
+        trail.push_jump_before(jump.area.first)?;
         goal = between.before_jump();
     }
     Ok(goal)
@@ -720,9 +729,10 @@ pub struct LeadingFrame {
     pub turns: Vec<u16>,
 }
 
-/// The words of a frame of a recipe that leads to where it has to stop.
+/// The words of a frame of a recipe over a ROM that leads to where it has to stop.
 fn find_words<E: Entries>(
     alloc: Global,
+    rom: &RomImage,
     entries: &E,
     asked: &Asked,
     stop: &Stop,
@@ -733,18 +743,21 @@ fn find_words<E: Entries>(
 {
     let mut trail = Trail::new(alloc);
     let goal = find_in_recipe(alloc, entries, asked, stop, recipe, &mut trail)?;
-    match list_of(recipe.lists(), &goal) {
-        Some(first) => Ok(LeadingFrame {
-            words: trail.words(first)?,
-            turns: trail.into_turns(),
-        }),
-        None => Err(Unfound::NoFrame),
+    let Some(first) = list_of(recipe.lists(), &goal) else {
+        return Err(Unfound::NoFrame);
+    };
+    if first > 0 {
+        trail.push_jump_before(first)?;
     }
+    let Trailed { items, turns } = trail.into_trailed()?;
+    let words = frame_words(alloc, rom, &items)?;
+    Ok(LeadingFrame { words, turns })
 }
 
-/// The words of a frame of a recipe that leads to where it has to stop, `None` if there is none (only tested).
+/// The words of a frame of a recipe over a ROM that leads to where it has to stop, `None` if there is none (only tested).
 pub fn find<E: Entries>(
     alloc: Global,
+    rom: &RomImage,
     entries: &E,
     asked: &Asked,
     stop: &Stop,
@@ -753,7 +766,7 @@ pub fn find<E: Entries>(
     requires entries { IsSomeCertificate (E.list entries.now) }
     requires budget { asked.now.budget ≤ MOST_WORDS }
 {
-    match find_words(alloc, entries, asked, stop, recipe) {
+    match find_words(alloc, rom, entries, asked, stop, recipe) {
         Ok(leading) => Ok(Some(leading)),
         Err(Unfound::NoFrame) => Ok(None),
         Err(Unfound::Memory) => Err(AllocError),

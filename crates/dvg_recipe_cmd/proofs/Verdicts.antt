@@ -30,6 +30,7 @@ is_verdict rom options image recipe (Err no.BudgetRange) is long budget means fi
 is_verdict rom options image recipe (Err (no.Text fault)) is long budget means fits err = tt
 is_verdict rom options image recipe (Err (no.TooLong line)) is long budget means fits err = tt
 is_verdict rom options image recipe (Err (no.Make why line)) is long budget means fits err = tt
+is_verdict rom options image recipe (Err (no.Stuck line)) is long budget means fits err = tt
 is_verdict rom options image recipe (Err (no.Shape fault)) is long budget means fits err = tt
 is_verdict rom options image recipe (Err (no.Frame why line)) is long budget means fits err = tt
 is_verdict rom options image recipe (Err no.NoMemory) is long budget means fits err = tt

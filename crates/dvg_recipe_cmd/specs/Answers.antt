@@ -49,6 +49,7 @@ recipe_no_text no.BudgetRange = codes "refused 49"
 recipe_no_text no.RomLength = codes "refused 1"
 recipe_no_text (no.TooLong line) = at_line_text 57 line
 recipe_no_text (no.Make why line) = unmade_text why line
+recipe_no_text (no.Stuck line) = at_line_text 59 line
 recipe_no_text (no.Shape f) = codes "refused " ++ shape_fault_text f
 recipe_no_text (no.Frame why line) = at_line_text (frame_number why) line
 recipe_no_text no.NoMemory = codes "out of memory"

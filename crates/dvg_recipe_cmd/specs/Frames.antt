@@ -2,7 +2,7 @@
 use Rattle.std.specs.Prelude.{◌≡◌, ℕ, Bool, true, false, List, [], ◌∷◌, ◌++◌, codes, length, Option, None, Some, Result, Ok, Err, string_bytes}
 use Rattle.std.specs.Io.KnownBytes.{Appends}
 use Rattle.dvg_words.specs.Values.{MemoryMap}
-use Rattle.dvg_words.specs.Memory.{IsRomLength}
+use Rattle.dvg_words.specs.Memory.{Rom, IsRomLength}
 use Rattle.dvg_text.specs.Devices.{AppendsPrefix, TakesOneWrite, count_after}
 use Rattle.dvg_recipe.specs.Recipes.{Recipe}
 use Rattle.dvg_recipe.specs.Lengths.{FitsAreas}
@@ -30,18 +30,18 @@ is_unread member.Unread = true
 is_unread membership = false
 
 -- what an answer says of what a reader held: it was read to its end or to one byte past the limit, and of these bytes the answer is so
-pub record SaysOf (recipe : Recipe) (old new : Option (List ℕ)) (bytes : List ℕ) (membership : Membership) : Type 0 where
+pub record SaysOf (rom : Rom) (recipe : Recipe) (old new : Option (List ℕ)) (bytes : List ℕ) (membership : Membership) : Type 0 where
   pub read : IsReadTo MOST_FRAME_READ old new
   pub from : ReadsFrame old None bytes
-  pub is : IsMembership recipe bytes membership
+  pub is : IsMembership rom recipe bytes membership
 
 -- `remaining` is what a reader still holds, and `failures` its count of failed reads
-module _ {R : Type 0} (remaining : R → Option (List ℕ)) (failures : R → ℕ) (recipe : Recipe) where
+module _ {R : Type 0} (remaining : R → Option (List ℕ)) (failures : R → ℕ) (rom : Rom) (recipe : Recipe) where
   -- the answer to a frame: `Unread` if it can't be opened; else what is said of what its reader held, `Unread` exactly where a read failed
   abbrev pub AnswersFrame : Option R → Membership → Type 0
   AnswersFrame None membership = membership ≡ member.Unread
   AnswersFrame (Some reader) membership =
-      (left : R) × (bytes : List ℕ) × (is_unread membership ≡ false → SaysOf recipe (remaining reader) (remaining left) bytes membership)
+      (left : R) × (bytes : List ℕ) × (is_unread membership ≡ false → SaysOf rom recipe (remaining reader) (remaining left) bytes membership)
       × (failures left ≡ count_after (is_unread membership) (failures reader))
 
   -- the line of a frame: its name, the answer to it, and behind the line what the detail asks for

@@ -63,6 +63,19 @@ fn known_of(hull: &Hull) -> KnownBefore {
     }
 }
 
+/// Adds a line of what may be known before a piece for each scale that may be known there. `line` is that of the piece.
+fn push_before(
+    line: u32,
+    piece: &SeenPiece,
+    lines: &mut Vec<RecipeLine>,
+) -> Result<(), AllocError> {
+    for hull in piece.before().iter().flatten() {
+        let known = known_of(hull);
+        lines.push(RecipeLine::Before { line, known })?;
+    }
+    Ok(())
+}
+
 /// Adds the lines of what may be known before the first piece of each line of the text.
 fn push_known(
     read: &ReadRecipe,
@@ -72,13 +85,9 @@ fn push_known(
     let mut last = 0;
     for (piece, number) in seen.iter().zip(read.lines.iter()) {
         let line = u32::from(*number);
-        if line == last {
-            continue;
-        }
-        last = line;
-        for hull in piece.before().iter().flatten() {
-            let known = known_of(hull);
-            lines.push(RecipeLine::Before { line, known })?;
+        if line != last {
+            push_before(line, piece, lines)?;
+            last = line;
         }
     }
     Ok(())
@@ -123,6 +132,20 @@ fn text_behind(behind: &Behind) -> Result<&str, AllocError> {
     }
 }
 
+/// The account of a recipe that is refused with a number which is not about a frame: these lines, and behind them what is told of the number.
+fn plain_text(
+    alloc: Global,
+    lines: &[RecipeLine],
+    number: u8,
+    labels: Option<&Labels>,
+) -> Result<String, AllocError> {
+    let mut text = recipe_text(alloc, lines)?;
+    let detail = Detail::Account(labels);
+    let behind = plain_account(Machine::Board, alloc, number, PlainWhy::Nothing, detail);
+    text.push_str(text_behind(&behind)?)?;
+    Ok(text)
+}
+
 /// The account of a recipe whose longest list doesn't fit.
 fn too_long_text(
     alloc: Global,
@@ -131,11 +154,22 @@ fn too_long_text(
 ) -> Result<String, AllocError> {
     let mut lines = Vec::new(alloc);
     push_rooms(alloc, read, &mut lines)?;
-    let mut text = recipe_text(alloc, &lines)?;
-    let detail = Detail::Account(labels);
-    let behind = plain_account(Machine::Board, alloc, 57, PlainWhy::Nothing, detail);
-    text.push_str(text_behind(&behind)?)?;
-    Ok(text)
+    plain_text(alloc, &lines, 57, labels)
+}
+
+/// The account of a recipe of which this piece is stuck: what may be known before it.
+fn stuck_text(
+    alloc: Global,
+    read: &ReadRecipe,
+    seen: &[SeenPiece],
+    piece: u16,
+    labels: Option<&Labels>,
+) -> Result<String, AllocError> {
+    let mut lines = Vec::new(alloc);
+    if let Some(seen) = seen.get(usize::from(piece)) {
+        push_before(line_of_piece(read, piece), seen, &mut lines)?;
+    }
+    plain_text(alloc, &lines, 59, labels)
 }
 
 /// The line of the piece by which a recipe is refused, if it is known.
@@ -143,7 +177,10 @@ fn refused_line(read: &ReadRecipe, refusal: &RecipeRefusal) -> Option<u32> {
     match *refusal {
         RecipeRefusal::Make(unmade) => Some(line_of_piece(read, unmade.piece)),
         RecipeRefusal::Frame(fault) => Some(line_of_piece(read, fault.piece?)),
-        RecipeRefusal::TooLong { .. } | RecipeRefusal::Shape(_) | RecipeRefusal::Memory => None,
+        RecipeRefusal::TooLong { .. }
+        | RecipeRefusal::Stuck { .. }
+        | RecipeRefusal::Shape(_)
+        | RecipeRefusal::Memory => None,
     }
 }
 
@@ -197,13 +234,14 @@ fn shown_text(
     Ok(text)
 }
 
-/// The account of a recipe that is refused so.
+/// The account of a recipe that is refused so; of its pieces this is seen.
 fn refused_text(
     alloc: Global,
     explained: &Explained,
     image: &RomImage,
     read: &ReadRecipe,
     refusal: &RecipeRefusal,
+    seen: &[SeenPiece],
     labels: Option<&Labels>,
 ) -> Result<String, AllocError>
     requires budget { explained.now.options.budget ≤ MOST_WORDS }
@@ -213,6 +251,7 @@ fn refused_text(
     match refusal {
         RecipeRefusal::Memory => return Err(AllocError),
         RecipeRefusal::TooLong { .. } => return too_long_text(alloc, read, labels),
+        RecipeRefusal::Stuck { piece } => return stuck_text(alloc, read, seen, *piece, labels),
         RecipeRefusal::Make(_) | RecipeRefusal::Shape(_) | RecipeRefusal::Frame(_) => {}
     }
     match find_refused(alloc, image, &read.recipe, budget, window, refusal)? {
@@ -237,6 +276,14 @@ pub fn account_of(
 {
     Behind::of(match &surveyed.verdict {
         Ok(_) => accepted_text(alloc, read, &surveyed.seen),
-        Err(refusal) => refused_text(alloc, explained, image, read, refusal, labels),
+        Err(refusal) => refused_text(
+            alloc,
+            explained,
+            image,
+            read,
+            refusal,
+            &surveyed.seen,
+            labels,
+        ),
     })
 }

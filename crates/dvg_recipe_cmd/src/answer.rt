@@ -23,6 +23,9 @@ pub enum RecipeNo {
     TooLong { line: u32 },
     /// 60 to 62: the entry can't be made that the call of this line needs.
     Make { why: EntryFault, line: u32 },
+    /// 59: from some place that may be known at this line, no size leads into the rectangle behind `to`; or the place is lost there, or the
+    /// scale unknown.
+    Stuck { line: u32 },
     /// 25: a shape that the recipe calls lights outside the window.
     Shape(ShapeFault),
     /// 44 to 48: some frame breaks a rule at this line.
@@ -51,6 +54,7 @@ impl RecipeNo {
             RecipeNo::RomLength => 1,
             RecipeNo::TooLong { .. } => 57,
             RecipeNo::Make { why, .. } => MakeFault::from(why).number(),
+            RecipeNo::Stuck { .. } => 59,
             RecipeNo::Shape(fault) => fault.number(),
             RecipeNo::Frame { why, .. } => why.number(),
             RecipeNo::NoMemory => 63,
@@ -74,6 +78,7 @@ pub fn refusal_outcome_of(no: &RecipeNo) -> FrameOutcome
         | RecipeNo::RomLength
         | RecipeNo::TooLong { .. }
         | RecipeNo::Make { .. }
+        | RecipeNo::Stuck { .. }
         | RecipeNo::Shape(_)
         | RecipeNo::Frame { .. } => FrameOutcome::Refused,
     }
@@ -161,6 +166,7 @@ pub fn push_no(line: &mut Line, no: &RecipeNo)
         RecipeNo::RomLength => line.push(b"refused 1"),
         RecipeNo::TooLong { line: at } => push_at_line(line, 57, at),
         RecipeNo::Make { why, line: at } => push_unmade(line, why, at),
+        RecipeNo::Stuck { line: at } => push_at_line(line, 59, at),
         RecipeNo::Shape(fault) => {
             line.push_count(b"refused ", u32::from(fault.number()));
             line.push_entry(b" shape ", fault.addr, fault.key);

@@ -3,6 +3,8 @@
 ghost use Rattle.std.specs.Prelude.{◌≡◌, ◌⊎◌, ◌∷◌, [], false, IfOk, IfErr, OnOk, OnErr, is_err};
 ghost use Rattle.std.specs.Io.KnownBytes.{Appends};
 ghost use Rattle.std.specs.Iterator.{IsFinite};
+ghost use Rattle.dvg_words.specs.declared.machine.Machine.TheVariants.{Board};
+ghost use Rattle.dvg_words.specs.Memory.{rom_on};
 ghost use Rattle.dvg_text.specs.Devices.{AppendsPrefix, count_after};
 ghost use Rattle.dvg_cmd.specs.SeveralFrames.{joined, TakeOneWriteEach};
 ghost use Rattle.dvg_cmd.specs.Detail.{IsBehind, frame_outcome_behind};
@@ -28,7 +30,7 @@ use dvg_recipe::{Leaving, NotMember, belongs, too_long};
 use dvg_recipe_text::{ReadRecipe, RecipeTextFault};
 use dvg_spelling::{FrameOutcome, RunFault};
 use dvg_text::{CountedRead, CountedWrite, write_lines};
-use dvg_words::{FrameImage, Machine, RomMap};
+use dvg_words::{FrameImage, Machine, RomImage, RomMap};
 use std::alloc::{AllocError, Global};
 
 /// The bytes of a ROM, where they lie, and a recipe whose frames are over it, if its text is one's.
@@ -39,21 +41,22 @@ pub struct Recorded<'a> {
     pub recipe: &'a Result<ReadRecipe, RecipeTextFault>,
 }
 
-/// The recipe, or the first that applies of 51 to 56, 1 and 57.
-pub fn recipe_of<'a>(given: &Recorded<'a>) -> Result<&'a ReadRecipe, RecipeNo>
-    ensures ok { IfOk result (λ read. TakesRecipe given.now.rom.now given.now.map given.now.recipe.now read.now) }
+/// The recipe and the image of the ROM, or the first that applies of 51 to 56, 1 and 57.
+pub fn ready<'a>(given: &Recorded<'a>) -> Result<(&'a ReadRecipe, RomImage<'a>), RecipeNo>
+    ensures ok { IfOk result (λ ready. TakesRecipe given.now.rom.now given.now.map given.now.recipe.now ready.0.now
+        × (ready.1 ≡ rom_on Board given.now.map given.now.rom.now)) }
     ensures err { IfErr result (λ no. RefusesRecipe given.now.rom.now given.now.map given.now.recipe.now no) }
 {
     let read = match given.recipe {
         Ok(read) => read,
         Err(fault) => return Err(RecipeNo::Text(*fault)),
     };
-    let _image = board_image(given.rom, given.map)?;
+    let image = board_image(given.rom, given.map)?;
     match too_long(&read.recipe) {
         Some(piece) => Err(RecipeNo::TooLong {
             line: line_of_piece(read, piece),
         }),
-        None => Ok(read),
+        None => Ok((read, image)),
     }
 }
 
@@ -95,11 +98,12 @@ fn account_of(
 /// What is said of the bytes of a frame, and what the detail asks for behind its line.
 pub fn membership_of(
     alloc: Global,
+    image: &RomImage,
     read: &ReadRecipe,
     bytes: &[u8],
     detail: Detail,
 ) -> (Membership, Behind)
-    ensures membership { IsMembership read.now.recipe bytes.now result.0 }
+    ensures membership { IsMembership image.now read.now.recipe bytes.now result.0 }
     ensures read { is_unread result.0 ≡ false }
     ensures behind { IsBehind detail.entry result.1 }
 {
@@ -108,7 +112,7 @@ pub fn membership_of(
         let behind = plain_account(Machine::Board, alloc, 2, why, detail);
         return (Membership::WrongLength, behind);
     };
-    let found = belongs(alloc, &read.recipe, &frame);
+    let found = belongs(alloc, image, &read.recipe, &frame);
     let behind = account_of(alloc, read, &frame, &found, detail);
     let membership = match found {
         Ok(()) => Membership::Belongs,
@@ -130,18 +134,19 @@ fn unread(alloc: Global, detail: Detail) -> (Membership, Behind)
 /// What is said of a frame whose turn it is, and what the detail asks for behind its line.
 fn membership_read<R: CountedRead + Drop>(
     alloc: Global,
+    image: &RomImage,
     read: &ReadRecipe,
     reader: Option<R>,
     detail: Detail,
 ) -> (Membership, Behind)
-    ensures answers { AnswersFrame R.remaining R.failures read.now.recipe reader result.0 }
+    ensures answers { AnswersFrame R.remaining R.failures image.now read.now.recipe reader result.0 }
     ensures behind { IsBehind detail.entry result.1 }
 {
     let Some(mut reader) = reader else {
         return unread(alloc, detail);
     };
     match read_started(&mut reader, None) {
-        Ok(bytes) => membership_of(alloc, read, bytes.as_slice(), detail),
+        Ok(bytes) => membership_of(alloc, image, read, bytes.as_slice(), detail),
         Err(_) => unread(alloc, detail),
     }
 }
@@ -180,6 +185,7 @@ fn write_listed<W: CountedWrite>(
 /// Tells of a frame whose turn it is whether it is one of the recipe's, counts its line, and writes it if the listing has it.
 fn run_named<R: CountedRead + Drop, W: CountedWrite>(
     alloc: Global,
+    image: &RomImage,
     read: &ReadRecipe,
     frame: NamedFrame<R>,
     listing: Listing,
@@ -187,15 +193,15 @@ fn run_named<R: CountedRead + Drop, W: CountedWrite>(
     out: &mut W,
 ) -> Result<FrameOutcome, RunFault>
     ensures ok { IfOk result (λ end. (answer : Membership × Behind) × (tally.new ≡ with_membership tally.old answer.0)
-        × WritesLine (IsLineOfFrame R.remaining R.failures read.now.recipe listing.entry) (of_frames listing.entry) frame
+        × WritesLine (IsLineOfFrame R.remaining R.failures image.now read.now.recipe listing.entry) (of_frames listing.entry) frame
         (W.contents out.old) (W.contents out.new) (W.whole_writes out.old) (W.whole_writes out.new) answer end) }
-    ensures prefix { OnErr result (WritesLinePrefix (IsLineOfFrame R.remaining R.failures read.now.recipe listing.entry)
+    ensures prefix { OnErr result (WritesLinePrefix (IsLineOfFrame R.remaining R.failures image.now read.now.recipe listing.entry)
         (of_frames listing.entry) frame (W.contents out.old) (W.contents out.new)) }
     ensures fault { IfErr result (λ fault. fault ≡ RunFault.Write) }
     ensures count { W.failures out.new ≡ count_after (is_err result) (W.failures out.old) }
 {
     let NamedFrame { name, reader } = frame;
-    let (membership, behind) = membership_read(alloc, read, reader, listing.detail);
+    let (membership, behind) = membership_read(alloc, image, read, reader, listing.detail);
     tally.add(membership);
     write_listed(name.as_str(), membership, &behind, listing, out)
 }
@@ -222,6 +228,7 @@ fn write_summary<W: CountedWrite>(
 /// Tells of frames, one after another, whether they are the recipe's, and writes the summary if it is asked for.
 fn run_frames_of<R: CountedRead + Drop, I: Iterator<Item = NamedFrame<R>> + Drop, W: CountedWrite>(
     alloc: Global,
+    image: &RomImage,
     read: &ReadRecipe,
     frames: I,
     listing: Listing,
@@ -230,10 +237,10 @@ fn run_frames_of<R: CountedRead + Drop, I: Iterator<Item = NamedFrame<R>> + Drop
     requires can { I.can_next frames }
     requires ends { IsFinite (I.remaining frames) }
     ensures report { IfOk result (λ end. HoldsOfAll I.next_gives frames (λ taken.
-        Reports (IsLineOfFrame R.remaining R.failures read.now.recipe listing.entry) (of_frames listing.entry) taken (W.contents out.old) (W.contents out.new)
+        Reports (IsLineOfFrame R.remaining R.failures image.now read.now.recipe listing.entry) (of_frames listing.entry) taken (W.contents out.old) (W.contents out.new)
         (W.whole_writes out.old) (W.whole_writes out.new) end)) }
     ensures prefix { OnErr result (HoldsOfTaken I.next_gives frames (λ taken.
-        ReportsPrefix (IsLineOfFrame R.remaining R.failures read.now.recipe listing.entry) (of_frames listing.entry) taken
+        ReportsPrefix (IsLineOfFrame R.remaining R.failures image.now read.now.recipe listing.entry) (of_frames listing.entry) taken
         (W.contents out.old) (W.contents out.new))) }
     ensures fault { IfErr result (λ fault. fault ≡ RunFault.Write) }
     ensures count { W.failures out.new ≡ count_after (is_err result) (W.failures out.old) }
@@ -241,7 +248,7 @@ fn run_frames_of<R: CountedRead + Drop, I: Iterator<Item = NamedFrame<R>> + Drop
     let mut tally = BelongsTally::new();
     let mut worst = FrameOutcome::Accepted;
     for frame in frames {
-        worst = worst.or_worse(run_named(alloc, read, frame, listing, &mut tally, out)?);
+        worst = worst.or_worse(run_named(alloc, image, read, frame, listing, &mut tally, out)?);
     }
     write_summary(listing.summary, &tally, out)?;
     Ok(worst)
@@ -294,26 +301,26 @@ pub fn run_belongs<
     requires ends { IsFinite (I.remaining frames) }
 
     // The line of a refusal is written, or that of each frame that the listing has, in their order, and then the summary, each by one
-    // write if it fits one. Of each frame that is told to belong, or to be outside, that is so (`IsMembership`).
+    // write if it fits one. Of each frame that is told to belong, or to be outside, that is so over the ROM (`IsMembership`).
     ensures report { IfOk result (λ end. ReportsRefusal given.now.rom.now given.now.map given.now.recipe.now listing.entry.detail
         (W.contents out.old) (W.contents out.new) (W.whole_writes out.old) (W.whole_writes out.new) end
         ⊎ ((read : ReadRecipe) × TakesRecipe given.now.rom.now given.now.map given.now.recipe.now read
         × HoldsOfAll I.next_gives frames (λ taken.
-        Reports (IsLineOfFrame R.remaining R.failures read.recipe listing.entry) (of_frames listing.entry) taken (W.contents out.old) (W.contents out.new)
-        (W.whole_writes out.old) (W.whole_writes out.new) end))) }
+        Reports (IsLineOfFrame R.remaining R.failures (rom_on Board given.now.map given.now.rom.now) read.recipe listing.entry) (of_frames listing.entry)
+        taken (W.contents out.old) (W.contents out.new) (W.whole_writes out.old) (W.whole_writes out.new) end))) }
 
     // Where the writer failed, a prefix of them.
     ensures prefix { OnErr result (ReportsRefusalPrefix given.now.rom.now given.now.map given.now.recipe.now listing.entry.detail
         (W.contents out.old) (W.contents out.new)
         ⊎ ((read : ReadRecipe) × TakesRecipe given.now.rom.now given.now.map given.now.recipe.now read
         × HoldsOfTaken I.next_gives frames (λ taken.
-        ReportsPrefix (IsLineOfFrame R.remaining R.failures read.recipe listing.entry) (of_frames listing.entry) taken
-        (W.contents out.old) (W.contents out.new)))) }
+        ReportsPrefix (IsLineOfFrame R.remaining R.failures (rom_on Board given.now.map given.now.rom.now) read.recipe listing.entry)
+        (of_frames listing.entry) taken (W.contents out.old) (W.contents out.new)))) }
     ensures fault { IfErr result (λ fault. fault ≡ RunFault.Write) }
     ensures count { W.failures out.new ≡ count_after (is_err result) (W.failures out.old) }
 {
-    match recipe_of(given) {
-        Ok(read) => run_frames_of(alloc, read, frames, listing, out),
+    match ready(given) {
+        Ok((read, image)) => run_frames_of(alloc, &image, read, frames, listing, out),
         Err(no) => write_refusal(alloc, &no, listing.detail, out),
     }
 }

@@ -130,6 +130,9 @@ fn told(text: &[u8], read: &ReadRecipe, refusal: &RecipeRefusal) -> RecipeNo
             why: unmade.why,
             line: line_of_piece(read, unmade.piece),
         },
+        RecipeRefusal::Stuck { piece } => RecipeNo::Stuck {
+            line: line_of_piece(read, piece),
+        },
         RecipeRefusal::Shape(fault) => RecipeNo::Shape(fault),
         RecipeRefusal::Frame(fault) => RecipeNo::Frame {
             why: fault.why,

@@ -23,7 +23,7 @@ pub use answer::{RecipeAnswer, RecipeNo, recipe_line_of, recipe_outcome_of};
 pub use dvg_recipe::RecipeYes;
 pub use dvg_recipe_text::{ReadRecipe, RecipeTextFault, RecipeTextWhy};
 pub use fault::{RecipeRunFault, recipe_message_of, recipe_status_of};
-pub use frames::{Recorded, membership_of, recipe_of, run_belongs};
+pub use frames::{Recorded, membership_of, ready, run_belongs};
 pub use judging::{JudgedRecipe, RecipeOptions, Wanted, Witness, judge_text};
 pub use line::Line;
 pub use membership::{Membership, membership_line_of, membership_outcome_of};

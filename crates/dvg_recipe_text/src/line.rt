@@ -3,15 +3,8 @@
 use crate::head::{Head, head_of};
 use crate::names::is_name;
 use crate::words::Words;
-use dvg_recipe::{Area, DrawRange, MOST_TURNS, PlaceRange, Span};
+use dvg_recipe::{Area, DrawRange, MOST_TURNS, PlaceRange, PlaceSpan, Span};
 use dvg_words::Format;
-
-/// The places of a rectangle.
-#[derive(Clone, Copy)]
-pub struct Rectangle {
-    pub x: Span,
-    pub y: Span,
-}
 
 /// What a line says, by itself.
 #[derive(Clone, Copy)]
@@ -24,8 +17,7 @@ pub enum Line<'a> {
     Call(Words<'a>),
     /// The words of the instructions.
     Words(Words<'a>),
-    /// A draw, and the rectangle to which it leads, if the line says one.
-    Draw(DrawRange, Option<Rectangle>),
+    Draw(DrawRange),
     Either,
     Or,
     End,
@@ -55,10 +47,10 @@ fn shapes<'a>(words: &mut Words<'a>) -> Option<Line<'a>> {
     }
 }
 
-fn take_rectangle(words: &mut Words<'_>) -> Option<Rectangle> {
+fn take_places(words: &mut Words<'_>) -> Option<PlaceSpan> {
     let x = words.span(-2048, 2047)?;
     let y = words.span(-2048, 2047)?;
-    Some(Rectangle { x, y })
+    Some(PlaceSpan { x, y })
 }
 
 /// Global scales in ascending order, at least one.
@@ -80,7 +72,7 @@ fn scales(words: &mut Words<'_>) -> Option<[bool; 16]> {
 }
 
 fn place<'a>(words: &mut Words<'a>) -> Option<Line<'a>> {
-    let Rectangle { x, y } = take_rectangle(words)?;
+    let PlaceSpan { x, y } = take_places(words)?;
     words.literal(b"scale")?;
     let scales = scales(words)?;
     Some(Line::Place(PlaceRange { x, y, scales }))
@@ -108,6 +100,7 @@ fn lscale(words: &mut Words<'_>, format: Format) -> Option<u8> {
     }
 }
 
+/// A draw of a format, without the rectangle to which it has to lead.
 fn draw_range(words: &mut Words<'_>, format: Format) -> Option<DrawRange> {
     let lscale = lscale(words, format)?;
     let dx = sizes(words, b"x", format)?;
@@ -120,24 +113,25 @@ fn draw_range(words: &mut Words<'_>, format: Format) -> Option<DrawRange> {
         dx,
         dy,
         bright,
+        to: None,
     })
 }
 
 fn svec<'a>(words: &mut Words<'a>) -> Option<Line<'a>> {
     let range = draw_range(words, Format::Short)?;
     words.end()?;
-    Some(Line::Draw(range, None))
+    Some(Line::Draw(range))
 }
 
 fn vctr<'a>(words: &mut Words<'a>) -> Option<Line<'a>> {
     let range = draw_range(words, Format::Long)?;
     if words.is_done() {
-        return Some(Line::Draw(range, None));
+        return Some(Line::Draw(range));
     }
     words.literal(b"to")?;
-    let to = take_rectangle(words)?;
+    let to = Some(take_places(words)?);
     words.end()?;
-    Some(Line::Draw(range, Some(to)))
+    Some(Line::Draw(DrawRange { to, ..range }))
 }
 
 fn repeat<'a>(words: &mut Words<'a>) -> Option<Line<'a>> {

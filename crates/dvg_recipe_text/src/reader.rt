@@ -182,9 +182,7 @@ impl<'a> Reader<'a> {
                 self.take_piece(number, PieceKind::Call(targets))
             }
             Line::Words(words) => self.take_instructions(number, words),
-            Line::Draw(range, None) => self.take_piece(number, PieceKind::Draw(range)),
-            // a rectangle behind `to` is of the right form, and not judged yet
-            Line::Draw(_, Some(_)) => Err(RecipeTextWhy::Form),
+            Line::Draw(range) => self.take_piece(number, PieceKind::Draw(range)),
             Line::Either => {
                 let kind = BlockKind::Either(Balanced::new(self.alloc, Joint::Either));
                 self.blocks.open(self.alloc, kind)

@@ -380,6 +380,15 @@ pub const RECIPE_AREA: Rule = Rule {
     cure: "let the area reach further, where the program leaves room there; or allow fewer turns: one `repeat` of an `either` where objects share slots",
 };
 
+pub const RECIPE_STUCK: Rule = Rule {
+    number: 59,
+    meaning: "from some place that may be known before this line, no size that it allows leads into the rectangle behind `to`; or the place is lost there, or the scale unknown",
+    line: "refused 59 recipe line 3",
+    heading: "Shortest recipe",
+    input: "`dvgrecipe 1` LF `list 000 3FF` LF `vctr 0 x 0 0 y 0 0 bright 0 0 to 0 0 0 0` LF `halt` LF",
+    cure: "allow sizes that lead there from each place that may be known, or a wider rectangle; let fewer places come there; put a `place` before it, where the place is lost or the scale unknown",
+};
+
 pub const MAKER_NO_SHAPE: Rule = Rule {
     number: 60,
     meaning: "the item is missing, odd or HALT, or it lights something at a lost place or at unknown scale; or a root has this address, outside the ROM",

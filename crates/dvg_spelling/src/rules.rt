@@ -136,12 +136,13 @@ fn frame_rule(number: u8) -> Option<Rule>
     }
 }
 
-/// Of the maker: 60 to 63.
+/// Of recipes: 59; of the maker: 60 to 63.
 fn maker_rule(number: u8) -> Option<Rule>
     ensures some { IfSome result (λ rule. rule.number ≡ number) }
-    ensures known { is_some result ≡ is_within 60 63 number }
+    ensures known { is_some result ≡ is_within 59 63 number }
 {
     match number {
+        59 => Some(table::RECIPE_STUCK),
         60 => Some(table::MAKER_NO_SHAPE),
         61 => Some(table::MAKER_DEPTH),
         62 => Some(table::MAKER_TOO_LARGE),

@@ -1,7 +1,7 @@
 -- Hulls: all that may be known at a point of a recipe, at one scale each, and what the items of a piece may do to it.
 use Rattle.std.specs.Int.{int_min, int_max}
 use Rattle.std.proofs.Common.{Vec, Global}
-use Rattle.std.specs.Prelude.{◌≡◌, ℕ, zero, suc, pos, ◌*ℤ◌, true, false, None, Some, ◌+◌, ◌≤◌, ◌<◌, ◌≤ℤ◌, max, length, slice_index_or, List, [], ◌∷◌, Option, Contains, IsTrue, unwrap_or}
+use Rattle.std.specs.Prelude.{◌≡◌, ℕ, zero, suc, pos, ◌*ℤ◌, true, false, None, Some, ◌+◌, ◌≤◌, ◌<◌, ◌≤ℤ◌, max, length, slice_index_or, List, [], ◌∷◌, Option, Contains, IsTrue, IfSome, unwrap_or}
 use Rattle.dvg_words.specs.Values.{Window, DrawFields}
 use Rattle.dvg_words.specs.declared.machine.Machine.TheVariants.{Board}
 use Rattle.dvg_words.specs.declared.beam.Point.{Point}
@@ -15,7 +15,10 @@ use Rattle.dvg_cert.specs.declared.entry.Key.{Key}
 use Rattle.dvg_cert.specs.declared.entry.Key.TheVariants.{At, Any}
 use Rattle.dvg_cert.specs.declared.entry.LitBox.{LitBox}
 use Rattle.dvg_cert.specs.declared.entry.LitBox.TheVariants.{Empty, Span}
+use Rattle.dvg_cert.specs.Lookup.{same_key}
+use Rattle.dvg_make.specs.Made.{HasEntry}
 use Rattle.dvg_recipe.specs.declared.piece.PlaceRange.{PlaceRange}
+use Rattle.dvg_recipe.specs.declared.piece.PlaceSpan.{PlaceSpan}
 use Rattle.dvg_cert.specs.declared.entry.End.{End}
 use Rattle.dvg_cert.specs.declared.entry.End.TheVariants.{Rel, Abs, Lost as LostEnd}
 use Rattle.dvg_cert.specs.declared.entry.Entry.{Entry}
@@ -41,6 +44,8 @@ pub use Rattle.dvg_recipe.specs.declared.hull.Motion.{Motion}
 pub use Rattle.dvg_recipe.specs.declared.hull.Motion.TheVariants.{To, Away, By}
 pub use Rattle.dvg_recipe.specs.declared.hull.Light.{Light}
 pub use Rattle.dvg_recipe.specs.declared.hull.Light.TheVariants.{Dark, Shown, Unbounded}
+pub use Rattle.dvg_recipe.specs.declared.hull.Act.{Act}
+pub use Rattle.dvg_recipe.specs.declared.hull.Act.TheVariants.{Draws as DrawsAct, Place as PlaceAct, Call as CallAct, Still as StillAct}
 pub use Rattle.dvg_recipe.specs.declared.hull.Change.{Change}
 
 -- ---- what may be known
@@ -104,6 +109,11 @@ IsLight (Shown from to) Anywhere = ⊥
 IsLight Unbounded (Between a b) = Unit {0}
 IsLight Unbounded Anywhere = Unit {0}
 
+-- the item is a draw, and leads from what is known into the rectangle, if there is one
+abbrev pub IsInto : Option Rectangle → Known → Item → Type 0
+IsInto None known i = Unit {0}
+IsInto (Some r) known i = (d : DrawFields) × (i.instr ≡ Draws d) × IsAmong (Within r) (known_past Board i None known).place
+
 -- at this scale, the item, with the entry that it calls, does what the change says, and no more
 pub record IsChange (named : Option Entry) (scale : Key) (change : Change) (i : Item) : Type 0 where
   pub motion : IsMotion change.motion (effect_of Board i.instr scale named)
@@ -112,12 +122,7 @@ pub record IsChange (named : Option Entry) (scale : Key) (change : Change) (i : 
   pub words : word_count i.format + callee_words named ≤ change.words
   pub depth : depth_under i.instr named ≤ change.depth
   pub named_one : IsTrue change.named → HasCallee (target Frame i.instr) named
-
--- one of the changes is that of the item
-pub record IsAnyChange (list : List Entry) (scale : Key) (changes : List Change) (i : Item) : Type 0 where
-  pub change : Change
-  pub listed : Contains changes change
-  pub is : IsChange (callee_at list (target Frame i.instr) scale) scale change i
+  pub keyed : IsTrue change.named → IfSome named (λ e. e.key ≡ scale)
 
 -- the format is that of the instruction, where the instruction has but one
 abbrev pub HasFormat : Format → Instr → Type 0
@@ -127,10 +132,6 @@ HasFormat format Halt = format ≡ Short
 HasFormat format (Jsrl to) = format ≡ Short
 HasFormat format Rtsl = format ≡ Short
 HasFormat format (Jmpl to) = format ≡ Short
-
--- each item of which P holds has one of the changes
-pub record AreChanges (list : List Entry) (scale : Key) (P : Item → Type 0) (changes : List Change) : Type 0 where
-  pub each : (i : Item) → P i → HasFormat i.format i.instr → IsAnyChange list scale changes i
 
 -- ---- what a change does to a hull
 
@@ -145,12 +146,31 @@ places_past Away places = Lost
 places_past (By d) Lost = Lost
 places_past (By d) (Within r) = Within (moved r d)
 
+-- the points that two rectangles have
+abbrev pub common : Rectangle → Rectangle → Rectangle
+common r s =
+    record {
+      low = record { x = int_max r.low.x s.low.x; y = int_max r.low.y s.low.y };
+      high = record { x = int_min r.high.x s.high.x; y = int_min r.high.y s.high.y };
+    }
+
+-- the points of the second rectangle that are in the first, if there is one
+abbrev pub part_in : Option Rectangle → Rectangle → Rectangle
+part_in None r = r
+part_in (Some into) r = common into r
+
+-- the places that are in the rectangle, if there is one
+abbrev pub places_in : Option Rectangle → Places → Places
+places_in None places = places
+places_in (Some into) Lost = Within into
+places_in (Some into) (Within r) = Within (common into r)
+
 -- the hull past a change
 abbrev pub hull_past : Change → Hull → Hull
 hull_past change h =
     record {
       scale = change.scale;
-      places = places_past change.motion h.places;
+      places = places_in change.into (places_past change.motion h.places);
       words = change.words + h.words;
       depth = max change.depth h.depth;
     }
@@ -178,22 +198,18 @@ joined a b =
 abbrev pub IsShown : Window → Rectangle → Type 0
 IsShown w r = InWindow w r.low × InWindow w r.high
 
--- what is lit from one of these places is in the window
-abbrev pub LightsIn : Window → Places → Light → Type 0
-LightsIn w places Dark = Unit {0}
-LightsIn w Lost (Shown from to) = ⊥
-LightsIn w (Within r) (Shown from to) = IsShown w (moved r from) × IsShown w (moved r to)
-LightsIn w places Unbounded = ⊥
+-- what is lit from one of these places is in the window; what a draw into a rectangle lights ends there
+abbrev pub LightsIn : Window → Option Rectangle → Places → Light → Type 0
+LightsIn w into places Dark = Unit {0}
+LightsIn w into Lost (Shown from to) = ⊥
+LightsIn w into (Within r) (Shown from to) = IsShown w (moved r from) × IsShown w (part_in into (moved r to))
+LightsIn w into places Unbounded = ⊥
 
 -- from each that the hull has, the change keeps all rules
 pub record HullKeeps (w : Window) (budget : ℕ) (hull : Hull) (change : Change) : Type 0 where
-  pub lights : LightsIn w hull.places change.light
+  pub lights : LightsIn w change.into hull.places change.light
   pub named : IsTrue change.named
   pub few : change.words + hull.words ≤ budget
-
--- from each that the hull has, each of these changes keeps all rules, and the others have what is known past it
-pub record AllPut (w : Window) (budget : ℕ) (hull : Hull) (changes : List Change) (next : List Hull) : Type 0 where
-  pub each : (c : Change) → Contains changes c → HullKeeps w budget hull c × AreUnder (hull_past c hull ∷ []) next
 
 -- ---- the changes of instructions
 
@@ -211,11 +227,11 @@ places_of r =
 
 -- a LABS to one of these places, at this scale
 abbrev pub place_change : Rectangle → ℕ → Change
-place_change r scale = record { motion = To r; light = Dark; scale = At scale; words = 2; depth = 0; named = true }
+place_change r scale = record { motion = To r; light = Dark; scale = At scale; words = 2; depth = 0; named = true; into = None }
 
 -- a short instruction that leaves place and scale as they are
 abbrev pub still : Key → Change
-still scale = record { motion = By (at_point origin); light = Dark; scale = scale; words = 1; depth = 0; named = true }
+still scale = record { motion = By (at_point origin); light = Dark; scale = scale; words = 1; depth = 0; named = true; into = None }
 
 -- where a called shape leaves the beam
 abbrev pub stop_motion : End → Motion
@@ -231,9 +247,18 @@ box_light (Span x_min x_max y_min y_max) =
 
 -- a JSRL at this scale that calls this entry
 abbrev pub call_change : Option Entry → Key → Change
-call_change None scale = record { motion = By (at_point origin); light = Dark; scale = scale; words = 1; depth = 0; named = false }
+call_change None scale =
+    record { motion = By (at_point origin); light = Dark; scale = scale; words = 1; depth = 0; named = false; into = None }
 call_change (Some e) scale =
-    record { motion = stop_motion e.stop; light = box_light e.lit; scale = e.scale; words = 1 + e.words; depth = 1 + e.depth; named = true }
+    record {
+      motion = stop_motion e.stop;
+      light = box_light e.lit;
+      scale = e.scale;
+      words = 1 + e.words;
+      depth = 1 + e.depth;
+      named = same_key e.key scale;
+      into = None;
+    }
 
 -- the moves of draws between two
 abbrev pub moves : DrawFields → DrawFields → ℕ → Rectangle
@@ -244,9 +269,22 @@ abbrev pub draw_light : ℕ → Light → Light
 draw_light zero lit = Dark
 draw_light (suc n) lit = lit
 
--- draws between two, at this scale
-abbrev pub draw_change : Format → DrawFields → DrawFields → Key → Change
-draw_change format low high (At gscale) =
+-- the places of a rectangle, in units of 1/1024
+abbrev pub span_places : PlaceSpan → Rectangle
+span_places span =
+    record {
+      low = record { x = pos 1024 *ℤ span.x.low; y = pos 1024 *ℤ span.y.low };
+      high = record { x = pos 1024 *ℤ span.x.high; y = pos 1024 *ℤ span.y.high };
+    }
+
+-- where draws have to lead, in units of 1/1024
+abbrev pub into_of : Option PlaceSpan → Option Rectangle
+into_of None = None
+into_of (Some span) = Some (span_places span)
+
+-- draws between two, at this scale, into a rectangle, if there is one
+abbrev pub draw_change : Format → DrawFields → DrawFields → Option Rectangle → Key → Change
+draw_change format low high into (At gscale) =
     record {
       motion = By (moves low high gscale);
       light = draw_light high.bright (Shown (at_point origin) (moves low high gscale));
@@ -254,9 +292,32 @@ draw_change format low high (At gscale) =
       words = word_count format;
       depth = 0;
       named = true;
+      into = into;
     }
-draw_change format low high Any =
-    record { motion = Away; light = draw_light high.bright Unbounded; scale = Any; words = word_count format; depth = 0; named = true }
+draw_change format low high into Any =
+    record {
+      motion = Away;
+      light = draw_light high.bright Unbounded;
+      scale = Any;
+      words = word_count format;
+      depth = 0;
+      named = true;
+      into = into;
+    }
+
+-- what the act does at this scale
+abbrev pub act_change : List Entry → Act → Key → Change
+act_change list (DrawsAct format low high into) scale = draw_change format low high into scale
+act_change list (PlaceAct places global) scale = place_change places global
+act_change list (CallAct to) scale = call_change (callee_at list (Some to) scale) scale
+act_change list StillAct scale = still scale
+
+-- at each scale the item does what the act does, and no more, and it leads from what is known to where it has to
+pub record IsAct (list : List Entry) (act : Act) (known : Known) (i : Item) : Type 0 where
+  pub each :
+      (scale : Key) → HasFormat i.format i.instr
+      → IsChange (callee_at list (target Frame i.instr) scale) scale (act_change list act scale) i
+  pub into : (scale : Key) → IsInto (act_change list act scale).into known i
 
 -- the draw has the local scale of two others, and its sizes and its intensity lie between theirs
 pub record IsDrawBetween (low high d : DrawFields) : Type 0 where
@@ -278,14 +339,20 @@ pub record KeepsOthers (w : Window) (budget : ℕ) (v : Seen) : Type 0 where
   pub named : HasCallee (target Frame v.item.instr) v.callee
   pub few : v.after.words ≤ budget
 
--- past what is known, the item keeps these rules, and the hulls have what is known behind it
+-- what is called has its entry at the very scale
+abbrev pub IsKeyed : List Entry → Option ℕ → Key → Type 0
+IsKeyed list None scale = Unit {0}
+IsKeyed list (Some to) scale = HasEntry list to scale
+
+-- past what is known, the item keeps these rules, what it calls has its entry at the very scale, and the hulls have what is known behind it
 pub record GoesOn (w : Window) (list : List Entry) (budget : ℕ) (next : List Hull) (k : Known) (i : Item) : Type 0 where
   pub keeps : KeepsOthers w budget (seen_with Board (callee_at list (target Frame i.instr) k.scale) k i)
+  pub keyed : IsKeyed list (target Frame i.instr) k.scale
   pub covered : Covers next (known_past Board i (callee_at list (target Frame i.instr) k.scale) k)
 
 -- past all that these hulls have, each item of which P holds does so
-pub record LeadOn (w : Window) (list : List Entry) (budget : ℕ) (P : Item → Type 0) (here next : List Hull) : Type 0 where
-  pub each : (k : Known) (i : Item) → Covers here k → P i → HasFormat i.format i.instr → GoesOn w list budget next k i
+pub record LeadOn (w : Window) (list : List Entry) (budget : ℕ) (P : Known → Item → Type 0) (here next : List Hull) : Type 0 where
+  pub each : (k : Known) (i : Item) → Covers here k → P k i → HasFormat i.format i.instr → GoesOn w list budget next k i
 
 -- ---- limits for the code's numbers
 
@@ -325,10 +392,16 @@ pub record AreSoundHulls (hulls : List Hull) : Type 0 where
 pub record AreSoundFronts (fronts : List (Vec Hull Global)) : Type 0 where
   pub each : (here : Vec Hull Global) → Contains fronts here → AreSoundHulls here.items
 
+-- no further than a LABS can set it
+abbrev pub IsNearInto : Option Rectangle → Type 0
+IsNearInto None = Unit {0}
+IsNearInto (Some r) = IsNearRectangle 1 r
+
 -- the numbers of a change are within the limits
 pub record IsSoundChange (c : Change) : Type 0 where
   pub motion : IsNearMotion c.motion
   pub light : IsNearLight c.light
+  pub into : IsNearInto c.into
   pub scale : IsKey c.scale
   pub some : 1 ≤ c.words
   pub few : c.words ≤ MOST_WORDS + 2
@@ -337,3 +410,10 @@ pub record IsSoundChange (c : Change) : Type 0 where
 -- so are those of each
 pub record AreSoundChanges (changes : List Change) : Type 0 where
   pub each : (c : Change) → Contains changes c → IsSoundChange c
+
+-- so are those that the act has itself
+abbrev pub ActFits : Act → Type 0
+ActFits (DrawsAct format low high into) = IsNearInto into
+ActFits (PlaceAct places scale) = IsNearRectangle 1 places × (scale ≤ 15)
+ActFits (CallAct to) = Unit {0}
+ActFits StillAct = Unit {0}

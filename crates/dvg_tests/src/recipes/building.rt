@@ -1,6 +1,6 @@
 //! Recipes as values, put together from their parts.
 
-use dvg_recipe::{Area, DrawRange, Part, Piece, PieceKind, PlaceRange, Recipe, Span};
+use dvg_recipe::{Area, DrawRange, Part, Piece, PieceKind, PlaceRange, PlaceSpan, Recipe, Span};
 use dvg_words::Format;
 use std::alloc::{AllocError, Global};
 
@@ -49,15 +49,27 @@ pub fn call(alloc: Global, targets: &[u16]) -> Result<PieceKind, AllocError> {
     Ok(PieceKind::Call(Vec::from_slice(alloc, targets)?))
 }
 
-/// A draw of these sizes, across and up, and intensities.
-pub fn draw(format: Format, lscale: u8, sizes: (Span, Span), bright: Span) -> PieceKind {
+/// A draw of these sizes, across and up, and intensities, which has to lead to a rectangle, if there is one.
+pub fn draw_to(
+    format: Format,
+    lscale: u8,
+    sizes: (Span, Span),
+    bright: Span,
+    to: Option<PlaceSpan>,
+) -> PieceKind {
     PieceKind::Draw(DrawRange {
         format,
         lscale,
         dx: sizes.0,
         dy: sizes.1,
         bright,
+        to,
     })
+}
+
+/// A draw of these sizes, across and up, and intensities.
+pub fn draw(format: Format, lscale: u8, sizes: (Span, Span), bright: Span) -> PieceKind {
+    draw_to(format, lscale, sizes, bright, None)
 }
 
 /// The instruction of these words.

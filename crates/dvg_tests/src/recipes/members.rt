@@ -7,7 +7,7 @@ use crate::recipes::building::{
     call, draw, either, fixed, nested, pair, place, repeat, row, shapes, span, straight,
 };
 use dvg_recipe::{Area, Jump, NotMember, Part, PieceKind, Recipe, belongs};
-use dvg_words::{Format, FrameImage};
+use dvg_words::{ASTEROIDS, Format, FrameImage, Machine, RomImage};
 use std::alloc::{AllocError, Global};
 use std::process::Abort;
 
@@ -199,13 +199,15 @@ fn recipe(alloc: Global, second: u16) -> Result<Option<Recipe>, AllocError> {
     Ok(Recipe::new(lists, body(alloc)?, jumps, 9))
 }
 
-/// Stops the test unless each frame belongs to the recipe, or leaves it, as its row says.
-pub fn expect_rows(rt: &impl Abort, alloc: Global, recipe: &Recipe, rows: &[Row]) {
+/// Stops the test unless each frame belongs to the recipe over the ROM of these words at 800 to BFF, or leaves it, as its row says.
+pub fn expect_rows(rt: &impl Abort, alloc: Global, rom: &[Words], recipe: &Recipe, rows: &[Row]) {
+    let bytes = rom_bytes(rom);
+    let rom = RomImage::from_bytes_on(Machine::Board, &bytes, ASTEROIDS).expect(rt, "a ROM");
     for (words, parts, leaves) in rows {
         let bytes = rom_bytes(parts);
         let frame = FrameImage::from_bytes(&bytes[..2 * (*words % 1025)]);
         let frame = frame.expect(rt, "a frame");
-        match belongs(alloc, recipe, &frame) {
+        match belongs(alloc, &rom, recipe, &frame) {
             Ok(()) => expect_same(rt, &None, leaves, parts),
             Err(NotMember::Leaves(leaving)) => {
                 expect_same(
@@ -224,7 +226,7 @@ pub fn expect_rows(rt: &impl Abort, alloc: Global, recipe: &Recipe, rows: &[Row]
 fn tells_members(rt: HostRuntime) {
     let recipe = recipe(rt.alloc(), 0x101).expect(&rt, "memory for the recipe");
     let recipe = recipe.expect(&rt, "a recipe");
-    expect_rows(&rt, rt.alloc(), &recipe, ROWS);
+    expect_rows(&rt, rt.alloc(), &[], &recipe, ROWS);
 }
 
 /// 20 calls, and 20 calls with one more behind another item.
@@ -242,7 +244,7 @@ fn expect_nested(rt: &impl Abort, alloc: Global, levels: u16, least: u16) {
     let body = nested(alloc, levels, least, 1023).expect(rt, "memory for the body");
     let recipe = straight(alloc, &[(0, 0x0FF)], body, 1).expect(rt, "memory for the recipe");
     let recipe = recipe.expect(rt, "a recipe");
-    expect_rows(rt, alloc, &recipe, NESTED_ROWS);
+    expect_rows(rt, alloc, &[], &recipe, NESTED_ROWS);
 }
 
 #[test]

@@ -3,7 +3,7 @@
 use crate::expecting::{expect, expect_same};
 use crate::recipes::texts::LABELS;
 use dvg_labels::read_labels;
-use dvg_recipe::{DrawRange, Part, Piece, PieceKind, PlaceRange, Recipe};
+use dvg_recipe::{DrawRange, Part, Piece, PieceKind, PlaceRange, PlaceSpan, Recipe};
 use dvg_recipe_text::read_recipe;
 use dvg_words::{Draw, Format, Instr, Machine, decode_on, is_long};
 use std::alloc::{AllocError, Global};
@@ -38,8 +38,8 @@ const SAYINGS: &[Saying] = &[
         &[3, 3, 3, 3, 6, 8],
     ),
     (
-        b"dvgrecipe 1\nlist 001 3FF\nshapes ROCK 980 990\nshapes ALL 9A0 ROCK 9B0 980\ncall ROCK\nplace -5 6 -2048 2047 scale 0 2 15\nsvec 3 x -3 2 y -1 0 bright 0 15\nvctr 0 x -1023 5 y 4 1023 bright 7 7\ncall ALL\nhalt\n",
-        b"list 001 3FF, call 980 990, place -5 6 -2048 2047 scale 0 2 15, draw 1 5 x -768 512 y -256 0 bright 0 15, draw 2 0 x -1023 5 y 4 1023 bright 7 7, call 9A0 980 990 9B0, halt",
+        b"dvgrecipe 1\nlist 001 3FF\nshapes ROCK 980 990\nshapes ALL 9A0 ROCK 9B0 980\ncall ROCK\nplace -5 6 -2048 2047 scale 0 2 15\nsvec 3 x -3 2 y -1 0 bright 0 15\nvctr 0 x -1023 5 y 4 1023 bright 7 7 to -2048 5 -6 2047\ncall ALL\nhalt\n",
+        b"list 001 3FF, call 980 990, place -5 6 -2048 2047 scale 0 2 15, draw 1 5 x -768 512 y -256 0 bright 0 15, draw 2 0 x -1023 5 y 4 1023 bright 7 7 to -2048 5 -6 2047, call 9A0 980 990 9B0, halt",
         &[5, 6, 7, 8, 9, 10],
     ),
     (
@@ -123,6 +123,7 @@ fn write_draw(out: &mut String, range: &DrawRange) -> Result<(), AllocError> {
         dx,
         dy,
         bright,
+        to,
     } = range;
     let size = match format {
         Format::Long => 2,
@@ -130,7 +131,11 @@ fn write_draw(out: &mut String, range: &DrawRange) -> Result<(), AllocError> {
     };
     write!(out, "draw {size} {lscale} x {} {}", dx.low, dx.high)?;
     write!(out, " y {} {}", dy.low, dy.high)?;
-    write!(out, " bright {} {}", bright.low, bright.high)
+    write!(out, " bright {} {}", bright.low, bright.high)?;
+    if let Some(PlaceSpan { x, y }) = to {
+        write!(out, " to {} {} {} {}", x.low, x.high, y.low, y.high)?;
+    }
+    Ok(())
 }
 
 /// Writes what a row of pieces says.

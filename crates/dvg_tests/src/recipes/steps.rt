@@ -1,7 +1,7 @@
 //! Recipes put together by steps, over a stack of parts.
 
-use crate::recipes::building::{call, draw, either, fixed, pair, repeat, row, span};
-use dvg_recipe::{Area, Jump, Part, PieceKind, PlaceRange, Recipe};
+use crate::recipes::building::{call, draw_to, either, fixed, pair, repeat, row, span};
+use dvg_recipe::{Area, Jump, Part, PieceKind, PlaceRange, PlaceSpan, Recipe, Span};
 use dvg_words::Format;
 use std::alloc::{AllocError, Global};
 
@@ -19,6 +19,10 @@ pub enum Step<'a> {
     Vctr(u8, Ends, Ends, Ends),
     /// Pushes an SVEC, the same.
     Svec(u8, Ends, Ends, Ends),
+    /// Pushes such a VCTR, which has to lead to a place from X to X and from Y to Y.
+    VctrTo(u8, Ends, Ends, Ends, (Ends, Ends)),
+    /// Pushes such an SVEC.
+    SvecTo(u8, Ends, Ends, Ends, (Ends, Ends)),
     /// Pushes the instruction of these words.
     Fixed(u16, u16),
     /// Puts the two parts on top one behind the other.
@@ -48,6 +52,11 @@ fn joined(alloc: Global, first: Part, second: Part) -> Result<Part, AllocError> 
         }
         (first, second) => pair(alloc, first, second),
     }
+}
+
+/// The range with these ends.
+fn span_of(ends: Ends) -> Span {
+    span(ends.0, ends.1)
 }
 
 /// The set of these scales.
@@ -92,24 +101,28 @@ impl Stack {
         Ok(())
     }
 
-    /// Pushes draws of a format.
+    /// Pushes draws of a format, which have to lead to a rectangle, if there is one.
     fn push_draw(
         &mut self,
         format: Format,
         lscale: u8,
         sizes: (Ends, Ends),
         bright: Ends,
+        to: Option<(Ends, Ends)>,
     ) -> Result<(), AllocError> {
-        let (dx, dy) = sizes;
-        let sizes = (span(dx.0, dx.1), span(dy.0, dy.1));
-        self.push(draw(format, lscale, sizes, span(bright.0, bright.1)))
+        let sizes = (span_of(sizes.0), span_of(sizes.1));
+        let to = to.map(|(x, y)| PlaceSpan {
+            x: span_of(x),
+            y: span_of(y),
+        });
+        self.push(draw_to(format, lscale, sizes, span_of(bright), to))
     }
 
     /// Pushes places.
     fn push_place(&mut self, x: Ends, y: Ends, scales: &[u8]) -> Result<(), AllocError> {
         self.push(PieceKind::Place(PlaceRange {
-            x: span(x.0, x.1),
-            y: span(y.0, y.1),
+            x: span_of(x),
+            y: span_of(y),
             scales: set_of(scales),
         }))
     }
@@ -143,10 +156,16 @@ impl Stack {
             Step::Place(x, y, scales) => self.push_place(x, y, scales),
             Step::Call(targets) => self.push(call(self.alloc, targets)?),
             Step::Vctr(lscale, dx, dy, bright) => {
-                self.push_draw(Format::Long, lscale, (dx, dy), bright)
+                self.push_draw(Format::Long, lscale, (dx, dy), bright, None)
             }
             Step::Svec(lscale, dx, dy, bright) => {
-                self.push_draw(Format::Short, lscale, (dx, dy), bright)
+                self.push_draw(Format::Short, lscale, (dx, dy), bright, None)
+            }
+            Step::VctrTo(lscale, dx, dy, bright, to) => {
+                self.push_draw(Format::Long, lscale, (dx, dy), bright, Some(to))
+            }
+            Step::SvecTo(lscale, dx, dy, bright, to) => {
+                self.push_draw(Format::Short, lscale, (dx, dy), bright, Some(to))
             }
             Step::Fixed(first, second) => self.push(fixed(first, second)),
             Step::Then => self.join(),

@@ -107,7 +107,7 @@ const SECOND_ROWS: &[Row] = &[
                 1,
             ),
         ],
-        Err((51, 3)),
+        Ok(2),
     ),
     (
         &[

@@ -19,7 +19,7 @@ use std::process::Abort;
 
 /// Where strokes may be lit.
 #[derive(Clone, Copy, Debug)]
-enum Shown {
+pub enum Shown {
     Screen,
     Clipped,
     /// From X to X and from Y to Y.
@@ -28,13 +28,15 @@ enum Shown {
 
 /// What is told of a recipe.
 #[derive(Clone, Copy, Debug, PartialEq, Eq)]
-enum Told {
+pub enum Told {
     /// Shapes, words and depth.
     Yes(u32, u32, u8),
     /// The piece at which the longest list passes the end of its area.
     TooLong(u16),
     /// The piece of a call, the word address and the scale that it asks for, and why their entry can't be made.
     Unmade(u16, u16, Key, EntryFault),
+    /// The piece whose draws can't lead from some place to where they have to.
+    Stuck(u16),
     /// The number of a rule of shapes, the shape, and the word at which it breaks it.
     Shape(u8, u16, Key, u16),
     /// The piece at which a frame breaks a rule, and the number of the rule. No piece is the jump to a list.
@@ -43,20 +45,20 @@ enum Told {
 }
 
 /// A recipe, how many words its frames may take, where they may light, and what is told of it.
-struct Row<'a> {
+pub struct Row<'a> {
     /// The first and the last word of each list's area.
-    lists: &'a [(u16, u16)],
+    pub lists: &'a [(u16, u16)],
     /// What stands in a list: the parts that these steps leave, one behind the other.
-    body: &'a [Step<'a>],
+    pub body: &'a [Step<'a>],
     /// The first and the last word of each jump's area, with what stands there.
-    jumps: &'a [((u16, u16), &'a [Step<'a>])],
-    budget: u32,
-    window: Shown,
-    told: Told,
+    pub jumps: &'a [((u16, u16), &'a [Step<'a>])],
+    pub budget: u32,
+    pub window: Shown,
+    pub told: Told,
 }
 
 /// A row of one list at 000, with no jump, and 20,000 words for the whole screen.
-const PLAIN: Row = Row {
+pub const PLAIN: Row = Row {
     lists: &[(0x000, 0x0FF)],
     body: &[],
     jumps: &[],
@@ -82,6 +84,7 @@ fn as_told(answer: &Result<RecipeYes, RecipeRefusal>) -> Told {
         Err(RecipeRefusal::Make(unmade)) => {
             Told::Unmade(unmade.piece, unmade.to, unmade.scale, unmade.why)
         }
+        Err(RecipeRefusal::Stuck { piece }) => Told::Stuck(*piece),
         Err(RecipeRefusal::Shape(fault)) => {
             Told::Shape(fault.number(), fault.addr, fault.key, fault.word)
         }
@@ -90,8 +93,8 @@ fn as_told(answer: &Result<RecipeYes, RecipeRefusal>) -> Told {
     }
 }
 
-/// Whether frames of a recipe show what is answered of it: one that is refused with this number, or two that have these counts. 57 has
-/// none to show.
+/// Whether frames of a recipe show what is answered of it: one that is refused with this number, or two that have these counts. 57 and 59
+/// have none to show.
 fn shows(
     alloc: Global,
     rom: &RomImage,
@@ -109,13 +112,13 @@ fn shows(
             let deepest = find_deepest(alloc, rom, recipe, budget, window, yes.depth)?;
             Ok(longest.is_some() && deepest.is_some())
         }
-        Err(RecipeRefusal::TooLong { .. }) => Ok(true),
+        Err(RecipeRefusal::TooLong { .. } | RecipeRefusal::Stuck { .. }) => Ok(true),
         Err(refusal) => { Ok(find_refused(alloc, rom, recipe, budget, window, refusal)?.is_some()) }
     }
 }
 
 /// Stops the test unless each recipe over the ROM of these words at 800 to BFF is told of as its row says.
-fn expect_told(rt: &impl Abort, alloc: Global, words: &[Part], rows: &[Row]) {
+pub fn expect_told(rt: &impl Abort, alloc: Global, words: &[Part], rows: &[Row]) {
     let bytes = rom_bytes(words);
     let rom = RomImage::from_bytes_on(Machine::Board, &bytes, ASTEROIDS).expect(rt, "a ROM");
     for row in rows {
@@ -137,7 +140,7 @@ fn expect_told(rt: &impl Abort, alloc: Global, words: &[Part], rows: &[Row]) {
 }
 
 /// Shapes of a vector ROM.
-const ROM: &[Part] = &[
+pub const ROM: &[Part] = &[
     // a dot
     (0x800, &[0xF070, 0xD000]),
     // a box, 16 places to the right and up

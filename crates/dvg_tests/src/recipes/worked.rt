@@ -83,7 +83,7 @@ const MEMBERS: &[Row] = &[
 fn tells_worked_members(rt: HostRuntime) {
     let recipe = example(rt.alloc()).expect(&rt, "memory for the recipe");
     let recipe = recipe.expect(&rt, "a recipe");
-    expect_rows(&rt, rt.alloc(), &recipe, MEMBERS);
+    expect_rows(&rt, rt.alloc(), &[], &recipe, MEMBERS);
 }
 
 /// The greatest Y of a column, and what is answered of it: shapes, words and depth, or the piece and the number of the refusal.

@@ -3,7 +3,8 @@ use Rattle.dvg_c.proofs.recipe.membership_in.Goals as goal
 
 pub returns : goal.returns
 returns c =
-    (c.read_recipe-recipe.result, c.in_ok-read.read.now, c.in_ok-read.ensures.ok, c.membership_of-membership.ensures.membership)
+    let ok = c.in_ok-read.ensures.ok in
+    (c.read_recipe-recipe.result, c.in_ok-read.read.now, ok.0, rw ok.1 at c.membership_of-membership.ensures.membership)
 
 pub returns-in_err-read : goal.returns-in_err-read
 returns-in_err-read c =

@@ -7,7 +7,7 @@ use Rattle.dvg_recipe.proofs.belonging.past_recipe.Goals as goal
 pub returns : goal.returns
 returns c =
     let recipe = c.args.recipe.now in
-    let items = c.args.items.now in
+    let items = c.args.places.now in
     recipe_those recipe items c.in_ok-here.here.items c.in_ok-here-2.here.items c.in_ok-here-3.here.items
     (those_of c.lists.result.now recipe.lists items c.in_ok-here.here.items c.lists.ensures c.in_ok-here.ensures)
     (part_to c.body.result.now recipe.body items c.in_ok-here.here.items c.in_ok-here-2.here.items c.body.ensures.value c.in_ok-here-2.ensures)

@@ -1,8 +1,8 @@
 use Rattle.std.proofs.Common.{Box, Global}
 use Rattle.dvg_recipe.proofs.Common.{◌+◌, ◌∙◌, subst, sym, arith, List}
-use Rattle.dvg_recipe.specs.Recipes.{Part, Row, Then', Either', Repeat', AddsRow, Spells, Times}
+use Rattle.dvg_recipe.specs.Recipes.{Part, Row, Then', Either', Repeat', AddsRow, Spells}
 use Rattle.dvg_recipe.specs.Private.Hulls.{Hull, AreUnder, AreSoundHulls}
-use Rattle.dvg_recipe.specs.Private.Judging.{Carries, Turns}
+use Rattle.dvg_recipe.specs.Private.Judging.{Carries, TimesOver, Turns}
 use Rattle.dvg_recipe.proofs.Sounds.{under_same, under_on}
 use Rattle.dvg_recipe.proofs.Leading.{if_ok_on, if_ok_both}
 use Rattle.dvg_recipe.proofs.Onward.{part_as, from_as, then_both, either_one, times_none, one_turn, least_turns, more_turns}
@@ -118,7 +118,7 @@ add_repeat-loop-2-init g t c =
     let e = c.in_ok-add_all.ensures in
     let all = c.add_all.new.hulls.items in (
       λ fine. let x = c.loop.invariant.0 fine in
-          let turns : Carries w list budget (Times c.args.least R) here c.loop.there.items = subst (λ n. Carries w list budget (Times n R) here c.loop.there.items) (omega (arith, c.loop-test.false, c.loop.auto.counter-end)) x.1 in
+          let turns : Carries w list budget (TimesOver c.args.least R) here c.loop.there.items = subst (λ n. Carries w list budget (TimesOver n R) here c.loop.there.items) (omega (arith, c.loop-test.false, c.loop.auto.counter-end)) x.1 in
           (x.0, (turns, least_turns w list budget c.args.body.now c.args.least here c.loop.there.items all (subst (λ (l : List Hull). AreUnder l all) c.deref-2.ensures.value e.added) turns)),
       c.loop.invariant.1,
       e.kept,

@@ -1,0 +1,1 @@
+use Rattle.dvg_recipe.proofs.judge.add_items.Goals as goal
