@@ -1,0 +1,14 @@
+pub mod Common
+pub mod Forecasts
+pub mod Adding
+pub mod Onward
+pub mod ShapeRuns
+pub mod FrameRuns
+pub mod CircuitRuns
+pub mod Entries
+pub mod Walks
+pub mod Existing
+pub mod Walking
+pub mod Keeping
+pub mod Telling
+pub mod Example

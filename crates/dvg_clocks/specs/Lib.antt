@@ -1,0 +1,6 @@
+pub mod Clocks
+pub mod Forecasts
+pub mod Sums
+pub mod Laws
+pub mod Example
+pub mod Private

@@ -1,0 +1,101 @@
+-- What the code keeps while it goes over items, and what it keeps of shapes.
+use Rattle.std.specs.Prelude.{◌≡◌, ◌≤◌, ◌*◌, ◌==◌, ◌&&◌, ℕ, List, ◌∷◌, Option, Some, None, unwrap_or, Contains, cond}
+use Rattle.std.specs.Option.{option_map}
+use Rattle.std.specs.Map.{lookup}
+use Rattle.dvg_words.specs.Values.{Source}
+use Rattle.dvg_words.specs.Memory.{Rom}
+use Rattle.dvg_words.specs.Decoding.{cell_at}
+use Rattle.dvg_words.specs.declared.instruction.Instr.{Instr}
+use Rattle.dvg_words.specs.declared.instruction.Format.{Format}
+use Rattle.dvg_words.specs.declared.instruction.Cell.TheVariants.{Holds}
+use Rattle.dvg_cert.specs.declared.entry.Entry.{Entry}
+use Rattle.dvg_cert.specs.declared.entry.Key.{Key}
+use Rattle.dvg_cert.specs.declared.limits.TheConstants.{MOST_WORDS}
+use Rattle.dvg_cert.specs.Lookup.{same_key}
+use Rattle.dvg_items.specs.Items.{LeadsTo, next_address}
+use Rattle.dvg_items.specs.Known.{Context, scale_set, words_before}
+use Rattle.dvg_items.specs.declared.item.Item.{Item}
+use Rattle.dvg_items.specs.declared.item.Kind.{Kind}
+use Rattle.dvg_clocks.specs.declared.clocks.Range.{Range}
+use Rattle.dvg_clocks.specs.declared.clocks.States.{States}
+use Rattle.dvg_clocks.specs.Forecasts.{clocks_known, just, taken_before}
+use Rattle.dvg_clocks.specs.Sums.{WORD_CLOCKS, sum_of}
+pub use Rattle.dvg_clocks.specs.declared.items.ScaleCursor.{ScaleCursor}
+
+-- ---- what is kept of shapes
+
+-- clocks, each with the address and key of an entry
+abbrev pub Kept : Type 0
+Kept = List ((ℕ × Key) × Range)
+
+-- the clocks that are kept at an address and key
+abbrev pub found_at : Kept → ℕ → Key → Option Range
+found_at kept addr key = lookup (λ p. (addr == p.0) && same_key key p.1) kept
+
+-- what the shape of an entry takes by what is kept; nothing if nothing is
+abbrev pub clocks_in : Kept → Entry → Range
+clocks_in kept e = unwrap_or (found_at kept e.addr e.key) (just 0)
+
+-- the clocks of an entry's shape are kept, too, and nothing else has changed
+abbrev pub IsKeptToo : Entry → Range → Kept → Kept → Type 0
+IsKeptToo e clocks old new =
+    (addr : ℕ) (key : Key) → found_at new addr key ≡ cond ((e.addr == addr) && same_key e.key key) (Some clocks) (found_at old addr key)
+
+-- what is kept of an entry is a range, of no more than so many clocks for each word
+pub record IsFewFor (kept : Kept) (e : Entry) : Type 0 where
+  pub ordered : (clocks_in kept e).least ≤ (clocks_in kept e).most
+  pub few : (clocks_in kept e).most ≤ WORD_CLOCKS * e.words
+
+-- of each entry of the list
+abbrev pub AreAllFew : Kept → List Entry → Type 0
+AreAllFew kept list = (e : Entry) → Contains list e → IsFewFor kept e
+
+-- what is kept of an entry is the sum of its shape
+pub record IsToldOf (t : States) (rom : Rom) (list : List Entry) (kept : Kept) (e : Entry) : Type 0 where
+  pub told : found_at kept e.addr e.key ≡ Some (sum_of (clocks_known t) rom list e)
+  pub few : IsFewFor kept e
+
+-- of each entry of the list
+abbrev pub AreTold : States → Rom → List Entry → Kept → Type 0
+AreTold t rom list kept = (e : Entry) → Contains list e → IsToldOf t rom list kept e
+
+-- ---- going over items
+
+-- the context of the items from the first one on
+abbrev pub context_at : Source → List Entry → ScaleCursor → Context
+context_at source list first = record { kind = first.kind; machine = source.machine; list = list; scale = first.scale }
+
+-- at the next item, past one that calls this entry
+abbrev pub cursor_past : ScaleCursor → Item → Option Entry → Option ScaleCursor
+cursor_past here i named =
+    option_map (λ at. record { kind = here.kind; at = at; scale = unwrap_or (scale_set i.instr named) here.scale }) (next_address here.kind i)
+
+-- each place that items lead to has an item, up to which the words are few
+pub record AreFew (c : Context) (source : Source) (first most : ℕ) : Type 0 where
+  pub there :
+      (earlier : List Item) (p : ℕ) → LeadsTo c.kind source first earlier p
+      → (format : Format) × (i : Instr) × (cell_at source p ≡ Holds format i)
+  pub few :
+      (earlier : List Item) (i : Item) → LeadsTo c.kind source first earlier i.at
+      → cell_at source i.at ≡ Holds i.format i.instr → words_before c (i ∷ earlier) ≤ most
+
+-- items can be gone over from the first one on
+pub record IsWalkable (source : Source) (list : List Entry) (first : ScaleCursor) : Type 0 where
+  pub most : ℕ
+  pub within : most ≤ MOST_WORDS
+  pub few : AreFew (context_at source list first) source first.at most
+
+-- a walk to a last item
+pub record IsWhole (kind : Kind) (source : Source) (first : ℕ) (items : List Item) (i : Item) : Type 0 where
+  pub lead : LeadsTo kind source first items i.at
+  pub is : cell_at source i.at ≡ Holds i.format i.instr
+  pub last : next_address kind i ≡ None
+
+-- the items from the first one on, up to and with the last one, take so much by what is kept
+pub record IsTaken (t : States) (source : Source) (list : List Entry) (kept : Kept) (first : ScaleCursor) (sum : Range) : Type 0 where
+  pub items : List Item
+  pub item : Item
+  pub whole : IsWhole first.kind source first.at items item
+  pub sum_is : sum ≡ taken_before (clocks_known t) (clocks_in kept) (context_at source list first) (item ∷ items)
+  pub ordered : sum.least ≤ sum.most
+  pub few : sum.most ≤ WORD_CLOCKS * words_before (context_at source list first) (item ∷ items)
