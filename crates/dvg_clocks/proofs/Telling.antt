@@ -76,7 +76,7 @@ module _ (t : States) (rom : Rom) (list order : List Entry) where
               nat_below : (i : ℕ) → ((n ≤ i) → ⊥) → i < n
               nat_below i not = grind (arith)
 
-      module _ (clocks : Range) (taken : IsTaken t (rom_word rom) list kept (record { kind = Shape; at = e.addr; scale = e.key }) clocks) where
+      module _ (clocks : Range) (limit : ℕ) (taken : IsTaken t (rom_word rom) list kept (record { kind = Shape; at = e.addr; scale = e.key }) limit clocks) where
         words_few : words_before (shape_context rom.machine list e) (taken.item ∷ taken.items) ≤ e.words
         words_few = rule good.mode rom good.window list e (good.good e here) taken.items taken.item taken.whole.lead taken.whole.is shape.TooManyWords
 

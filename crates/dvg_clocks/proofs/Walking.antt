@@ -1,7 +1,7 @@
 -- What the loop over items keeps, and what follows where it stops.
-use Rattle.dvg_clocks.proofs.Common.{◌≡◌, ℕ, ◌+◌, ◌*◌, ◌≤◌, ◌<◌, List, [], ◌∷◌, Option, Some, None, refl, sym, ◌∙◌, ap, subst, arith, Contains, Entry, Key, Any, Rom, rom_word, Shape, Item, LeadsTo, next_address, shape_context, words_before, scale_before, Context, target, callee, callee_words, word_count, word_count-some, named_listed, Cell, Holds, Format, Instr, cell_at, Range, States, both, just, callee_taken, taken_before, clocks_known, sum_of, ShapeKeeps, seen_at, AreGood, WORD_CLOCKS, frame_sum, frame_context, frame_word, Frame, Halt, FrameKeeps, FrameWhy, CellKeeps, GoodFrame, Window, Memory, IsMemory, Board, IsAcceptedFrame, TakenOnCircuit, clocks_of_instr, ScaleCursor, Kept, AreTold, AreAllFew, IsFewFor, clocks_in, context_at, cursor_past, AreFew, IsWalkable, IsWhole, IsTaken}
+use Rattle.dvg_clocks.proofs.Common.{◌≡◌, ℕ, ◌+◌, ◌*◌, ◌≤◌, ◌<◌, List, [], ◌∷◌, Option, Some, None, refl, sym, ◌∙◌, ap, subst, arith, Contains, Entry, Key, Any, Rom, rom_word, Shape, Item, LeadsTo, next_address, shape_context, words_before, scale_before, Context, target, callee, callee_words, word_count, word_count-some, named_listed, Cell, Holds, Format, Instr, cell_at, Range, States, both, just, callee_taken, taken_before, clocks_known, sum_of, ShapeKeeps, seen_at, AreGood, WORD_CLOCKS, frame_sum, frame_context, frame_word, Frame, Halt, FrameKeeps, FrameWhy, CellKeeps, GoodFrame, Window, Memory, IsMemory, Board, IsAcceptedFrame, TakenOnCircuit, clocks_of_instr, ScaleCursor, Kept, AreTold, AreAllFew, IsFewFor, clocks_in, context_at, cursor_past, AreFew, IsWalkable, IsWhole, IsTaken, IsOver, IsFirstOver}
 use Rattle.std.proofs.Math.Nat.{mul-add, mul-le-mul_left}
-use Rattle.std.specs.Prelude.{IfSome, unwrap_or}
+use Rattle.std.specs.Prelude.{IfSome, IfOk, IfErr, Result, Ok, Err, unwrap_or}
 use Rattle.std.specs.Option.{option_map}
 use Rattle.dvg_words.specs.Values.{Source}
 use Rattle.dvg_cert.specs.Entry.{IsKey}
@@ -20,7 +20,7 @@ pub few_of : (kept : Kept) (list : List Entry) → AreAllFew kept list → (to :
 few_of kept list few to scale None is = tt
 few_of kept list few to scale (Some f) is = few f (named_listed list to scale f (sym is))
 
-module _ (t : States) (source : Source) (list : List Entry) (kept : Kept) (first : ScaleCursor) where
+module _ (t : States) (source : Source) (list : List Entry) (kept : Kept) (first : ScaleCursor) (limit : ℕ) where
   abbrev c : Context
   c = context_at source list first
 
@@ -35,9 +35,10 @@ module _ (t : States) (source : Source) (list : List Entry) (kept : Kept) (first
     pub ordered : sum.least ≤ sum.most
     pub few : sum.most ≤ WORD_CLOCKS * words_before c items
     pub within : words_before c items ≤ MOST_WORDS
+    pub below : sum.most ≤ limit
 
   pub begins : IsKey first.scale → Going first (just 0)
-  begins key = record { items = []; leads = refl; kind = refl; scale = refl; key = key; sum_is = refl; ordered = omega arith; few = omega arith; within = omega arith }
+  begins key = record { items = []; leads = refl; kind = refl; scale = refl; key = key; sum_is = refl; ordered = omega arith; few = omega arith; within = omega arith; below = omega arith }
 
   module _ (walk : IsWalkable source list first) (here : ScaleCursor) (sum : Range) (k : Going here sum) where
     -- there is an item
@@ -69,8 +70,8 @@ module _ (t : States) (source : Source) (list : List Entry) (kept : Kept) (first
         sum_here : both one sum ≡ taken_before (clocks_known t) (clocks_in kept) c (item ∷ k.items)
         sum_here = cc (one_is, named, k.scale, k.sum_is)
 
-        pub onward : (next : ScaleCursor) → cursor_past here item called ≡ Some next → IsKey next.scale → Going next (both one sum)
-        onward next goes key = by (next_address here.kind item) refl
+        pub onward : one.most + sum.most ≤ limit → (next : ScaleCursor) → cursor_past here item called ≡ Some next → IsKey next.scale → Going next (both one sum)
+        onward below next goes key = by (next_address here.kind item) refl
           where
             by : (o : Option ℕ) → next_address here.kind item ≡ o → Going next (both one sum)
             by None is_o = absurd (grind (arith, goes, is_o))
@@ -85,10 +86,11 @@ module _ (t : States) (source : Source) (list : List Entry) (kept : Kept) (first
                   ordered = omega (arith, one_ordered, k.ordered);
                   few = few_here;
                   within = omega (arith, all_words, ap callee_words named);
+                  below = below;
                 }
 
-        pub done : cursor_past here item called ≡ None → IsTaken t source list kept first (both one sum)
-        done goes =
+        pub done : one.most + sum.most ≤ limit → cursor_past here item called ≡ None → IsTaken t source list kept first limit (both one sum)
+        done below goes =
             record {
               items = k.items;
               item = item;
@@ -96,7 +98,25 @@ module _ (t : States) (source : Source) (list : List Entry) (kept : Kept) (first
               sum_is = sum_here;
               ordered = omega (arith, one_ordered, k.ordered);
               few = few_here;
+              within = below;
             }
+
+        pub over : limit < one.most + sum.most → IsOver t source list kept first limit here.at
+        over more =
+            record {
+              items = k.items;
+              item = item;
+              at_is = refl;
+              lead = k.leads;
+              is = is;
+              before = omega (arith, ap (λ (r : Range). r.most) k.sum_is, k.below);
+              over = omega (arith, ap (λ (r : Range). r.most) sum_here, more);
+              words = omega (arith, all_words, ap callee_words named);
+              few = omega (arith, ap (λ (r : Range). r.most) sum_here, few_here, mul-le-mul_left WORD_CLOCKS here_fits);
+            }
+          where
+            here_fits : words_before c (item ∷ k.items) ≤ MOST_WORDS
+            here_fits = omega (arith, all_words, ap callee_words named)
 
 -- ---- shapes
 
@@ -152,13 +172,36 @@ module _ (m : Memory) (list : List Entry) (words : ℕ) (gf : IsAcceptedFrame m 
   pub frame_walkable : IsWalkable (frame_word m.rom.machine m.frame) list (record { kind = Frame; at = 0; scale = Any })
   frame_walkable = record { most = MOST_WORDS; within = omega arith; few = accepted_few }
 
-  -- what its items take by what is kept, where that is told of each shape, is its sum
-  pub frame_is : (t : States) (kept : Kept) → AreTold t m.rom list kept → (sum : Range) → (taken : IsTaken t (frame_word m.rom.machine m.frame) list kept (record { kind = Frame; at = 0; scale = Any }) sum) → sum ≡ frame_sum (clocks_known t) m list words
-  frame_is t kept told sum taken =
-      taken.sum_is
-      ∙ same_taken (clocks_known t) (clocks_in kept) (sum_of (clocks_known t) m.rom list) (frame_context m.rom.machine list) (taken.item ∷ taken.items) (λ g h less. ap (λ o. unwrap_or o (just 0)) (told g h).told)
-      ∙ accepted_sum t taken.items taken.item taken.whole
+  module _ (t : States) (kept : Kept) (told : AreTold t m.rom list kept) (limit : ℕ) where
+    -- what its items take by what is kept is what they take
+    as_told : (items : List Item) → taken_before (clocks_known t) (clocks_in kept) (frame_context m.rom.machine list) items ≡ taken_before (clocks_known t) (sum_of (clocks_known t) m.rom list) (frame_context m.rom.machine list) items
+    as_told items = same_taken (clocks_known t) (clocks_in kept) (sum_of (clocks_known t) m.rom list) (frame_context m.rom.machine list) items (λ g h less. ap (λ o. unwrap_or o (just 0)) (told g h).told)
 
--- what is told is little
-pub told_few : (t : States) (rom : Rom) (list : List Entry) (kept : Kept) → AreTold t rom list kept → AreAllFew kept list
-told_few t rom list kept told e h = (told e h).few
+    -- in all, its sum
+    pub frame_is : (sum : Range) → (taken : IsTaken t (frame_word m.rom.machine m.frame) list kept (record { kind = Frame; at = 0; scale = Any }) limit sum) → sum ≡ frame_sum (clocks_known t) m list words
+    frame_is sum taken = taken.sum_is ∙ as_told (taken.item ∷ taken.items) ∙ accepted_sum t taken.items taken.item taken.whole
+
+    pub frame_over : (at : ℕ) → IsOver t (frame_word m.rom.machine m.frame) list kept (record { kind = Frame; at = 0; scale = Any }) limit at → IsFirstOver t m list limit at
+    frame_over at o =
+        record {
+          items = o.items;
+          item = o.item;
+          at_is = o.at_is;
+          leads = o.lead;
+          stands = o.is;
+          before = omega (arith, o.before, ap (λ (r : Range). r.most) (as_told o.items));
+          over = omega (arith, o.over, ap (λ (r : Range). r.most) (as_told (o.item ∷ o.items)));
+        }
+
+    -- so for an answer
+    pub are : (r : Result Range ℕ) → IfOk r (IsTaken t (frame_word m.rom.machine m.frame) list kept (record { kind = Frame; at = 0; scale = Any }) limit) → IfOk r (λ sum. sum ≡ frame_sum (clocks_known t) m list words)
+    are (Ok sum) taken = frame_is sum taken
+    are (Err at) h = tt
+
+    pub first_over : (r : Result Range ℕ) → IfErr r (IsOver t (frame_word m.rom.machine m.frame) list kept (record { kind = Frame; at = 0; scale = Any }) limit) → IfErr r (IsFirstOver t m list limit)
+    first_over (Ok sum) h = tt
+    first_over (Err at) o = frame_over at o
+
+    pub on_circuit : IsMemory m → IsSomeCertificate list → AreGood m.rom list → (r : Result Range ℕ) → IfOk r (λ sum. sum ≡ frame_sum (clocks_known t) m list words) → m.rom.machine ≡ Board → IfOk r (TakenOnCircuit (clocks_of_instr t) m)
+    on_circuit mem certificate all (Ok sum) is board = frame_on_circuit t m list words sum mem certificate all gf is board
+    on_circuit mem certificate all (Err at) is board = tt

@@ -1,5 +1,5 @@
 -- What entries and frames take, as sums over their items. All of it is this project's own.
-use Rattle.std.specs.Prelude.{List, None, Option, Some, [], suc, zero, ℕ, ◌∷◌, ◌≤◌}
+use Rattle.std.specs.Prelude.{List, None, Option, Some, [], suc, zero, ℕ, ◌∷◌, ◌≡◌, ◌<◌, ◌≤◌}
 use Rattle.dvg_words.specs.Decoding.{cell_at}
 use Rattle.dvg_words.specs.Memory.{Memory, Rom, frame_word, rom_word}
 use Rattle.dvg_words.specs.Values.{Source, Window}
@@ -7,15 +7,16 @@ use Rattle.dvg_words.specs.declared.instruction.Cell.{Cell}
 use Rattle.dvg_words.specs.declared.instruction.Cell.TheVariants.{Holds}
 use Rattle.dvg_cert.specs.declared.entry.Entry.{Entry}
 use Rattle.dvg_cert.specs.declared.limits.TheConstants.{MOST_WORDS}
-use Rattle.dvg_items.specs.Items.{next_address}
+use Rattle.dvg_items.specs.Items.{LeadsTo, next_address}
 use Rattle.dvg_items.specs.Known.{frame_context, shape_context}
 use Rattle.dvg_items.specs.declared.item.Item.{Item}
 use Rattle.dvg_items.specs.declared.item.Kind.{Kind}
 use Rattle.dvg_items.specs.declared.item.Kind.TheVariants.{Frame, Shape}
 use Rattle.dvg_check.specs.Rules.{Good, GoodFrame}
 use Rattle.dvg_check.specs.declared.fault.Mode.{Mode}
-use Rattle.dvg_clocks.specs.Forecasts.{Forecast, just, taken_before}
+use Rattle.dvg_clocks.specs.Forecasts.{Forecast, clocks_known, just, taken_before}
 use Rattle.dvg_clocks.specs.declared.clocks.Range.{Range}
+use Rattle.dvg_clocks.specs.declared.clocks.States.{States}
 
 -- the item of a cell at a word address, if there is one
 abbrev pub item_in : ℕ → Cell → Option Item
@@ -73,3 +74,13 @@ pub record IsAcceptedFrame (m : Memory) (list : List Entry) (words : ℕ) : Type
 -- the most clocks for each word, where states take 65,535 at most
 abbrev pub WORD_CLOCKS : ℕ
 WORD_CLOCKS = 66559
+
+-- the frame's first item with which it may take more clocks than the limit stands at this word address
+pub record IsFirstOver (t : States) (m : Memory) (list : List Entry) (limit at : ℕ) : Type 0 where
+  pub items : List Item
+  pub item : Item
+  pub at_is : at ≡ item.at
+  pub leads : LeadsTo Frame (frame_word m.rom.machine m.frame) 0 items item.at
+  pub stands : cell_at (frame_word m.rom.machine m.frame) item.at ≡ Holds item.format item.instr
+  pub before : (taken_before (clocks_known t) (sum_of (clocks_known t) m.rom list) (frame_context m.rom.machine list) items).most ≤ limit
+  pub over : limit < (taken_before (clocks_known t) (sum_of (clocks_known t) m.rom list) (frame_context m.rom.machine list) (item ∷ items)).most

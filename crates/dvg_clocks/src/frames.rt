@@ -1,11 +1,11 @@
 //! The clocks of frames.
 
-ghost use Rattle.std.specs.Prelude.{◌≡◌, ◌≤◌};
+ghost use Rattle.std.specs.Prelude.{◌≡◌, ◌≤◌, IfOk, IfErr};
 ghost use Rattle.dvg_words.specs.declared.machine.Machine.TheVariants.{Board};
 ghost use Rattle.dvg_items.specs.Bounds.{IsSomeCertificate};
 ghost use Rattle.dvg_clocks.specs.Clocks.{TakenOnCircuit, clocks_of_instr};
 ghost use Rattle.dvg_clocks.specs.Forecasts.{clocks_known};
-ghost use Rattle.dvg_clocks.specs.Sums.{AreGood, IsAcceptedFrame, frame_sum};
+ghost use Rattle.dvg_clocks.specs.Sums.{AreGood, IsAcceptedFrame, IsFirstOver, frame_sum};
 ghost use Rattle.dvg_clocks.specs.Private.Walking.{AreTold};
 
 use crate::clocks::{Range, States};
@@ -17,7 +17,8 @@ use dvg_items::Kind;
 use dvg_words::{FrameImage, FrameOn, RomImage};
 
 /// What a frame takes that was accepted over these shapes, in clocks: on the circuit never more than the most, and when it has halted,
-/// no less than the least. `accepted` are its counts. Takes no memory.
+/// no less than the least. `accepted` are its counts. `Err` has the word address of the first item with which the most is over `limit`.
+/// Takes no memory.
 pub fn frame_clocks<E: Entries>(
     states: &States,
     rom: &RomImage,
@@ -25,14 +26,17 @@ pub fn frame_clocks<E: Entries>(
     shapes: &ShapeClocks,
     frame: &FrameImage,
     accepted: &Accepted,
-) -> Range
+    limit: u64,
+) -> Result<Range, u16>
     requires certificate { IsSomeCertificate (E.list entries.now) }
     requires good { AreGood rom.now (E.list entries.now) }
     requires told { AreTold states.now rom.now (E.list entries.now) shapes.now }
     requires frame { IsAcceptedFrame (record { frame = frame.now; rom = rom.now }) (E.list entries.now) accepted.now.words }
-    ensures value { result ≡ frame_sum (clocks_known states.now) (record { frame = frame.now; rom = rom.now }) (E.list entries.now) accepted.now.words }
-    ensures ordered { result.least ≤ result.most }
-    ensures circuit { rom.now.machine ≡ Board → TakenOnCircuit (clocks_of_instr states.now) (record { frame = frame.now; rom = rom.now }) result }
+    ensures value { IfOk result (λ clocks. clocks ≡ frame_sum (clocks_known states.now) (record { frame = frame.now; rom = rom.now }) (E.list entries.now) accepted.now.words) }
+    ensures ordered { IfOk result (λ clocks. clocks.least ≤ clocks.most) }
+    ensures within { IfOk result (λ clocks. clocks.most ≤ limit) }
+    ensures circuit { rom.now.machine ≡ Board → IfOk result (TakenOnCircuit (clocks_of_instr states.now) (record { frame = frame.now; rom = rom.now })) }
+    ensures err { IfErr result (IsFirstOver states.now (record { frame = frame.now; rom = rom.now }) (E.list entries.now) limit) }
 {
     // Their clauses say that the ROM and the frame are whole.
     let _map = rom.map();
@@ -43,5 +47,5 @@ pub fn frame_clocks<E: Entries>(
         at: 0,
         scale: Key::Any,
     };
-    items_clocks(states, &memory, entries, shapes, &first)
+    items_clocks(states, &memory, entries, shapes, &first, limit)
 }

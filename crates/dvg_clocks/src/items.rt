@@ -1,6 +1,6 @@
 //! What items take, one after another.
 
-ghost use Rattle.std.specs.Prelude.{◌≡◌, ◌≤◌, ◌<◌, ◌+◌, ◌*◌, IfSome};
+ghost use Rattle.std.specs.Prelude.{◌≡◌, ◌≤◌, ◌<◌, ◌+◌, ◌*◌, IfSome, IfOk, IfErr};
 ghost use Rattle.dvg_words.specs.Decoding.{InstrFits};
 ghost use Rattle.dvg_words.specs.declared.map.TheConstants.{ADDRESS_END};
 ghost use Rattle.dvg_cert.specs.Entry.{IsKey};
@@ -8,7 +8,7 @@ ghost use Rattle.dvg_items.specs.Bounds.{IsClaim, IsSomeCertificate};
 ghost use Rattle.dvg_items.specs.Known.{callee_words};
 ghost use Rattle.dvg_clocks.specs.Forecasts.{both, callee_taken, clocks_known};
 ghost use Rattle.dvg_clocks.specs.Sums.{WORD_CLOCKS};
-ghost use Rattle.dvg_clocks.specs.Private.Walking.{AreAllFew, IsFewFor, IsTaken, IsWalkable, clocks_in, cursor_past};
+ghost use Rattle.dvg_clocks.specs.Private.Walking.{AreAllFew, IsFewFor, IsOver, IsTaken, IsWalkable, clocks_in, cursor_past};
 
 use crate::clocks::{Range, States, instr_clocks};
 use crate::shapes::ShapeClocks;
@@ -67,19 +67,22 @@ fn item_clocks(
     }
 }
 
-/// What the items from the first one on take, up to and with the last one. Takes no memory.
+/// What the items from the first one on take, up to and with the last one. `Err` has the word address of the first item with which it is
+/// more than `limit` clocks. Takes no memory.
 pub fn items_clocks<F: Fetch, E: Entries>(
     states: &States,
     words: &F,
     entries: &E,
     shapes: &ShapeClocks,
     first: &ScaleCursor,
-) -> Range
+    limit: u64,
+) -> Result<Range, u16>
     requires entries { IsSomeCertificate (E.list entries.now) }
     requires key { IsKey first.now.scale }
     requires few { AreAllFew shapes.now (E.list entries.now) }
     requires walkable { IsWalkable (F.words words.now) (E.list entries.now) first.now }
-    ensures { IsTaken states.now (F.words words.now) (E.list entries.now) shapes.now first.now result }
+    ensures ok { IfOk result (IsTaken states.now (F.words words.now) (E.list entries.now) shapes.now first.now limit) }
+    ensures err { IfErr result (IsOver states.now (F.words words.now) (E.list entries.now) shapes.now first.now limit) }
 {
     let mut here = *first;
     let mut sum = Range::NONE;
@@ -91,10 +94,13 @@ pub fn items_clocks<F: Fetch, E: Entries>(
         };
         let called = callee(entries, target(here.kind, &instr), here.scale);
         sum = item_clocks(states, shapes, &item, here.scale, &called).plus(sum);
+        if sum.most > limit {
+            return Err(here.at);
+        }
         match here.past(&item, &called) {
             Some(next) => here = next,
-            None => return sum,
+            None => return Ok(sum),
         }
     }
-    sum
+    Ok(sum)
 }

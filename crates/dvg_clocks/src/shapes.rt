@@ -81,8 +81,10 @@ impl ShapeClocks {
                 at: entry.addr,
                 scale: entry.key,
             };
-            let clocks = items_clocks(states, rom, entries, &shapes, &first);
-            shapes.add(entry, clocks)?;
+            match items_clocks(states, rom, entries, &shapes, &first, u64::MAX) {
+                Ok(clocks) => shapes.add(entry, clocks)?,
+                Err(_) => unreachable!(),
+            }
         }
         Ok(shapes)
     }

@@ -1,5 +1,5 @@
 -- What the code keeps while it goes over items, and what it keeps of shapes.
-use Rattle.std.specs.Prelude.{◌≡◌, ◌≤◌, ◌*◌, ◌==◌, ◌&&◌, ℕ, List, ◌∷◌, Option, Some, None, unwrap_or, Contains, cond}
+use Rattle.std.specs.Prelude.{◌≡◌, ◌≤◌, ◌<◌, ◌*◌, ◌==◌, ◌&&◌, ℕ, List, ◌∷◌, Option, Some, None, unwrap_or, Contains, cond}
 use Rattle.std.specs.Option.{option_map}
 use Rattle.std.specs.Map.{lookup}
 use Rattle.dvg_words.specs.Values.{Source}
@@ -91,11 +91,24 @@ pub record IsWhole (kind : Kind) (source : Source) (first : ℕ) (items : List I
   pub is : cell_at source i.at ≡ Holds i.format i.instr
   pub last : next_address kind i ≡ None
 
--- the items from the first one on, up to and with the last one, take so much by what is kept
-pub record IsTaken (t : States) (source : Source) (list : List Entry) (kept : Kept) (first : ScaleCursor) (sum : Range) : Type 0 where
+-- the items from the first one on, up to and with the last one, take so much by what is kept, which is within the limit
+pub record IsTaken (t : States) (source : Source) (list : List Entry) (kept : Kept) (first : ScaleCursor) (limit : ℕ) (sum : Range) : Type 0 where
   pub items : List Item
   pub item : Item
   pub whole : IsWhole first.kind source first.at items item
   pub sum_is : sum ≡ taken_before (clocks_known t) (clocks_in kept) (context_at source list first) (item ∷ items)
   pub ordered : sum.least ≤ sum.most
   pub few : sum.most ≤ WORD_CLOCKS * words_before (context_at source list first) (item ∷ items)
+  pub within : sum.most ≤ limit
+
+-- the first item from the first one on with which they may take more than the limit, by what is kept
+pub record IsOver (t : States) (source : Source) (list : List Entry) (kept : Kept) (first : ScaleCursor) (limit at : ℕ) : Type 0 where
+  pub items : List Item
+  pub item : Item
+  pub at_is : at ≡ item.at
+  pub lead : LeadsTo first.kind source first.at items item.at
+  pub is : cell_at source item.at ≡ Holds item.format item.instr
+  pub before : (taken_before (clocks_known t) (clocks_in kept) (context_at source list first) items).most ≤ limit
+  pub over : limit < (taken_before (clocks_known t) (clocks_in kept) (context_at source list first) (item ∷ items)).most
+  pub words : words_before (context_at source list first) (item ∷ items) ≤ MOST_WORDS
+  pub few : (taken_before (clocks_known t) (clocks_in kept) (context_at source list first) (item ∷ items)).most ≤ WORD_CLOCKS * MOST_WORDS
