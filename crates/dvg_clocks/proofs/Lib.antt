@@ -11,4 +11,5 @@ pub mod Existing
 pub mod Walking
 pub mod Keeping
 pub mod Telling
+pub mod OwnCertificate
 pub mod Example

@@ -1,6 +1,6 @@
 //! The clocks of frames.
 
-ghost use Rattle.std.specs.Prelude.{◌≡◌, ◌≤◌, IfOk, IfErr};
+ghost use Rattle.std.specs.Prelude.{◌≡◌, ◌≤◌, ℕ, IfOk, IfErr};
 ghost use Rattle.dvg_words.specs.declared.machine.Machine.TheVariants.{Board};
 ghost use Rattle.dvg_items.specs.Bounds.{IsSomeCertificate};
 ghost use Rattle.dvg_clocks.specs.Clocks.{TakenOnCircuit, clocks_of_instr};
@@ -12,31 +12,35 @@ use crate::clocks::{Range, States};
 use crate::items::{ScaleCursor, items_clocks};
 use crate::shapes::ShapeClocks;
 use dvg_cert::{Entries, Key};
-use dvg_check::Accepted;
 use dvg_items::Kind;
 use dvg_words::{FrameImage, FrameOn, RomImage};
 
+/// By which table the clocks of a frame are counted, and how many it may take at most.
+#[derive(Clone, Copy, Debug, PartialEq, Eq)]
+pub struct Timing {
+    pub states: States,
+    pub limit: u64,
+}
+
 /// What a frame takes that was accepted over these shapes, in clocks: on the circuit never more than the most, and when it has halted,
-/// no less than the least. `accepted` are its counts. `Err` has the word address of the first item with which the most is over `limit`.
-/// Takes no memory.
+/// no less than the least. `Err` has the word address of the first item with which the most is over the limit. Takes no memory.
 pub fn frame_clocks<E: Entries>(
-    states: &States,
+    timing: &Timing,
     rom: &RomImage,
     entries: &E,
     shapes: &ShapeClocks,
     frame: &FrameImage,
-    accepted: &Accepted,
-    limit: u64,
 ) -> Result<Range, u16>
     requires certificate { IsSomeCertificate (E.list entries.now) }
     requires good { AreGood rom.now (E.list entries.now) }
-    requires told { AreTold states.now rom.now (E.list entries.now) shapes.now }
-    requires frame { IsAcceptedFrame (record { frame = frame.now; rom = rom.now }) (E.list entries.now) accepted.now.words }
-    ensures value { IfOk result (λ clocks. clocks ≡ frame_sum (clocks_known states.now) (record { frame = frame.now; rom = rom.now }) (E.list entries.now) accepted.now.words) }
+    requires told { AreTold timing.now.states rom.now (E.list entries.now) shapes.now }
+    requires frame { (words : ℕ) × IsAcceptedFrame (record { frame = frame.now; rom = rom.now }) (E.list entries.now) words }
+    ensures value { (words : ℕ) → IsAcceptedFrame (record { frame = frame.now; rom = rom.now }) (E.list entries.now) words
+        → IfOk result (λ clocks. clocks ≡ frame_sum (clocks_known timing.now.states) (record { frame = frame.now; rom = rom.now }) (E.list entries.now) words) }
     ensures ordered { IfOk result (λ clocks. clocks.least ≤ clocks.most) }
-    ensures within { IfOk result (λ clocks. clocks.most ≤ limit) }
-    ensures circuit { rom.now.machine ≡ Board → IfOk result (TakenOnCircuit (clocks_of_instr states.now) (record { frame = frame.now; rom = rom.now })) }
-    ensures err { IfErr result (IsFirstOver states.now (record { frame = frame.now; rom = rom.now }) (E.list entries.now) limit) }
+    ensures within { IfOk result (λ clocks. clocks.most ≤ timing.now.limit) }
+    ensures circuit { rom.now.machine ≡ Board → IfOk result (TakenOnCircuit (clocks_of_instr timing.now.states) (record { frame = frame.now; rom = rom.now })) }
+    ensures err { IfErr result (IsFirstOver timing.now.states (record { frame = frame.now; rom = rom.now }) (E.list entries.now) timing.now.limit) }
 {
     // Their clauses say that the ROM and the frame are whole.
     let _map = rom.map();
@@ -47,5 +51,12 @@ pub fn frame_clocks<E: Entries>(
         at: 0,
         scale: Key::Any,
     };
-    items_clocks(states, &memory, entries, shapes, &first, limit)
+    items_clocks(
+        &timing.states,
+        &memory,
+        entries,
+        shapes,
+        &first,
+        timing.limit,
+    )
 }

@@ -1,14 +1,17 @@
 //! How long a frame takes to draw: the clocks of its instructions' states, and of the counts of its draws.
 //!
-//! [`ShapeClocks`] has what the shapes of a certificate's entries take, and [`frame_clocks`] adds up what a frame over them takes.
+//! [`judge_timed`] judges a frame by its own certificate, and answers its clocks. [`ShapeClocks`] has what the shapes of a certificate's
+//! entries take, and [`frame_clocks`] adds up what a frame over them takes.
 #![tactic(auto)]
 
 mod clocks;
 mod frames;
 mod items;
+mod judging;
 pub mod laws;
 mod shapes;
 
 pub use clocks::{DVG_STATES, Range, States, instr_clocks};
-pub use frames::frame_clocks;
+pub use frames::{Timing, frame_clocks};
+pub use judging::{TimedRefusal, TimedYes, judge_timed};
 pub use shapes::ShapeClocks;
