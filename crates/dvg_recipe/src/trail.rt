@@ -1,7 +1,7 @@
 //! The items of a frame that is to be written.
 
 use crate::choices::{Words, choices, jmpl};
-use crate::goal::Number;
+use crate::goal::{Goal, Number};
 use crate::piece::{DrawRange, Piece, PieceKind};
 use crate::recipe::{Jump, Part};
 use std::alloc::{AllocError, Global};
@@ -24,6 +24,8 @@ pub struct Trail {
     behind: Vec<Written>,
     /// The turns of the repeats around the place, the innermost first.
     turns: Vec<u16>,
+    /// What the items before these have to lead to.
+    pub goal: Goal,
 }
 
 /// The items of a frame, from word 000 on.
@@ -46,25 +48,28 @@ fn some_item(alloc: Global, kind: &PieceKind) -> Result<Option<Written>, AllocEr
 }
 
 impl Trail {
-    /// No items so far.
+    /// No items so far, and no goal.
     pub fn new(alloc: Global) -> Trail {
         Trail {
             alloc,
             before: Vec::new(alloc),
             behind: Vec::new(alloc),
             turns: Vec::new(alloc),
+            goal: Goal::ANY,
         }
     }
 
-    /// Adds an item in front of all others.
-    pub fn push_before(&mut self, item: Written) -> Result<(), AllocError> {
+    /// Adds an item in front of all others, and notes what the items before it have to lead to.
+    pub fn push_before(&mut self, item: Written, goal: Goal) -> Result<(), AllocError> {
         self.before.push(item)?;
+        self.goal = goal;
         Ok(())
     }
 
-    /// Adds a JMPL to a word address in front of all others.
+    /// Adds a JMPL to a word address in front of all others. The items before it lead to the goal behind it.
     pub fn push_jump_before(&mut self, to: u16) -> Result<(), AllocError> {
-        self.push_before(Written::Words(jmpl(to)))
+        let goal = self.goal.before_jump();
+        self.push_before(Written::Words(jmpl(to)), goal)
     }
 
     /// Notes the turn, counted from 1, of the next repeat around the place.

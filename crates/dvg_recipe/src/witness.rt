@@ -58,6 +58,15 @@ impl From<AllocError> for Unfound {
     }
 }
 
+/// What is looked for, and in what.
+#[derive(Drop)]
+struct Search<'a, E: Entries> {
+    alloc: Global,
+    entries: &'a E,
+    asked: &'a Asked,
+    stop: &'a Stop,
+}
+
 /// What an item has to do.
 #[derive(Clone, Copy)]
 enum Sought {
@@ -92,35 +101,33 @@ impl Sought {
 
 /// A draw of a range that does what is sought from what a hull has, and what the items before it have to lead to.
 fn draw_from<E: Entries>(
-    entries: &E,
-    asked: &Asked,
+    search: &Search<E>,
     range: &DrawRange,
     hull: &Hull,
     sought: &Sought,
 ) -> Option<(Written, Goal)>
-    requires entries { IsSomeCertificate (E.list entries.now) }
+    requires entries { IsSomeCertificate (E.list search.now.entries.now) }
     requires fits { PieceFits (Draws range.now) }
     requires hull { IsSoundHull hull.now }
 {
-    let change = act_change(entries, &draws_act(range), hull.scale);
-    let goal = sought.before(asked, &change, hull)?;
+    let change = act_change(search.entries, &draws_act(range), hull.scale);
+    let goal = sought.before(search.asked, &change, hull)?;
     Some((Written::Draw(*range, goal.number), goal))
 }
 
 /// An item among some that does what is sought from what a hull has, and what the items before it have to lead to.
 fn words_from<E: Entries>(
-    entries: &E,
-    asked: &Asked,
+    search: &Search<E>,
     all: &[Words],
     hull: &Hull,
     sought: &Sought,
 ) -> Option<(Written, Goal)>
-    requires entries { IsSomeCertificate (E.list entries.now) }
+    requires entries { IsSomeCertificate (E.list search.now.entries.now) }
     requires hull { IsSoundHull hull.now }
 {
     for words in all {
-        let change = words_change(entries, words.first, words.second, hull.scale);
-        if let Some(goal) = sought.before(asked, &change, hull) {
+        let change = words_change(search.entries, words.first, words.second, hull.scale);
+        if let Some(goal) = sought.before(search.asked, &change, hull) {
             return Some((Written::Words(*words), goal));
         }
     }
@@ -130,22 +137,20 @@ fn words_from<E: Entries>(
 /// An item of a piece that does what is sought from one of some hulls, and what the items before it have to lead to.
 #[tactic(auto, using(crate::proofs::Sounds::sound_at))]
 fn item_from<E: Entries>(
-    alloc: Global,
-    entries: &E,
-    asked: &Asked,
+    search: &Search<E>,
     kind: &PieceKind,
     here: &[Hull],
     sought: &Sought,
 ) -> Result<(Written, Goal), Unfound>
-    requires entries { IsSomeCertificate (E.list entries.now) }
+    requires entries { IsSomeCertificate (E.list search.now.entries.now) }
     requires fits { PieceFits kind.now }
     requires here { AreSoundHulls here.now }
 {
-    let all = choices(alloc, kind)?;
+    let all = choices(search.alloc, kind)?;
     for hull in here {
         let found = match kind {
-            PieceKind::Draw(range) => draw_from(entries, asked, range, hull, sought),
-            _ => words_from(entries, asked, &all, hull, sought),
+            PieceKind::Draw(range) => draw_from(search, range, hull, sought),
+            _ => words_from(search, &all, hull, sought),
         };
         if let Some(found) = found {
             return Ok(found);
@@ -154,35 +159,29 @@ fn item_from<E: Entries>(
     Err(Unfound::NoFrame)
 }
 
-/// Adds items of a row that lead to a goal, in front of all others. `fronts` are the hulls before each piece. What the items before the
-/// row have to lead to.
+/// Adds items of a row that lead to the goal, in front of all others. `fronts` are the hulls before each piece.
 #[tactic(auto, using(crate::proofs::Sounds::fronts_last, crate::proofs::Sounds::fronts_rest, crate::proofs::Sounds::piece_got))]
 #[inline(never)]
 fn row_back<E: Entries>(
-    alloc: Global,
-    entries: &E,
-    asked: &Asked,
+    search: &Search<E>,
     row: &[Piece],
     fronts: Vec<Vec<Hull>>,
-    goal: Goal,
     trail: &mut Trail,
-) -> Result<Goal, Unfound>
-    requires entries { IsSomeCertificate (E.list entries.now) }
+) -> Result<(), Unfound>
+    requires entries { IsSomeCertificate (E.list search.now.entries.now) }
     requires fits { RowFits row.now }
     requires fronts { AreSoundFronts fronts.items }
 {
     let mut fronts = fronts;
-    let mut goal = goal;
     while let Some(here) = fronts.pop() {
         let Some(piece) = row.get(fronts.len()) else {
             return Err(Unfound::NoFrame);
         };
-        let sought = Sought::Goal(goal);
-        let (item, before) = item_from(alloc, entries, asked, &piece.kind, &here, &sought)?;
-        trail.push_before(item)?;
-        goal = before;
+        let sought = Sought::Goal(trail.goal);
+        let (item, before) = item_from(search, &piece.kind, &here, &sought)?;
+        trail.push_before(item, before)?;
     }
-    Ok(goal)
+    Ok(())
 }
 
 /// Keeps the hulls at a place, to come back to them.
@@ -198,64 +197,78 @@ fn keep(fronts: &mut Vec<Vec<Hull>>, here: Vec<Hull>) -> Result<(), AllocError>
 
 /// The hulls before each piece of a row.
 #[tactic(auto, using(crate::proofs::Sounds::fronts_none, crate::proofs::Sounds::piece_at))]
-#[inline(never)]
 fn row_fronts<E: Entries>(
-    alloc: Global,
-    entries: &E,
-    asked: &Asked,
+    search: &Search<E>,
     row: &[Piece],
     here: &[Hull],
 ) -> Result<Vec<Vec<Hull>>, Unfound>
-    requires entries { IsSomeCertificate (E.list entries.now) }
-    requires budget { asked.now.budget ≤ MOST_WORDS }
+    requires entries { IsSomeCertificate (E.list search.now.entries.now) }
+    requires budget { search.now.asked.now.budget ≤ MOST_WORDS }
     requires fits { RowFits row.now }
     requires here { AreSoundHulls here.now }
     ensures { IfOk result (λ fronts. AreSoundFronts fronts.items) }
 {
+    let alloc = search.alloc;
     let mut fronts = Vec::new(alloc);
     let mut here = Vec::from_slice(alloc, here)?;
     for piece in row {
-        let next = past_piece(alloc, entries, asked, &mut Notes::new(alloc), piece, &here)?;
+        let notes = &mut Notes::new(alloc);
+        let next = past_piece(alloc, search.entries, search.asked, notes, piece, &here)?;
         keep(&mut fronts, here)?;
         here = next;
     }
     Ok(fronts)
 }
 
+/// Adds items of a row that lead from one of some hulls to the goal, in front of all others.
+#[inline(never)]
+fn row_before<E: Entries>(
+    search: &Search<E>,
+    row: &[Piece],
+    here: &[Hull],
+    trail: &mut Trail,
+) -> Result<(), Unfound>
+    requires entries { IsSomeCertificate (E.list search.now.entries.now) }
+    requires budget { search.now.asked.now.budget ≤ MOST_WORDS }
+    requires fits { RowFits row.now }
+    requires here { AreSoundHulls here.now }
+{
+    let fronts = row_fronts(search, row, here)?;
+    row_back(search, row, fronts, trail)
+}
+
 /// The hulls behind a part, whatever rule is broken in it.
 #[inline(never)]
 fn behind_part<E: Entries>(
     part: &Part,
-    alloc: Global,
-    entries: &E,
-    asked: &Asked,
+    search: &Search<E>,
     here: &[Hull],
 ) -> Result<Vec<Hull>, AllocError>
-    requires entries { IsSomeCertificate (E.list entries.now) }
-    requires budget { asked.now.budget ≤ MOST_WORDS }
+    requires entries { IsSomeCertificate (E.list search.now.entries.now) }
+    requires budget { search.now.asked.now.budget ≤ MOST_WORDS }
     requires fits { IsWithin part.now }
     requires here { AreSoundHulls here.now }
     ensures { IfOk result (λ next. AreSoundHulls next.items) }
 {
-    past_part(part, alloc, entries, asked, &mut Notes::new(alloc), here)
+    let alloc = search.alloc;
+    let notes = &mut Notes::new(alloc);
+    past_part(part, alloc, search.entries, search.asked, notes, here)
 }
 
 /// Whether a goal is reached behind a part.
 #[inline(never)]
 fn leads_through<E: Entries>(
     part: &Part,
-    alloc: Global,
-    entries: &E,
-    asked: &Asked,
+    search: &Search<E>,
     here: &[Hull],
     goal: &Goal,
 ) -> Result<bool, AllocError>
-    requires entries { IsSomeCertificate (E.list entries.now) }
-    requires budget { asked.now.budget ≤ MOST_WORDS }
+    requires entries { IsSomeCertificate (E.list search.now.entries.now) }
+    requires budget { search.now.asked.now.budget ≤ MOST_WORDS }
     requires fits { IsWithin part.now }
     requires here { AreSoundHulls here.now }
 {
-    let behind = behind_part(part, alloc, entries, asked, here)?;
+    let behind = behind_part(part, search, here)?;
     Ok(goal.is_in(&behind))
 }
 
@@ -264,101 +277,86 @@ fn leads_through<E: Entries>(
 #[inline(never)]
 fn turn_fronts<E: Entries>(
     body: &Part,
-    alloc: Global,
-    entries: &E,
-    asked: &Asked,
+    search: &Search<E>,
     turns: (u16, u16),
     here: &[Hull],
     goal: &Goal,
 ) -> Result<Vec<Vec<Hull>>, Unfound>
-    requires entries { IsSomeCertificate (E.list entries.now) }
-    requires budget { asked.now.budget ≤ MOST_WORDS }
+    requires entries { IsSomeCertificate (E.list search.now.entries.now) }
+    requires budget { search.now.asked.now.budget ≤ MOST_WORDS }
     requires fits { IsWithin body.now }
     requires here { AreSoundHulls here.now }
     ensures { IfOk result (λ fronts. AreSoundFronts fronts.items) }
 {
     let (least, most) = turns;
-    let mut fronts = Vec::new(alloc);
-    let mut here = Vec::from_slice(alloc, here)?;
+    let mut fronts = Vec::new(search.alloc);
+    let mut here = Vec::from_slice(search.alloc, here)?;
     for turn in 0..most {
         if turn >= least && goal.is_in(&here) {
             return Ok(fronts);
         }
-        let next = behind_part(body, alloc, entries, asked, &here)?;
+        let next = behind_part(body, search, &here)?;
         keep(&mut fronts, here)?;
         here = next;
     }
     Ok(fronts)
 }
 
-/// Adds items of a part that lead from one of some hulls to a goal, in front of all others. What the items before the part have to lead
-/// to.
+/// Adds items of a part that lead from one of some hulls to the goal, in front of all others.
 #[cycle(part_before)]
 fn part_before<E: Entries>(
     part: &Part,
-    alloc: Global,
-    entries: &E,
-    asked: &Asked,
+    search: &Search<E>,
     here: &[Hull],
-    goal: Goal,
     trail: &mut Trail,
-) -> Result<Goal, Unfound>
-    requires entries { IsSomeCertificate (E.list entries.now) }
-    requires budget { asked.now.budget ≤ MOST_WORDS }
+) -> Result<(), Unfound>
+    requires entries { IsSomeCertificate (E.list search.now.entries.now) }
+    requires budget { search.now.asked.now.budget ≤ MOST_WORDS }
     requires fits { IsWithin part.now }
     requires here { AreSoundHulls here.now }
 {
     match part {
-        Part::Row(row) => {
-            let fronts = row_fronts(alloc, entries, asked, row, here)?;
-            row_back(alloc, entries, asked, row, fronts, goal, trail)
-        }
+        Part::Row(row) => row_before(search, row, here, trail),
         Part::Then(first, second) => {
-            let between = behind_part(first, alloc, entries, asked, here)?;
-            let goal = part_before(second, alloc, entries, asked, &between, goal, trail)?;
-            part_before(first, alloc, entries, asked, here, goal, trail)
+            let between = behind_part(first, search, here)?;
+            part_before(second, search, &between, trail)?;
+            part_before(first, search, here, trail)
         }
         Part::Either(one, other) => {
-            let branch = if leads_through(one, alloc, entries, asked, here, &goal)? {
+            let branch = if leads_through(one, search, here, &trail.goal)? {
                 one
             } else {
                 other
             };
-            part_before(branch, alloc, entries, asked, here, goal, trail)
+            part_before(branch, search, here, trail)
         }
         Part::Repeat { least, most, body } => {
-            let turns = (*least, *most);
-            let fronts = turn_fronts(body, alloc, entries, asked, turns, here, &goal)?;
-            turns_back(body, alloc, entries, asked, fronts, goal, trail)
+            let fronts = turn_fronts(body, search, (*least, *most), here, &trail.goal)?;
+            turns_back(body, search, fronts, trail)
         }
     }
 }
 
-/// Adds items of turns of a part that lead to a goal, in front of all others. `fronts` are the hulls before each turn. What the items
-/// before the turns have to lead to.
+/// Adds items of turns of a part that lead to the goal, in front of all others. `fronts` are the hulls before each turn.
 #[tactic(auto, using(crate::proofs::Sounds::fronts_last, crate::proofs::Sounds::fronts_rest))]
 #[cycle(part_before)]
 #[inline(never)]
 fn turns_back<E: Entries>(
     body: &Part,
-    alloc: Global,
-    entries: &E,
-    asked: &Asked,
+    search: &Search<E>,
     fronts: Vec<Vec<Hull>>,
-    goal: Goal,
     trail: &mut Trail,
-) -> Result<Goal, Unfound>
-    requires entries { IsSomeCertificate (E.list entries.now) }
-    requires budget { asked.now.budget ≤ MOST_WORDS }
+) -> Result<(), Unfound>
+    requires entries { IsSomeCertificate (E.list search.now.entries.now) }
+    requires budget { search.now.asked.now.budget ≤ MOST_WORDS }
     requires fits { IsWithin body.now }
     requires fronts { AreSoundFronts fronts.items }
 {
     let mut fronts = fronts;
-    let mut goal = goal;
     while let Some(here) = fronts.pop() {
-        goal = part_before(body, alloc, entries, asked, &here, goal, trail)?;
+        part_before(body, search, &here, trail)?;
     }
-    Ok(goal)
+    Ok(())
 }
 
 /// Whether a piece allows a JSRL to a word address.
@@ -379,22 +377,19 @@ fn calls(kind: &PieceKind, to: u16) -> bool {
 /// The item of a piece at which to stop, and what the items before it have to lead to. `fault` is the rule of the lowest number that some
 /// item of the piece breaks.
 fn stop_at<E: Entries>(
-    alloc: Global,
-    entries: &E,
-    asked: &Asked,
-    stop: &Stop,
+    search: &Search<E>,
     piece: &Piece,
     fault: Option<RecipeFault>,
     here: &[Hull],
 ) -> Result<Option<(Written, Goal)>, Unfound>
-    requires entries { IsSomeCertificate (E.list entries.now) }
+    requires entries { IsSomeCertificate (E.list search.now.entries.now) }
     requires fits { PieceFits piece.now.kind }
     requires here { AreSoundHulls here.now }
 {
-    match (*stop, fault) {
+    match (*search.stop, fault) {
         (Stop::Fault, Some(fault)) => {
             let sought = Sought::Fault(fault.why);
-            let found = item_from(alloc, entries, asked, &piece.kind, here, &sought)?;
+            let found = item_from(search, &piece.kind, here, &sought)?;
             Ok(Some(found))
         }
         (Stop::Call { to, scale }, _) if calls(&piece.kind, to) => {
@@ -410,102 +405,91 @@ fn stop_at<E: Entries>(
     }
 }
 
-/// Finds the first place in a row at which to stop: adds the items of the row up to there in front of all others, and those behind it
-/// behind all others, and answers what the items before the row have to lead to. `None` if there is none: then the hulls behind the row
-/// are added to `next`.
+/// Finds the first place in a row at which to stop, as `find_in` does.
 #[tactic(auto, using(crate::proofs::Sounds::fronts_none, crate::proofs::Sounds::piece_at))]
 #[inline(never)]
 fn find_in_row<E: Entries>(
     row: &[Piece],
-    alloc: Global,
-    entries: &E,
-    asked: &Asked,
-    stop: &Stop,
+    search: &Search<E>,
     here: &[Hull],
     trail: &mut Trail,
     next: &mut Vec<Hull>,
-) -> Result<Option<Goal>, Unfound>
-    requires entries { IsSomeCertificate (E.list entries.now) }
-    requires budget { asked.now.budget ≤ MOST_WORDS }
+) -> Result<bool, Unfound>
+    requires entries { IsSomeCertificate (E.list search.now.entries.now) }
+    requires budget { search.now.asked.now.budget ≤ MOST_WORDS }
     requires fits { RowFits row.now }
     requires here { AreSoundHulls here.now }
     requires next { AreSoundHulls next.old.items }
     ensures { IfOk result (λ _. AreSoundHulls next.new.items) }
 {
+    let alloc = search.alloc;
     let mut fronts = Vec::new(alloc);
     let mut here = Vec::from_slice(alloc, here)?;
     for (index, piece) in row.iter().enumerate() {
         let mut notes = Notes::new(alloc);
-        let behind = past_piece(alloc, entries, asked, &mut notes, piece, &here)?;
-        let found = stop_at(alloc, entries, asked, stop, piece, notes.fault(), &here)?;
+        let behind = past_piece(
+            alloc,
+            search.entries,
+            search.asked,
+            &mut notes,
+            piece,
+            &here,
+        )?;
+        let found = stop_at(search, piece, notes.fault(), &here)?;
         if let Some((item, goal)) = found {
-            trail.push_before(item)?;
+            trail.push_before(item, goal)?;
             trail.push_row(&row[index + 1..])?;
-            return Ok(Some(row_back(alloc, entries, asked, row, fronts, goal, trail)?));
+            row_back(search, row, fronts, trail)?;
+            return Ok(true);
         }
         keep(&mut fronts, here)?;
         here = behind;
     }
     add_all(next, &here)?;
-    Ok(None)
+    Ok(false)
 }
 
-/// Finds the first place in a part, in the order of reading with repeats written out, at which to stop: adds the items of the part up to
-/// there in front of all others, and items of what follows in the part behind all others, and answers what the items before the part
-/// have to lead to. `None` if there is none: then the hulls behind the part are added to `next`.
+/// Finds the first place in a part, in the order of reading with repeats written out, at which to stop, and answers whether there is one:
+/// then the items of the part up to there are added in front of all others, and items of what follows in the part behind all others. Else
+/// the hulls behind the part are added to `next`.
 #[tactic(auto, using(crate::proofs::Sounds::none_sound))]
 #[cycle(find_in)]
 fn find_in<E: Entries>(
     part: &Part,
-    alloc: Global,
-    entries: &E,
-    asked: &Asked,
-    stop: &Stop,
+    search: &Search<E>,
     here: &[Hull],
     trail: &mut Trail,
     next: &mut Vec<Hull>,
-) -> Result<Option<Goal>, Unfound>
-    requires entries { IsSomeCertificate (E.list entries.now) }
-    requires budget { asked.now.budget ≤ MOST_WORDS }
+) -> Result<bool, Unfound>
+    requires entries { IsSomeCertificate (E.list search.now.entries.now) }
+    requires budget { search.now.asked.now.budget ≤ MOST_WORDS }
     requires fits { IsWithin part.now }
     requires here { AreSoundHulls here.now }
     requires next { AreSoundHulls next.old.items }
     ensures { IfOk result (λ _. AreSoundHulls next.new.items) }
 {
     match part {
-        Part::Row(row) => find_in_row(row, alloc, entries, asked, stop, here, trail, next),
+        Part::Row(row) => find_in_row(row, search, here, trail, next),
         Part::Then(first, second) => {
-            let mut between = Vec::new(alloc);
-            if let Some(goal) = find_in(
-                first,
-                alloc,
-                entries,
-                asked,
-                stop,
-                here,
-                trail,
-                &mut between,
-            )? {
+            let mut between = Vec::new(search.alloc);
+            if find_in(first, search, here, trail, &mut between)? {
                 push_part(second, trail)?;
-                return Ok(Some(goal));
+                return Ok(true);
             }
-            match find_in(second, alloc, entries, asked, stop, &between, trail, next)? {
-                Some(goal) => {
-                    let before = part_before(first, alloc, entries, asked, here, goal, trail)?;
-                    Ok(Some(before))
-                }
-                None => Ok(None),
+            if !find_in(second, search, &between, trail, next)? {
+                return Ok(false);
             }
+            part_before(first, search, here, trail)?;
+            Ok(true)
         }
         Part::Either(one, other) => {
-            match find_in(one, alloc, entries, asked, stop, here, trail, next)? {
-                Some(goal) => Ok(Some(goal)),
-                None => find_in(other, alloc, entries, asked, stop, here, trail, next),
+            if find_in(one, search, here, trail, next)? {
+                return Ok(true);
             }
+            find_in(other, search, here, trail, next)
         }
         Part::Repeat { least, most, body } => {
-            let turns = (*least, *most);
-            find_in_turns(body, alloc, entries, asked, stop, turns, here, trail, next)
+            find_in_turns(body, search, (*least, *most), here, trail, next)
         }
     }
 }
@@ -516,114 +500,97 @@ fn find_in<E: Entries>(
 #[inline(never)]
 fn find_in_turns<E: Entries>(
     body: &Part,
-    alloc: Global,
-    entries: &E,
-    asked: &Asked,
-    stop: &Stop,
+    search: &Search<E>,
     turns: (u16, u16),
     here: &[Hull],
     trail: &mut Trail,
     next: &mut Vec<Hull>,
-) -> Result<Option<Goal>, Unfound>
-    requires entries { IsSomeCertificate (E.list entries.now) }
-    requires budget { asked.now.budget ≤ MOST_WORDS }
+) -> Result<bool, Unfound>
+    requires entries { IsSomeCertificate (E.list search.now.entries.now) }
+    requires budget { search.now.asked.now.budget ≤ MOST_WORDS }
     requires fits { IsWithin body.now }
     requires here { AreSoundHulls here.now }
     requires next { AreSoundHulls next.old.items }
     ensures { IfOk result (λ _. AreSoundHulls next.new.items) }
 {
     let (least, most) = turns;
-    let mut fronts = Vec::new(alloc);
-    let mut here = Vec::from_slice(alloc, here)?;
+    let mut fronts = Vec::new(search.alloc);
+    let mut here = Vec::from_slice(search.alloc, here)?;
     for turn in 0..most {
         if turn >= least {
             add_all(next, &here)?;
         }
-        let mut behind = Vec::new(alloc);
-        let found = find_in(body, alloc, entries, asked, stop, &here, trail, &mut behind)?;
-        if let Some(goal) = found {
+        let mut behind = Vec::new(search.alloc);
+        if find_in(body, search, &here, trail, &mut behind)? {
             trail.push_turn(turn + 1)?;
             push_turns(body, least.saturating_sub(turn + 1), trail)?;
-            let before = turns_back(body, alloc, entries, asked, fronts, goal, trail)?;
-            return Ok(Some(before));
+            turns_back(body, search, fronts, trail)?;
+            return Ok(true);
         }
         keep(&mut fronts, here)?;
         here = behind;
     }
     add_all(next, &here)?;
-    Ok(None)
+    Ok(false)
 }
 
-/// Finds the place at which to stop in a jump and what stands behind it, as `find_in` does. What the items before the jump have to lead
-/// to.
+/// Finds the place at which to stop in a jump and what stands behind it, as `find_in` does.
 fn find_in_jump<E: Entries>(
     jump: &Jump,
-    alloc: Global,
-    entries: &E,
-    asked: &Asked,
-    stop: &Stop,
+    search: &Search<E>,
     here: &[Hull],
     trail: &mut Trail,
     next: &mut Vec<Hull>,
-) -> Result<Option<Goal>, Unfound>
-    requires entries { IsSomeCertificate (E.list entries.now) }
-    requires budget { asked.now.budget ≤ MOST_WORDS }
+) -> Result<bool, Unfound>
+    requires entries { IsSomeCertificate (E.list search.now.entries.now) }
+    requires budget { search.now.asked.now.budget ≤ MOST_WORDS }
     requires fits { IsWithin jump.now.body }
     requires here { AreSoundHulls here.now }
     requires next { AreSoundHulls next.old.items }
     ensures { IfOk result (λ _. AreSoundHulls next.new.items) }
 {
-    let mut notes = Notes::new(alloc);
-    let there = past_jump(alloc, asked, &mut notes, Some(jump.number), here)?;
-    if let (Stop::Fault, Some(_), Some(goal)) = (*stop, notes.fault(), most_words(here)) {
+    let mut notes = Notes::new(search.alloc);
+    let number = Some(jump.number);
+    let there = past_jump(search.alloc, search.asked, &mut notes, number, here)?;
+    if let (Stop::Fault, Some(_), Some(goal)) = (*search.stop, notes.fault(), most_words(here)) {
         trail.push_jump_before(jump.area.first)?;
+        trail.goal = goal;
         push_part(&jump.body, trail)?;
-        return Ok(Some(goal));
+        return Ok(true);
     }
-    match find_in(&jump.body, alloc, entries, asked, stop, &there, trail, next)? {
-        Some(goal) => {
-            trail.push_jump_before(jump.area.first)?;
-            Ok(Some(goal.before_jump()))
-        }
-        None => Ok(None),
+    if !find_in(&jump.body, search, &there, trail, next)? {
+        return Ok(false);
     }
+    trail.push_jump_before(jump.area.first)?;
+    Ok(true)
 }
 
-/// Adds jumps, with items of what stands behind each, that lead to a goal, in front of all others. `fronts` are the hulls before each
-/// jump. What the items before the jumps have to lead to.
+/// Adds jumps, with items of what stands behind each, that lead to the goal, in front of all others. `fronts` are the hulls before each
+/// jump.
 #[tactic(auto, using(crate::proofs::Sounds::fronts_last, crate::proofs::Sounds::fronts_rest))]
 fn jumps_back<E: Entries>(
     jumps: &[Jump],
-    alloc: Global,
-    entries: &E,
-    asked: &Asked,
+    search: &Search<E>,
     fronts: Vec<Vec<Hull>>,
-    goal: Goal,
     trail: &mut Trail,
-) -> Result<Goal, Unfound>
-    requires entries { IsSomeCertificate (E.list entries.now) }
-    requires budget { asked.now.budget ≤ MOST_WORDS }
+) -> Result<(), Unfound>
+    requires entries { IsSomeCertificate (E.list search.now.entries.now) }
+    requires budget { search.now.asked.now.budget ≤ MOST_WORDS }
     requires fits { AreWithin jumps.now }
     requires fronts { AreSoundFronts fronts.items }
 {
     let mut fronts = fronts;
-    let mut goal = goal;
     while let Some(here) = fronts.pop() {
         let Some(jump) = jumps.get(fronts.len()) else {
             return Err(Unfound::NoFrame);
         };
-        let there = past_jump(
-            alloc,
-            asked,
-            &mut Notes::new(alloc),
-            Some(jump.number),
-            &here,
-        )?;
-        let between = part_before(&jump.body, alloc, entries, asked, &there, goal, trail)?;
+        let notes = &mut Notes::new(search.alloc);
+        let number = Some(jump.number);
+        let there = past_jump(search.alloc, search.asked, notes, number, &here)?;
+        part_before(&jump.body, search, &there, trail)?;
         trail.push_jump_before(jump.area.first)?;
-        goal = between.before_jump();
     }
-    Ok(goal)
+    Ok(())
 }
 
 /// What all items up to the HALT have to lead to.
@@ -644,70 +611,62 @@ fn end_goal(asked: &Asked, stop: &Stop, here: &[Hull]) -> Option<Goal>
     }
 }
 
-/// Finds the place at which to stop in jumps, in what stands behind each, or at the HALT. What the items before the jumps have to lead
-/// to.
+/// Finds the place at which to stop in jumps, in what stands behind each, or at the HALT, and adds items that lead there from the first
+/// jump on.
 #[tactic(auto, using(crate::proofs::Sounds::fronts_none, crate::proofs::Sounds::none_sound))]
 fn find_in_jumps<E: Entries>(
     jumps: &[Jump],
-    alloc: Global,
-    entries: &E,
-    asked: &Asked,
-    stop: &Stop,
+    search: &Search<E>,
     here: Vec<Hull>,
     trail: &mut Trail,
-) -> Result<Goal, Unfound>
-    requires entries { IsSomeCertificate (E.list entries.now) }
-    requires budget { asked.now.budget ≤ MOST_WORDS }
+) -> Result<(), Unfound>
+    requires entries { IsSomeCertificate (E.list search.now.entries.now) }
+    requires budget { search.now.asked.now.budget ≤ MOST_WORDS }
     requires fits { AreWithin jumps.now }
     requires here { AreSoundHulls here.items }
 {
-    let mut fronts = Vec::new(alloc);
+    let mut fronts = Vec::new(search.alloc);
     let mut here = here;
     for (index, jump) in jumps.iter().enumerate() {
-        let mut next = Vec::new(alloc);
-        let found = find_in_jump(jump, alloc, entries, asked, stop, &here, trail, &mut next)?;
-        if let Some(goal) = found {
+        let mut next = Vec::new(search.alloc);
+        if find_in_jump(jump, search, &here, trail, &mut next)? {
             trail.push_jumps(&jumps[index + 1..])?;
-            return jumps_back(jumps, alloc, entries, asked, fronts, goal, trail);
+            return jumps_back(jumps, search, fronts, trail);
         }
         keep(&mut fronts, here)?;
         here = next;
     }
-    match end_goal(asked, stop, &here) {
-        Some(goal) => jumps_back(jumps, alloc, entries, asked, fronts, goal, trail),
-        None => Err(Unfound::NoFrame),
-    }
+    trail.goal = end_goal(search.asked, search.stop, &here).ok_or(Unfound::NoFrame)?;
+    jumps_back(jumps, search, fronts, trail)
 }
 
-/// Finds the place at which to stop in what stands in lists and behind them. What the items before the list have to lead to.
+/// Finds the place at which to stop in what stands in lists and behind them, and adds items that lead there from the list on.
 #[tactic(auto, using(crate::proofs::Sounds::none_sound))]
 fn find_in_recipe<E: Entries>(
-    alloc: Global,
-    entries: &E,
-    asked: &Asked,
-    stop: &Stop,
+    search: &Search<E>,
     recipe: &Recipe,
     trail: &mut Trail,
-) -> Result<Goal, Unfound>
-    requires entries { IsSomeCertificate (E.list entries.now) }
-    requires budget { asked.now.budget ≤ MOST_WORDS }
+) -> Result<(), Unfound>
+    requires entries { IsSomeCertificate (E.list search.now.entries.now) }
+    requires budget { search.now.asked.now.budget ≤ MOST_WORDS }
 {
+    let alloc = search.alloc;
     let mut notes = Notes::new(alloc);
-    let first = starts(alloc, asked, &mut notes, recipe.lists())?;
-    if let (Stop::Fault, Some(_)) = (*stop, notes.fault()) {
+    let first = starts(alloc, search.asked, &mut notes, recipe.lists())?;
+    if let (Stop::Fault, Some(_)) = (*search.stop, notes.fault()) {
+        trail.goal = most_words(&first).ok_or(Unfound::NoFrame)?;
         push_part(recipe.body(), trail)?;
         trail.push_jumps(recipe.jumps())?;
-        return most_words(&first).ok_or(Unfound::NoFrame);
+        return Ok(());
     }
     let body = recipe.body();
     let mut next = Vec::new(alloc);
-    if let Some(goal) = find_in(body, alloc, entries, asked, stop, &first, trail, &mut next)? {
+    if find_in(body, search, &first, trail, &mut next)? {
         trail.push_jumps(recipe.jumps())?;
-        return Ok(goal);
+        return Ok(());
     }
-    let jumps = recipe.jumps();
-    let goal = find_in_jumps(jumps, alloc, entries, asked, stop, next, trail)?;
-    part_before(body, alloc, entries, asked, &first, goal, trail)
+    find_in_jumps(recipe.jumps(), search, next, trail)?;
+    part_before(body, search, &first, trail)
 }
 
 /// The word address of a list that leads to a goal: one at 000 has no word before it, and others have the JMPL to them.
@@ -731,26 +690,23 @@ pub struct LeadingFrame {
 
 /// The words of a frame of a recipe over a ROM that leads to where it has to stop.
 fn find_words<E: Entries>(
-    alloc: Global,
     rom: &RomImage,
-    entries: &E,
-    asked: &Asked,
-    stop: &Stop,
+    search: &Search<E>,
     recipe: &Recipe,
 ) -> Result<LeadingFrame, Unfound>
-    requires entries { IsSomeCertificate (E.list entries.now) }
-    requires budget { asked.now.budget ≤ MOST_WORDS }
+    requires entries { IsSomeCertificate (E.list search.now.entries.now) }
+    requires budget { search.now.asked.now.budget ≤ MOST_WORDS }
 {
-    let mut trail = Trail::new(alloc);
-    let goal = find_in_recipe(alloc, entries, asked, stop, recipe, &mut trail)?;
-    let Some(first) = list_of(recipe.lists(), &goal) else {
+    let mut trail = Trail::new(search.alloc);
+    find_in_recipe(search, recipe, &mut trail)?;
+    let Some(first) = list_of(recipe.lists(), &trail.goal) else {
         return Err(Unfound::NoFrame);
     };
     if first > 0 {
         trail.push_jump_before(first)?;
     }
     let Trailed { items, turns } = trail.into_trailed()?;
-    let words = frame_words(alloc, rom, &items)?;
+    let words = frame_words(search.alloc, rom, &items)?;
     Ok(LeadingFrame { words, turns })
 }
 
@@ -766,7 +722,13 @@ pub fn find<E: Entries>(
     requires entries { IsSomeCertificate (E.list entries.now) }
     requires budget { asked.now.budget ≤ MOST_WORDS }
 {
-    match find_words(alloc, rom, entries, asked, stop, recipe) {
+    let search = Search {
+        alloc,
+        entries,
+        asked,
+        stop,
+    };
+    match find_words(rom, &search, recipe) {
         Ok(leading) => Ok(Some(leading)),
         Err(Unfound::NoFrame) => Ok(None),
         Err(Unfound::Memory) => Err(AllocError),
