@@ -1,1 +1,0 @@
-use Rattle.dvg_recipe.proofs.changes.instr_act.Goals as goal

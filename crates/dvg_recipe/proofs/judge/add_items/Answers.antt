@@ -1,1 +1,0 @@
-use Rattle.dvg_recipe.proofs.judge.add_items.Goals as goal
