@@ -78,48 +78,46 @@ fn past_piece(
     Ok(next)
 }
 
-/// The indices behind the items that a row allows.
+/// Takes indices to those behind the items that a row allows.
 #[inline(never)]
 fn past_row(
     alloc: Global,
     places: &KnownPlaces<'_>,
     tried: &mut Tried,
     row: &[Piece],
-    here: Vec<usize>,
-) -> Result<Vec<usize>, AllocError>
-    ensures { IfOk result (λ next. IsPast (RowLeads row.now places.now) here.items next.items) }
+    here: &mut Vec<usize>,
+) -> Result<(), AllocError>
+    ensures { IfOk result (λ _. IsPast (RowLeads row.now places.now) here.old.items here.new.items) }
 {
-    let mut here = here;
     for piece in row {
-        tried.note(piece.number, &here)?;
-        here = past_piece(alloc, places, piece, &here)?;
+        tried.note(piece.number, here)?;
+        *here = past_piece(alloc, places, piece, here)?;
     }
-    Ok(here)
+    Ok(())
 }
 
-/// The indices behind the items that a part spells.
+/// Takes indices to those behind the items that a part spells.
 #[cycle(past_part)]
 fn past_part(
     part: &Part,
     alloc: Global,
     places: &KnownPlaces<'_>,
     tried: &mut Tried,
-    here: Vec<usize>,
-) -> Result<Vec<usize>, AllocError>
-    ensures { IfOk result (λ next. IsPast (PartLeads part.now places.now) here.items next.items) }
+    here: &mut Vec<usize>,
+) -> Result<(), AllocError>
+    ensures { IfOk result (λ _. IsPast (PartLeads part.now places.now) here.old.items here.new.items) }
 {
     match part {
         Part::Row(row) => past_row(alloc, places, tried, row, here),
         Part::Then(first, second) => {
-            let between = past_part(first, alloc, places, tried, here)?;
-            past_part(second, alloc, places, tried, between)
+            past_part(first, alloc, places, tried, here)?;
+            past_part(second, alloc, places, tried, here)
         }
         Part::Either(one, other) => {
-            let copy = Vec::from_slice(alloc, &here)?;
-            let mut next = past_part(one, alloc, places, tried, copy)?;
-            let more = past_part(other, alloc, places, tried, here)?;
-            add_all(&mut next, &more)?;
-            Ok(next)
+            let mut more = Vec::from_slice(alloc, here)?;
+            past_part(one, alloc, places, tried, here)?;
+            past_part(other, alloc, places, tried, &mut more)?;
+            add_all(here, &more)
         }
         Part::Repeat { least, most, body } => {
             past_repeat(body, alloc, places, tried, *least, *most, here)
@@ -127,7 +125,7 @@ fn past_part(
     }
 }
 
-/// The indices behind `least` to `most` turns of a part.
+/// Takes indices to those behind `least` to `most` turns of a part.
 #[cycle(past_part)]
 #[inline(never)]
 fn past_repeat(
@@ -137,32 +135,34 @@ fn past_repeat(
     tried: &mut Tried,
     least: u16,
     most: u16,
-    here: Vec<usize>,
-) -> Result<Vec<usize>, AllocError>
-    ensures { IfOk result (λ next. IsPast (Turns least most (PartLeads body.now places.now)) here.items next.items) }
+    here: &mut Vec<usize>,
+) -> Result<(), AllocError>
+    ensures { IfOk result (λ _. IsPast (Turns least most (PartLeads body.now places.now)) here.old.items here.new.items) }
 {
     if most < least {
-        return Ok(Vec::new(alloc));
+        *here = Vec::new(alloc);
+        return Ok(());
     }
-    let mut here = here;
     for _ in 0..least {
-        let before = Vec::from_slice(alloc, &here)?;
-        here = past_part(body, alloc, places, tried, here)?;
-        if here == before {
+        let before = Vec::from_slice(alloc, here)?;
+        past_part(body, alloc, places, tried, here)?;
+        if *here == before {
             // each further turn changes nothing either
-            return Ok(here);
+            return Ok(());
         }
     }
-    let mut next = Vec::from_slice(alloc, &here)?;
+    let mut next = Vec::from_slice(alloc, here)?;
     for _ in least..most {
-        here = past_part(body, alloc, places, tried, here)?;
-        if has_all(&next, &here) {
+        past_part(body, alloc, places, tried, here)?;
+        if has_all(&next, here) {
             // each further turn adds nothing either
-            return Ok(next);
+            *here = next;
+            return Ok(());
         }
-        add_all(&mut next, &here)?;
+        add_all(&mut next, here)?;
     }
-    Ok(next)
+    *here = next;
+    Ok(())
 }
 
 /// Whether a jump to a word address stands at an index.
@@ -208,8 +208,9 @@ fn past_jumps(
     let mut here = here;
     for jump in jumps {
         tried.note(jump.number, &here)?;
-        let there = past_jump(alloc, places, jump.area.first, &here)?;
-        here = past_part(&jump.body, alloc, places, tried, there)?;
+        let mut there = past_jump(alloc, places, jump.area.first, &here)?;
+        past_part(&jump.body, alloc, places, tried, &mut there)?;
+        here = there;
     }
     Ok(here)
 }
@@ -251,8 +252,8 @@ fn past_recipe(
 ) -> Result<Vec<usize>, AllocError>
     ensures { IfOk result (λ here. AreThose (RecipeLeads recipe.now places.now) here.items) }
 {
-    let here = starts(alloc, places, recipe.lists())?;
-    let here = past_part(recipe.body(), alloc, places, tried, here)?;
+    let mut here = starts(alloc, places, recipe.lists())?;
+    past_part(recipe.body(), alloc, places, tried, &mut here)?;
     let here = past_jumps(alloc, places, tried, recipe.jumps(), here)?;
     tried.note(recipe.halt(), &here)?;
     Ok(here)
