@@ -41,7 +41,8 @@ module _ {R : Type 0} (remaining : R → Option (List ℕ)) (failures : R → �
   abbrev pub AnswersFrame : Option R → Membership → Type 0
   AnswersFrame None membership = membership ≡ member.Unread
   AnswersFrame (Some reader) membership =
-      (left : R) × (bytes : List ℕ) × (is_unread membership ≡ false → SaysOf rom recipe (remaining reader) (remaining left) bytes membership)
+      (left : R) × (bytes : List ℕ)
+      × (is_unread membership ≡ false → SaysOf rom recipe (remaining reader) (remaining left) bytes membership)
       × (failures left ≡ count_after (is_unread membership) (failures reader))
 
   -- the line of a frame: its name, the answer to it, and behind the line what the detail asks for
@@ -118,7 +119,8 @@ pub record ReportsRefusal
 
 -- a prefix of one was written
 pub record ReportsRefusalPrefix
-    (rom : List ℕ) (map : MemoryMap) (given : Result ReadRecipe RecipeTextFault) (detail : Detail) (old new : Option (List ℕ)) : Type 0 where
+    (rom : List ℕ) (map : MemoryMap) (given : Result ReadRecipe RecipeTextFault) (detail : Detail)
+    (old new : Option (List ℕ)) : Type 0 where
   pub refusal : RecipeNo
   pub refuses : RefusesRecipe rom map given refusal
   pub writes_it : WritesRefusalPrefix detail refusal old new
