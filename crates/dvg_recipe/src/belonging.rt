@@ -35,7 +35,8 @@ pub struct Leaving {
 pub enum NotMember {
     /// It is none.
     Leaves(Leaving),
-    /// There was no memory to find out, or a shape that a draw's place depends on needs more entries than a certificate may have.
+    /// There was no memory to find out, or a shape that a draw's place depends on needs by itself more entries than a certificate may
+    /// have.
     Memory,
 }
 

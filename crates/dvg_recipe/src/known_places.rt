@@ -1,12 +1,15 @@
 //! What is known behind the items of a frame, by made entries.
 
-ghost use Rattle.std.specs.Prelude.{◌≡◌, ◌↔◌, ◌<◌, ◌+◌, ◌∷◌, List, IsTrue, IfOk, IfSome, take, reverse};
+ghost use Rattle.std.specs.Prelude.{◌≡◌, ◌↔◌, ◌<◌, ◌+◌, ◌∷◌, List, Some, IsTrue, OnOk, IfOk, IfErr, IfSome, take, reverse};
 ghost use Rattle.dvg_words.specs.declared.map.TheConstants.{ADDRESS_END};
 ghost use Rattle.dvg_words.specs.Decoding.{InstrFits};
 ghost use Rattle.dvg_cert.specs.Entry.{IsKey};
+ghost use Rattle.dvg_cert.specs.Lookup.{entry_at};
 ghost use Rattle.dvg_items.specs.declared.item.Kind.TheVariants.{Frame};
 ghost use Rattle.dvg_items.specs.Known.{target};
 ghost use Rattle.dvg_items.specs.Bounds.{IsClaim, IsSoundCursor};
+ghost use Rattle.dvg_make.specs.Made.{AllMade};
+ghost use Rattle.dvg_make.specs.Refusals.{BarsEntry};
 ghost use Rattle.dvg_recipe.specs.Recipes.{NamesMade, Names, ComesTo, IsPlaceIn, IsEndIn, LeadsInto, Arrives};
 ghost use Rattle.dvg_recipe.specs.Private.KnownPlaces.{AreFramesItems, AreKnownTo};
 
@@ -49,8 +52,8 @@ impl<'a> KnownPlaces<'a> {
         }
     }
 
-    /// The items of a frame, and what is known behind each of them. An `Err` says that this could not be found out: there was no memory, or a
-    /// shape that is called needs more entries than a certificate may have.
+    /// The items of a frame, and what is known behind each of them. An `Err` says that this could not be found out: there was no memory, or
+    /// a shape that is called needs by itself more entries than a certificate may have.
     pub fn find(
         alloc: Global,
         rom: &'a RomImage<'a>,
@@ -101,6 +104,24 @@ impl<'a> KnownPlaces<'a> {
     }
 }
 
+/// The entry of the shape at a word address, called at a scale. Where it and those that were made before would be too many for a
+/// certificate, it is made without them: a refusal forgets them.
+fn entry_alone(maker: &mut EntryMaker<'_>, to: u16, scale: Key) -> Result<Entry, EntryFault>
+    requires near { to < ADDRESS_END }
+    requires key { IsKey scale }
+    ensures rom { maker.new.rom ≡ maker.old.rom }
+    ensures ok { IfOk result (λ e. entry_at maker.new.list to scale ≡ Some e) }
+    ensures claim { IfOk result IsClaim }
+    ensures made { OnOk result (AllMade maker.new.rom maker.new.list) }
+    ensures err { IfErr result (BarsEntry maker.old.rom to scale) }
+{
+    match maker.entry(to, scale) {
+        Err(EntryFault::TooManyEntries) => maker.entry(to, scale),
+        Err(why) => Err(why),
+        Ok(entry) => Ok(entry),
+    }
+}
+
 /// The entry of the shape at a word address, called at a scale; `None` if it can't be made.
 fn made(maker: &mut EntryMaker<'_>, to: u16, scale: Key) -> Result<Option<Entry>, AllocError>
     requires near { to < ADDRESS_END }
@@ -109,7 +130,7 @@ fn made(maker: &mut EntryMaker<'_>, to: u16, scale: Key) -> Result<Option<Entry>
     ensures claim { IfOk result (λ named. IfSome named IsClaim) }
     ensures names { IfOk result (NamesMade maker.old.rom to scale) }
 {
-    match maker.entry(to, scale) {
+    match entry_alone(maker, to, scale) {
         Ok(entry) => Ok(Some(entry)),
         Err(EntryFault::Memory | EntryFault::TooManyEntries) => Err(AllocError),
         Err(EntryFault::Unstraight { .. } | EntryFault::Deep | EntryFault::TooManyWords) => Ok(

@@ -6,4 +6,4 @@ use Rattle.dvg_recipe.proofs.known_places.made.Goals as goal
 pub returns-in-Ok-clause-names : goal.returns-in-Ok-clause-names
 returns-in-Ok-clause-names c =
     let e = c.in-Ok.ensures in
-    (c.entry.new.self.list, subst (λ (r : Rom). AllMade r c.entry.new.self.list) e.rom e.made, e.ok)
+    (c.entry_alone.new.maker.list, subst (λ (r : Rom). AllMade r c.entry_alone.new.maker.list) e.rom e.made, e.ok)
