@@ -10,11 +10,14 @@ pub use Rattle.dvg_check.specs.declared.fault.Mode.{Mode}
 pub use Rattle.dvg_check.specs.declared.fault.ShapeWhy.{ShapeWhy}
 pub use Rattle.dvg_check.specs.declared.fault.FrameWhy.{FrameWhy}
 pub use Rattle.dvg_clocks.specs.declared.clocks.States.{States}
-pub use Rattle.dvg_clocks.specs.declared.clocks.Range.{Range}
+pub use Rattle.dvg_clocks.specs.declared.clocks.ClockRange.{ClockRange}
 pub use Rattle.dvg_clocks.specs.Clocks.{Measure, IsInRange, clocks_of_instr, words_of_instr, states_of, counts_of, taken_next, taken_after, TakenOnCircuit, RunTakes}
-pub use Rattle.dvg_clocks.specs.Forecasts.{Forecast, just, both, callee_taken, item_taken, taken_before, clocks_known, words_known, counts_known}
+pub use Rattle.dvg_clocks.specs.Forecasts.{Forecast, just, plus, callee_taken, item_taken, taken_before, clocks_known, words_known, counts_known}
 pub use Rattle.dvg_clocks.specs.Laws.{WordsAreTaken, IsTight, TightForecast, ClocksOnCircuit}
-pub use Rattle.dvg_clocks.specs.Sums.{item_in, items_on, items_past, items_from, sum_to, frame_sum, AreGood, IsAcceptedFrame, IsFirstOver, WORD_CLOCKS}
+pub use Rattle.dvg_clocks.specs.Sums.{item_in, items_on, items_past, items_from, sum_to, frame_sum, AreGood, IsAcceptedFrame, IsFirstOver}
+pub use Rattle.dvg_clocks.specs.Kept.{WORD_CLOCKS}
 unfoldable pub use Rattle.dvg_clocks.specs.Sums.{sum_of}
-pub use Rattle.dvg_clocks.specs.Private.Taking.{taken_at, taken_by, Took, TookBack, Takes, IsSumOfItems, IsRight, ForecastsAreRight, AllTake, FrameTakes, CircuitTakes, frame_taken, FewTaken, IsFew, FewClocks, SumsAreSums}
-pub use Rattle.dvg_clocks.specs.Private.Walking.{ScaleCursor, Kept, found_at, clocks_in, IsKeptToo, IsFewFor, AreAllFew, IsToldOf, AreTold, context_at, cursor_past, AreFew, IsWalkable, IsWhole, IsTaken, IsOver}
+pub use Rattle.dvg_clocks.specs.Private.Taking.{taken_at, taken_by, Took, TookBack, Takes, IsRight, ForecastsAreRight, AllTake, FrameTakes, CircuitTakes, frame_taken, FewTaken, IsFew, FewClocks, SumsAreSums}
+pub use Rattle.dvg_clocks.specs.Sums.{IsSumOfItems}
+pub use Rattle.dvg_clocks.specs.Private.Walking.{ScaleCursor, context_at, cursor_past, AreFew, IsWalkable, IsWhole, IsTaken, IsOver}
+pub use Rattle.dvg_clocks.specs.Kept.{Kept, found_at, clocks_in, IsKeptToo, IsFewFor, AreAllFew, IsToldOf, AreTold}

@@ -1,9 +1,9 @@
 -- A frame from any start to its halt.
-use Rattle.dvg_clocks.proofs.Common.{◌≡◌, ℕ, ◌+◌, ◌≤◌, zero, suc, List, [], ◌∷◌, ◌++◌, Option, Some, None, refl, sym, ◌∙◌, ap, subst, arith, Contains, Memory, State, Status, Running, Halted, Reached, start, IsMemory, frame_word, word_at, cell_at, next_status, places, Holds, Format, Instr, Halt, Point, origin, Entry, Item, Frame, LeadsTo, Context, frame_context, callee, scale_before, depth_before, depth_under, named_listed, Window, Machine, Mode, Good, GoodFrame, CellKeeps, FrameKeeps, FrameWhy, seen_at, Stands, Measure, Forecast, Range, IsInRange, IsRight, both, taken_before, frame_taken, taken_at, taken_by, Took, IsSumOfItems, FrameTakes}
+use Rattle.dvg_clocks.proofs.Common.{◌≡◌, ℕ, ◌+◌, ◌≤◌, zero, suc, List, [], ◌∷◌, ◌++◌, Option, Some, None, refl, sym, ◌∙◌, ap, subst, arith, Contains, Memory, State, Status, Running, Halted, Reached, start, IsMemory, frame_word, word_at, cell_at, next_status, places, Holds, Format, Instr, Halt, Point, origin, Entry, Item, Frame, LeadsTo, Context, frame_context, callee, scale_before, depth_before, depth_under, named_listed, Window, Machine, Mode, Good, GoodFrame, CellKeeps, FrameKeeps, FrameWhy, seen_at, Stands, Measure, Forecast, ClockRange, IsInRange, IsRight, plus, taken_before, frame_taken, taken_at, taken_by, Took, IsSumOfItems, FrameTakes}
 use Rattle.dvg_check.specs.declared.fault.FrameWhy.TheVariants as frame
 use Rattle.dvg_check.proofs.Runs.{reached_on, rest_of}
 use Rattle.dvg_check.proofs.Steps.{next_there, stands}
-use Rattle.dvg_clocks.proofs.Adding.{taken_on, in_both}
+use Rattle.dvg_clocks.proofs.Adding.{taken_on, in_plus}
 use Rattle.dvg_clocks.proofs.ShapeRuns.{Facts, arrive, all_take}
 
 -- ---- depth: these two are FrameLaws' of dvg_check, which are private there
@@ -19,13 +19,13 @@ depth_before-four a list three (i ∷ earlier) =
 -- ---- the halt
 
 -- a whole run, from a state to a halt
-pub record Halts (measure : Measure) (m : Memory) (range : Range) (s : State) : Type 0 where
+pub record Halts (measure : Measure) (m : Memory) (range : ClockRange) (s : State) : Type 0 where
   pub n : ℕ
   pub h : State
   pub reached : Reached m n (Running s) (Halted h)
   pub took : IsInRange range (taken_by measure m n (Running s))
 
-halt : (measure : Measure) (forecast : Forecast) (by_entry : Entry → Range) (m : Memory) (c : Context) (items : List Item) (at : ℕ) (format : Format) (base : Point) (s t : State) → IsRight measure forecast → IsMemory m → c.kind ≡ Frame → cell_at (frame_word m.rom.machine m.frame) at ≡ Holds format Halt
+halt : (measure : Measure) (forecast : Forecast) (by_entry : Entry → ClockRange) (m : Memory) (c : Context) (items : List Item) (at : ℕ) (format : Format) (base : Point) (s t : State) → IsRight measure forecast → IsMemory m → c.kind ≡ Frame → cell_at (frame_word m.rom.machine m.frame) at ≡ Holds format Halt
     → Took measure m (taken_before forecast by_entry c items) s t → Stands c base [] items at t → Halts measure m (taken_before forecast by_entry c (record { at = at; format = format; instr = Halt } ∷ items)) s
 halt measure forecast by_entry m c items at format base s t right mem kind is took st =
     let h : State = record t { fetched = places format t.pc ++ t.fetched } in
@@ -33,8 +33,8 @@ halt measure forecast by_entry m c items at format base s t right mem kind is to
     let step : next_status m t ≡ Halted h = next_there m t format Halt there in
     let value : measure format Halt t.scale ≡ taken_by measure m 1 (Running t) = omega (arith, ap (λ x. taken_at measure x t.scale) there) in
     let last = subst (IsInRange (forecast format Halt (scale_before c items))) value (right format Halt (scale_before c items) t.scale st.scale) in
-    let whole = in_both (taken_before forecast by_entry c items) (forecast format Halt (scale_before c items)) _ _ took.took last in
-    let all = subst (IsInRange (both (taken_before forecast by_entry c items) (forecast format Halt (scale_before c items)))) (sym (taken_on measure m took.steps 1 (Running s) (Running t) took.reached)) whole in
+    let whole = in_plus (taken_before forecast by_entry c items) (forecast format Halt (scale_before c items)) _ _ took.took last in
+    let all = subst (IsInRange (plus (taken_before forecast by_entry c items) (forecast format Halt (scale_before c items)))) (sym (taken_on measure m took.steps 1 (Running s) (Running t) took.reached)) whole in
     let none : callee c items Halt ≡ None = refl in
     record {
       n = took.steps + 1;
@@ -45,7 +45,7 @@ halt measure forecast by_entry m c items at format base s t right mem kind is to
 
 -- ---- the whole
 
-module _ (measure : Measure) (forecast : Forecast) (right : IsRight measure forecast) (by_entry : Entry → Range) (mode : Mode) (m : Memory) (w v : Window) (list : List Entry) (budget words depth : ℕ) (mem : IsMemory m) (three : (e : Entry) → Contains list e → e.depth ≤ 3) (good : Good mode w m.rom list) (sums : IsSumOfItems forecast m.rom list by_entry) (gf : GoodFrame v m.rom.machine m.frame list budget words depth) where
+module _ (measure : Measure) (forecast : Forecast) (right : IsRight measure forecast) (by_entry : Entry → ClockRange) (mode : Mode) (m : Memory) (w v : Window) (list : List Entry) (budget words depth : ℕ) (mem : IsMemory m) (three : (e : Entry) → Contains list e → e.depth ≤ 3) (good : Good mode w m.rom list) (sums : IsSumOfItems forecast m.rom list by_entry) (gf : GoodFrame v m.rom.machine m.frame list budget words depth) where
   frame_facts : (earlier : List Item) (i : Item) → LeadsTo Frame (frame_word m.rom.machine m.frame) 0 earlier i.at → cell_at (frame_word m.rom.machine m.frame) i.at ≡ Holds i.format i.instr → Facts measure by_entry m (frame_context m.rom.machine list) earlier i
   frame_facts earlier i lead is =
       let c = frame_context m.rom.machine list in

@@ -1,5 +1,5 @@
 -- What is kept of shapes, by the map that keeps it.
-use Rattle.dvg_clocks.proofs.Common.{◌≡◌, ℕ, Bool, List, [], ◌∷◌, refl, sym, ◌∙◌, ap, Key, Range, Kept, found_at}
+use Rattle.dvg_clocks.proofs.Common.{◌≡◌, ℕ, Bool, List, [], ◌∷◌, refl, sym, ◌∙◌, ap, Key, ClockRange, Kept, found_at}
 use Rattle.std.specs.Prelude.{◌==◌, ◌&&◌, nat_eq}
 use Rattle.std.specs.Map.{lookup}
 use Rattle.dvg_cert.specs.Lookup.{same_key}

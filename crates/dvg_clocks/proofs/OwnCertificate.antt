@@ -1,5 +1,5 @@
 -- A frame that is accepted by its own certificate is one whose clocks are added up.
-use Rattle.dvg_clocks.proofs.Common.{◌≡◌, ℕ, ◌≤◌, List, [], ◌∷◌, sym, ◌∙◌, subst, Entry, Window, Rom, Memory, Good, GoodFrame, AreGood, IsAcceptedFrame, IsFirstOver, Range, States}
+use Rattle.dvg_clocks.proofs.Common.{◌≡◌, ℕ, ◌≤◌, List, [], ◌∷◌, sym, ◌∙◌, subst, Entry, Window, Rom, Memory, Good, GoodFrame, AreGood, IsAcceptedFrame, IsFirstOver, ClockRange, States}
 use Rattle.std.specs.Prelude.{Result, Ok, Err}
 use Rattle.dvg_cert.specs.declared.limits.TheConstants.{MOST_WORDS}
 use Rattle.dvg_check.specs.declared.fault.Mode.TheVariants.{Exact}

@@ -1,5 +1,5 @@
 -- What the loop over the entries of a certificate keeps: those with fewer words come first.
-use Rattle.dvg_clocks.proofs.Common.{◌≡◌, ℕ, ◌+◌, ◌*◌, ◌≤◌, ◌<◌, Bool, true, List, [], ◌∷◌, length, Option, Some, None, refl, sym, ◌∙◌, ap, subst, arith, inl, inr, ◌⊎◌, ⊎_elim, Contains, Entry, Key, Rom, rom_word, Shape, Item, shape_context, words_before, Range, States, just, taken_before, clocks_known, sum_of, AreGood, WORD_CLOCKS, ScaleCursor, Kept, found_at, clocks_in, IsKeptToo, IsFewFor, AreAllFew, IsToldOf, AreTold, IsTaken, IsWalkable}
+use Rattle.dvg_clocks.proofs.Common.{◌≡◌, ℕ, ◌+◌, ◌*◌, ◌≤◌, ◌<◌, Bool, true, List, [], ◌∷◌, length, Option, Some, None, refl, sym, ◌∙◌, ap, subst, arith, inl, inr, ◌⊎◌, ⊎_elim, Contains, Entry, Key, Rom, rom_word, Shape, Item, shape_context, words_before, ClockRange, States, just, taken_before, clocks_known, sum_of, AreGood, WORD_CLOCKS, ScaleCursor, Kept, found_at, clocks_in, IsKeptToo, IsFewFor, AreAllFew, IsToldOf, AreTold, IsTaken, IsWalkable}
 use Rattle.std.specs.Prelude.{◌==◌, ◌&&◌, cond, false, get_or, unwrap_or, IfSome, IfNone, IsPermutation}
 use Rattle.std.specs.List.Sorted.{IsNonDecreasingBy}
 use Rattle.std.proofs.lemmas.List.{get_or_default}
@@ -76,7 +76,7 @@ module _ (t : States) (rom : Rom) (list order : List Entry) where
               nat_below : (i : ℕ) → ((n ≤ i) → ⊥) → i < n
               nat_below i not = grind (arith)
 
-      module _ (clocks : Range) (limit : ℕ) (taken : IsTaken t (rom_word rom) list kept (record { kind = Shape; at = e.addr; scale = e.key }) limit clocks) where
+      module _ (clocks : ClockRange) (limit : ℕ) (taken : IsTaken t (rom_word rom) list kept (record { kind = Shape; at = e.addr; scale = e.key }) limit clocks) where
         words_few : words_before (shape_context rom.machine list e) (taken.item ∷ taken.items) ≤ e.words
         words_few = rule good.mode rom good.window list e (good.good e here) taken.items taken.item taken.whole.lead taken.whole.is shape.TooManyWords
 

@@ -1,5 +1,5 @@
 -- What the loop over items keeps, and what follows where it stops.
-use Rattle.dvg_clocks.proofs.Common.{◌≡◌, ℕ, ◌+◌, ◌*◌, ◌≤◌, ◌<◌, List, [], ◌∷◌, Option, Some, None, refl, sym, ◌∙◌, ap, subst, arith, Contains, Entry, Key, Any, Rom, rom_word, Shape, Item, LeadsTo, next_address, shape_context, words_before, scale_before, Context, target, callee, callee_words, word_count, word_count-some, named_listed, Cell, Holds, Format, Instr, cell_at, Range, States, both, just, callee_taken, taken_before, clocks_known, sum_of, ShapeKeeps, seen_at, AreGood, WORD_CLOCKS, frame_sum, frame_context, frame_word, Frame, Halt, FrameKeeps, FrameWhy, CellKeeps, GoodFrame, Window, Memory, IsMemory, Board, IsAcceptedFrame, TakenOnCircuit, clocks_of_instr, ScaleCursor, Kept, AreTold, AreAllFew, IsFewFor, clocks_in, context_at, cursor_past, AreFew, IsWalkable, IsWhole, IsTaken, IsOver, IsFirstOver}
+use Rattle.dvg_clocks.proofs.Common.{◌≡◌, ℕ, ◌+◌, ◌*◌, ◌≤◌, ◌<◌, List, [], ◌∷◌, Option, Some, None, refl, sym, ◌∙◌, ap, subst, arith, Contains, Entry, Key, Any, Rom, rom_word, Shape, Item, LeadsTo, next_address, shape_context, words_before, scale_before, Context, target, callee, callee_words, word_count, word_count-some, named_listed, Cell, Holds, Format, Instr, cell_at, ClockRange, States, plus, just, callee_taken, taken_before, clocks_known, sum_of, ShapeKeeps, seen_at, AreGood, WORD_CLOCKS, frame_sum, frame_context, frame_word, Frame, Halt, FrameKeeps, FrameWhy, CellKeeps, GoodFrame, Window, Memory, IsMemory, Board, IsAcceptedFrame, TakenOnCircuit, clocks_of_instr, ScaleCursor, Kept, AreTold, AreAllFew, IsFewFor, clocks_in, context_at, cursor_past, AreFew, IsWalkable, IsWhole, IsTaken, IsOver, IsFirstOver}
 use Rattle.std.proofs.Math.Nat.{mul-add, mul-le-mul_left}
 use Rattle.std.specs.Prelude.{IfSome, IfOk, IfErr, Result, Ok, Err, unwrap_or}
 use Rattle.std.specs.Option.{option_map}
@@ -25,7 +25,7 @@ module _ (t : States) (source : Source) (list : List Entry) (kept : Kept) (first
   c = context_at source list first
 
   -- how the loop stands, before the item that is here
-  pub record Going (here : ScaleCursor) (sum : Range) : Type 0 where
+  pub record Going (here : ScaleCursor) (sum : ClockRange) : Type 0 where
     pub items : List Item
     pub leads : LeadsTo first.kind source first.at items here.at
     pub kind : here.kind ≡ first.kind
@@ -40,7 +40,7 @@ module _ (t : States) (source : Source) (list : List Entry) (kept : Kept) (first
   pub begins : IsKey first.scale → Going first (just 0)
   begins key = record { items = []; leads = refl; kind = refl; scale = refl; key = key; sum_is = refl; ordered = omega arith; few = omega arith; within = omega arith; below = omega arith }
 
-  module _ (walk : IsWalkable source list first) (here : ScaleCursor) (sum : Range) (k : Going here sum) where
+  module _ (walk : IsWalkable source list first) (here : ScaleCursor) (sum : ClockRange) (k : Going here sum) where
     -- there is an item
     pub stands : (format : Format) × (i : Instr) × (cell_at source here.at ≡ Holds format i)
     stands = walk.few.there k.items here.at k.leads
@@ -59,7 +59,7 @@ module _ (t : States) (source : Source) (list : List Entry) (kept : Kept) (first
       all_words : word_count format + callee_words called + words_before c k.items ≤ MOST_WORDS
       all_words = omega (arith, walk.few.few k.items item k.leads is, ap callee_words named, walk.within)
 
-      module _ (one : Range) (one_is : one ≡ both (clocks_known t format i here.scale) (callee_taken (clocks_in kept) called)) (one_ordered : one.least ≤ one.most) (one_few : one.most ≤ WORD_CLOCKS * (1 + callee_words called)) where
+      module _ (one : ClockRange) (one_is : one ≡ plus (clocks_known t format i here.scale) (callee_taken (clocks_in kept) called)) (one_ordered : one.least ≤ one.most) (one_few : one.most ≤ WORD_CLOCKS * (1 + callee_words called)) where
         few_here : one.most + sum.most ≤ WORD_CLOCKS * words_before c (item ∷ k.items)
         few_here =
             omega (arith, one_few, k.few, mul-add WORD_CLOCKS (1 + callee_words called) (words_before c k.items), mul-le-mul_left WORD_CLOCKS words_fit)
@@ -67,13 +67,13 @@ module _ (t : States) (source : Source) (list : List Entry) (kept : Kept) (first
             words_fit : 1 + callee_words called + words_before c k.items ≤ words_before c (item ∷ k.items)
             words_fit = omega (arith, word_count-some format, ap callee_words named)
 
-        sum_here : both one sum ≡ taken_before (clocks_known t) (clocks_in kept) c (item ∷ k.items)
+        sum_here : plus one sum ≡ taken_before (clocks_known t) (clocks_in kept) c (item ∷ k.items)
         sum_here = cc (one_is, named, k.scale, k.sum_is)
 
-        pub onward : one.most + sum.most ≤ limit → (next : ScaleCursor) → cursor_past here item called ≡ Some next → IsKey next.scale → Going next (both one sum)
+        pub onward : one.most + sum.most ≤ limit → (next : ScaleCursor) → cursor_past here item called ≡ Some next → IsKey next.scale → Going next (plus one sum)
         onward below next goes key = by (next_address here.kind item) refl
           where
-            by : (o : Option ℕ) → next_address here.kind item ≡ o → Going next (both one sum)
+            by : (o : Option ℕ) → next_address here.kind item ≡ o → Going next (plus one sum)
             by None is_o = absurd (grind (arith, goes, is_o))
             by (Some at) is_o =
                 record {
@@ -89,7 +89,7 @@ module _ (t : States) (source : Source) (list : List Entry) (kept : Kept) (first
                   below = below;
                 }
 
-        pub done : one.most + sum.most ≤ limit → cursor_past here item called ≡ None → IsTaken t source list kept first limit (both one sum)
+        pub done : one.most + sum.most ≤ limit → cursor_past here item called ≡ None → IsTaken t source list kept first limit (plus one sum)
         done below goes =
             record {
               items = k.items;
@@ -109,10 +109,10 @@ module _ (t : States) (source : Source) (list : List Entry) (kept : Kept) (first
               at_is = refl;
               lead = k.leads;
               is = is;
-              before = omega (arith, ap (λ (r : Range). r.most) k.sum_is, k.below);
-              over = omega (arith, ap (λ (r : Range). r.most) sum_here, more);
+              before = omega (arith, ap (λ (r : ClockRange). r.most) k.sum_is, k.below);
+              over = omega (arith, ap (λ (r : ClockRange). r.most) sum_here, more);
               words = omega (arith, all_words, ap callee_words named);
-              few = omega (arith, ap (λ (r : Range). r.most) sum_here, few_here, mul-le-mul_left WORD_CLOCKS here_fits);
+              few = omega (arith, ap (λ (r : ClockRange). r.most) sum_here, few_here, mul-le-mul_left WORD_CLOCKS here_fits);
             }
           where
             here_fits : words_before c (item ∷ k.items) ≤ MOST_WORDS
@@ -154,7 +154,7 @@ module _ (m : Memory) (w : Window) (list : List Entry) (budget words depth : ℕ
       let one : j ∷ items ≡ i ∷ gf.items = same_walk Frame (frame_word m.rom.machine m.frame) 0 items gf.items j i whole (record { lead = gf.leads; is = gf.halts; last = refl }) in
       ap (taken_before (clocks_known t) (sum_of (clocks_known t) m.rom list) f) one ∙ sym (frames_sum (clocks_known t) m w list budget words depth gf)
 
-pub frame_on_circuit : (t : States) (m : Memory) (list : List Entry) (words : ℕ) (range : Range) → IsMemory m → IsSomeCertificate list → AreGood m.rom list → IsAcceptedFrame m list words → range ≡ frame_sum (clocks_known t) m list words → m.rom.machine ≡ Board → TakenOnCircuit (clocks_of_instr t) m range
+pub frame_on_circuit : (t : States) (m : Memory) (list : List Entry) (words : ℕ) (range : ClockRange) → IsMemory m → IsSomeCertificate list → AreGood m.rom list → IsAcceptedFrame m list words → range ≡ frame_sum (clocks_known t) m list words → m.rom.machine ≡ Board → TakenOnCircuit (clocks_of_instr t) m range
 frame_on_circuit t m list words range mem certificate all gf is board =
     subst (TakenOnCircuit (clocks_of_instr t) m) (sym is) (clocks_on_circuit t all.mode m all.window gf.window list gf.budget words gf.depth mem board (λ e listed. (listed_claim list e certificate listed).depth) all.good gf.good)
 
@@ -178,7 +178,7 @@ module _ (m : Memory) (list : List Entry) (words : ℕ) (gf : IsAcceptedFrame m 
     as_told items = same_taken (clocks_known t) (clocks_in kept) (sum_of (clocks_known t) m.rom list) (frame_context m.rom.machine list) items (λ g h less. ap (λ o. unwrap_or o (just 0)) (told g h).told)
 
     -- in all, its sum
-    pub frame_is : (sum : Range) → (taken : IsTaken t (frame_word m.rom.machine m.frame) list kept (record { kind = Frame; at = 0; scale = Any }) limit sum) → sum ≡ frame_sum (clocks_known t) m list words
+    pub frame_is : (sum : ClockRange) → (taken : IsTaken t (frame_word m.rom.machine m.frame) list kept (record { kind = Frame; at = 0; scale = Any }) limit sum) → sum ≡ frame_sum (clocks_known t) m list words
     frame_is sum taken = taken.sum_is ∙ as_told (taken.item ∷ taken.items) ∙ accepted_sum t taken.items taken.item taken.whole
 
     pub frame_over : (at : ℕ) → IsOver t (frame_word m.rom.machine m.frame) list kept (record { kind = Frame; at = 0; scale = Any }) limit at → IsFirstOver t m list limit at
@@ -189,19 +189,19 @@ module _ (m : Memory) (list : List Entry) (words : ℕ) (gf : IsAcceptedFrame m 
           at_is = o.at_is;
           leads = o.lead;
           stands = o.is;
-          before = omega (arith, o.before, ap (λ (r : Range). r.most) (as_told o.items));
-          over = omega (arith, o.over, ap (λ (r : Range). r.most) (as_told (o.item ∷ o.items)));
+          before = omega (arith, o.before, ap (λ (r : ClockRange). r.most) (as_told o.items));
+          over = omega (arith, o.over, ap (λ (r : ClockRange). r.most) (as_told (o.item ∷ o.items)));
         }
 
     -- so for an answer
-    pub are : (r : Result Range ℕ) → IfOk r (IsTaken t (frame_word m.rom.machine m.frame) list kept (record { kind = Frame; at = 0; scale = Any }) limit) → IfOk r (λ sum. sum ≡ frame_sum (clocks_known t) m list words)
+    pub are : (r : Result ClockRange ℕ) → IfOk r (IsTaken t (frame_word m.rom.machine m.frame) list kept (record { kind = Frame; at = 0; scale = Any }) limit) → IfOk r (λ sum. sum ≡ frame_sum (clocks_known t) m list words)
     are (Ok sum) taken = frame_is sum taken
     are (Err at) h = tt
 
-    pub first_over : (r : Result Range ℕ) → IfErr r (IsOver t (frame_word m.rom.machine m.frame) list kept (record { kind = Frame; at = 0; scale = Any }) limit) → IfErr r (IsFirstOver t m list limit)
+    pub first_over : (r : Result ClockRange ℕ) → IfErr r (IsOver t (frame_word m.rom.machine m.frame) list kept (record { kind = Frame; at = 0; scale = Any }) limit) → IfErr r (IsFirstOver t m list limit)
     first_over (Ok sum) h = tt
     first_over (Err at) o = frame_over at o
 
-    pub on_circuit : IsMemory m → IsSomeCertificate list → AreGood m.rom list → (r : Result Range ℕ) → IfOk r (λ sum. sum ≡ frame_sum (clocks_known t) m list words) → m.rom.machine ≡ Board → IfOk r (TakenOnCircuit (clocks_of_instr t) m)
+    pub on_circuit : IsMemory m → IsSomeCertificate list → AreGood m.rom list → (r : Result ClockRange ℕ) → IfOk r (λ sum. sum ≡ frame_sum (clocks_known t) m list words) → m.rom.machine ≡ Board → IfOk r (TakenOnCircuit (clocks_of_instr t) m)
     on_circuit mem certificate all (Ok sum) is board = frame_on_circuit t m list words sum mem certificate all gf is board
     on_circuit mem certificate all (Err at) is board = tt

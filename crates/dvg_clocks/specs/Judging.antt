@@ -1,5 +1,5 @@
 -- The verdict on a frame by its own certificate, with the clocks that it takes. All of it is this project's own.
-use Rattle.std.specs.Prelude.{◌≡◌, ◌≤◌, ℕ, List, Result, Ok, Err}
+use Rattle.std.specs.Prelude.{Err, List, Ok, Result, ℕ, ◌≡◌, ◌≤◌}
 use Rattle.dvg_words.specs.Memory.{Memory, Rom}
 use Rattle.dvg_words.specs.Values.{Window}
 use Rattle.dvg_cert.specs.declared.entry.Entry.{Entry}
@@ -7,14 +7,14 @@ use Rattle.dvg_check.specs.declared.verdict.Yes.{Yes}
 use Rattle.dvg_make.specs.Frames.{FrameMade}
 use Rattle.dvg_make.specs.Judging.{FrameRefused, HasCallCause, VerdictByMade}
 use Rattle.dvg_make.specs.declared.judging.FrameRefusal.TheVariants.{NoMemory}
-use Rattle.dvg_clocks.specs.declared.clocks.Range.{Range}
-use Rattle.dvg_clocks.specs.declared.clocks.States.{States}
-use Rattle.dvg_clocks.specs.declared.frames.Timing.{Timing}
 use Rattle.dvg_clocks.specs.Forecasts.{clocks_known}
 use Rattle.dvg_clocks.specs.Sums.{AreGood, IsAcceptedFrame, IsFirstOver, frame_sum}
-pub use Rattle.dvg_clocks.specs.declared.judging.TimedYes.{TimedYes}
+use Rattle.dvg_clocks.specs.declared.clocks.ClockRange.{ClockRange}
+use Rattle.dvg_clocks.specs.declared.clocks.States.{States}
+use Rattle.dvg_clocks.specs.declared.frames.Timing.{Timing}
 pub use Rattle.dvg_clocks.specs.declared.judging.TimedRefusal.{TimedRefusal}
 pub use Rattle.dvg_clocks.specs.declared.judging.TimedRefusal.TheVariants.{Judged, Slow}
+pub use Rattle.dvg_clocks.specs.declared.judging.TimedYes.{TimedYes}
 
 -- the frame keeps all rules over the shapes of the list, which are good
 pub record IsAccepted (m : Memory) (list : List Entry) : Type 0 where
@@ -22,8 +22,9 @@ pub record IsAccepted (m : Memory) (list : List Entry) : Type 0 where
   pub words : ℕ
   pub frame : IsAcceptedFrame m list words
 
--- the clocks are those of the items of the frame, which has so many words, and of the shapes that it calls, by the list that is made for it
-pub record AreClocks (t : States) (rom : Rom) (words : List ℕ) (count : ℕ) (clocks : Range) : Type 0 where
+-- the clocks are the sum over the items of the frame and over the shapes that it calls, by the list that is made for it; `count` is
+-- the frame's words, those of called shapes included
+pub record AreClocks (t : States) (rom : Rom) (words : List ℕ) (count : ℕ) (clocks : ClockRange) : Type 0 where
   pub list : List Entry
   pub made : FrameMade rom words list
   pub sum : clocks ≡ frame_sum (clocks_known t) (record { frame = words; rom = rom }) list count
@@ -43,7 +44,7 @@ TimedVerdict timing rom words w budget (Ok timed) =
 TimedVerdict timing rom words w budget (Err (Judged r)) = VerdictByMade rom words w budget (Err r)
 TimedVerdict timing rom words w budget (Err (Slow at)) = IsSlow timing rom words w budget at
 
--- what a refusal means beside that: a refusal by the certificate what it means without clocks
+-- what a refusal means beside the verdict: one by the certificate the same as without clocks, 58 nothing more
 abbrev pub TimedRefused : Rom → List ℕ → Window → ℕ → TimedRefusal → Type 0
 TimedRefused rom words w budget (Judged r) = FrameRefused rom words w budget r × HasCallCause rom words r
 TimedRefused rom words w budget (Slow at) = Unit {0}

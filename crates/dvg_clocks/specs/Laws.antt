@@ -15,8 +15,7 @@ use Rattle.dvg_check.specs.declared.fault.Mode.{Mode}
 use Rattle.dvg_check.specs.declared.fault.Mode.TheVariants.{Exact}
 use Rattle.dvg_clocks.specs.Clocks.{TakenOnCircuit, clocks_of_instr, counts_of, taken_after, words_of_instr}
 use Rattle.dvg_clocks.specs.Forecasts.{clocks_known, just, taken_before, words_known}
-use Rattle.dvg_clocks.specs.Private.Taking.{IsSumOfItems}
-use Rattle.dvg_clocks.specs.Sums.{frame_sum}
+use Rattle.dvg_clocks.specs.Sums.{IsSumOfItems, frame_sum}
 use Rattle.dvg_clocks.specs.declared.clocks.States.{States}
 
 -- a good frame over good shapes takes its sum of clocks on the circuit

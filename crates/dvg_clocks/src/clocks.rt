@@ -4,7 +4,7 @@ ghost use Rattle.std.specs.Prelude.{◌≡◌, ◌≤◌, ◌<◌, ◌^◌, ◌+
 ghost use Rattle.dvg_cert.specs.Entry.{IsKey};
 ghost use Rattle.dvg_words.specs.Decoding.{InstrFits};
 ghost use Rattle.dvg_clocks.specs.Clocks.{states_of};
-ghost use Rattle.dvg_clocks.specs.Forecasts.{both, clocks_known, counts_known};
+ghost use Rattle.dvg_clocks.specs.Forecasts.{plus, clocks_known, counts_known};
 
 use dvg_cert::Key;
 use dvg_circuit::counts;
@@ -22,7 +22,8 @@ pub struct States {
     pub jmpl: u16,
 }
 
-/// The states of Atari's DVG.
+/// The states of Atari's DVG (DVG documentation). No board's PROM of states was read, and an emulator tells those of the PROM that it is
+/// given.
 pub const DVG_STATES: States = States {
     vctr: 5,
     svec: 3,
@@ -35,23 +36,23 @@ pub const DVG_STATES: States = States {
 
 /// So much at least, and so much at most; where both are the same, exactly so much.
 #[derive(Clone, Copy, Debug, PartialEq, Eq)]
-pub struct Range {
+pub struct ClockRange {
     pub least: u64,
     pub most: u64,
 }
 
-impl Range {
+impl ClockRange {
     /// Nothing.
-    pub const NONE: Range = Range { least: 0, most: 0 };
+    pub const ZERO: ClockRange = ClockRange { least: 0, most: 0 };
 
-    /// What the sums of two numbers of two ranges are in.
-    pub fn plus(self, other: Range) -> Range
+    /// The range of the sum of a number in each of two ranges.
+    pub fn plus(self, other: ClockRange) -> ClockRange
         requires ordered { self.least ≤ self.most }
         requires other_ordered { other.least ≤ other.most }
         requires few { self.most + other.most < 2 ^ 64 }
-        ensures value { result ≡ both self other }
+        ensures value { result ≡ plus self other }
     {
-        Range {
+        ClockRange {
             least: self.least + other.least,
             most: self.most + other.most,
         }
@@ -73,8 +74,8 @@ fn states_of(states: &States, format: Format, instr: &Instr) -> u16
     }
 }
 
-/// The counts of an instruction at a known scale: of a draw at unknown scale none up to all 1,024.
-fn counts_known(instr: &Instr, scale: Key) -> Range
+/// The counts of an instruction at a known scale; of a draw at an unknown one 0 to 1,024.
+fn counts_known(instr: &Instr, scale: Key) -> ClockRange
     requires scale { IsKey scale }
     requires fields { InstrFits instr.now }
     ensures value { result ≡ counts_known instr.now scale }
@@ -84,21 +85,21 @@ fn counts_known(instr: &Instr, scale: Key) -> Range
     match (instr, scale) {
         (Instr::Draw(draw), Key::At(gscale)) => {
             let counts = u64::from(counts((draw.lscale + gscale) % 16));
-            Range {
+            ClockRange {
                 least: counts,
                 most: counts,
             }
         }
-        (Instr::Draw(_), Key::Any) => Range {
+        (Instr::Draw(_), Key::Any) => ClockRange {
             least: 0,
             most: 1024,
         },
-        _ => Range::NONE,
+        _ => ClockRange::ZERO,
     }
 }
 
 /// The clocks of an instruction at a known scale.
-pub fn instr_clocks(states: &States, format: Format, instr: &Instr, scale: Key) -> Range
+pub fn instr_clocks(states: &States, format: Format, instr: &Instr, scale: Key) -> ClockRange
     requires scale { IsKey scale }
     requires fields { InstrFits instr.now }
     ensures value { result ≡ clocks_known states.now format instr.now scale }
@@ -107,7 +108,7 @@ pub fn instr_clocks(states: &States, format: Format, instr: &Instr, scale: Key) 
 {
     let states = u64::from(states_of(states, format, instr));
     let counts = counts_known(instr, scale);
-    Range {
+    ClockRange {
         least: states + counts.least,
         most: states + counts.most,
     }

@@ -6,9 +6,9 @@ ghost use Rattle.dvg_items.specs.Bounds.{IsSomeCertificate};
 ghost use Rattle.dvg_clocks.specs.Clocks.{TakenOnCircuit, clocks_of_instr};
 ghost use Rattle.dvg_clocks.specs.Forecasts.{clocks_known};
 ghost use Rattle.dvg_clocks.specs.Sums.{AreGood, IsAcceptedFrame, IsFirstOver, frame_sum};
-ghost use Rattle.dvg_clocks.specs.Private.Walking.{AreTold};
+ghost use Rattle.dvg_clocks.specs.Kept.{AreTold};
 
-use crate::clocks::{Range, States};
+use crate::clocks::{ClockRange, States};
 use crate::items::{ScaleCursor, items_clocks};
 use crate::shapes::ShapeClocks;
 use dvg_cert::{Entries, Key};
@@ -30,7 +30,7 @@ pub fn frame_clocks<E: Entries>(
     entries: &E,
     shapes: &ShapeClocks,
     frame: &FrameImage,
-) -> Result<Range, u16>
+) -> Result<ClockRange, u16>
     requires certificate { IsSomeCertificate (E.list entries.now) }
     requires good { AreGood rom.now (E.list entries.now) }
     requires told { AreTold timing.now.states rom.now (E.list entries.now) shapes.now }

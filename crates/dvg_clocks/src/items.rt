@@ -6,11 +6,12 @@ ghost use Rattle.dvg_words.specs.declared.map.TheConstants.{ADDRESS_END};
 ghost use Rattle.dvg_cert.specs.Entry.{IsKey};
 ghost use Rattle.dvg_items.specs.Bounds.{IsClaim, IsSomeCertificate};
 ghost use Rattle.dvg_items.specs.Known.{callee_words};
-ghost use Rattle.dvg_clocks.specs.Forecasts.{both, callee_taken, clocks_known};
-ghost use Rattle.dvg_clocks.specs.Sums.{WORD_CLOCKS};
-ghost use Rattle.dvg_clocks.specs.Private.Walking.{AreAllFew, IsFewFor, IsOver, IsTaken, IsWalkable, clocks_in, cursor_past};
+ghost use Rattle.dvg_clocks.specs.Forecasts.{plus, callee_taken, clocks_known};
+ghost use Rattle.dvg_clocks.specs.Kept.{WORD_CLOCKS};
+ghost use Rattle.dvg_clocks.specs.Kept.{AreAllFew, IsFewFor, clocks_in};
+ghost use Rattle.dvg_clocks.specs.Private.Walking.{IsOver, IsTaken, IsWalkable, cursor_past};
 
-use crate::clocks::{Range, States, instr_clocks};
+use crate::clocks::{ClockRange, States, instr_clocks};
 use crate::shapes::ShapeClocks;
 use dvg_cert::{Entries, Entry, Key};
 use dvg_items::{Item, Kind, callee, scale_past, target};
@@ -51,12 +52,12 @@ fn item_clocks(
     item: &Item,
     scale: Key,
     called: &Option<Entry>,
-) -> Range
+) -> ClockRange
     requires key { IsKey scale }
     requires fields { InstrFits item.now.instr }
     requires claim { IfSome called.now IsClaim }
     requires few { IfSome called.now (IsFewFor shapes.now) }
-    ensures value { result ≡ both (clocks_known states.now item.now.format item.now.instr scale) (callee_taken (clocks_in shapes.now) called.now) }
+    ensures value { result ≡ plus (clocks_known states.now item.now.format item.now.instr scale) (callee_taken (clocks_in shapes.now) called.now) }
     ensures ordered { result.least ≤ result.most }
     ensures few { result.most ≤ WORD_CLOCKS * (1 + callee_words called.now) }
 {
@@ -67,8 +68,8 @@ fn item_clocks(
     }
 }
 
-/// What the items from the first one on take, up to and with the last one. `Err` has the word address of the first item with which it is
-/// more than `limit` clocks. Takes no memory.
+/// What the items take, from the first one through the last. `Err` has the word address of the first item with which they may take more
+/// than `limit` clocks. Takes no memory.
 pub fn items_clocks<F: Fetch, E: Entries>(
     states: &States,
     words: &F,
@@ -76,7 +77,7 @@ pub fn items_clocks<F: Fetch, E: Entries>(
     shapes: &ShapeClocks,
     first: &ScaleCursor,
     limit: u64,
-) -> Result<Range, u16>
+) -> Result<ClockRange, u16>
     requires entries { IsSomeCertificate (E.list entries.now) }
     requires key { IsKey first.now.scale }
     requires few { AreAllFew shapes.now (E.list entries.now) }
@@ -85,7 +86,7 @@ pub fn items_clocks<F: Fetch, E: Entries>(
     ensures err { IfErr result (IsOver states.now (F.words words.now) (E.list entries.now) shapes.now first.now limit) }
 {
     let mut here = *first;
-    let mut sum = Range::NONE;
+    let mut sum = ClockRange::ZERO;
     while let Cell::Holds { format, instr } = read_cell(words, here.at) {
         let item = Item {
             at: here.at,

@@ -11,7 +11,7 @@ ghost use Rattle.dvg_clocks.specs.Forecasts.{clocks_known};
 ghost use Rattle.dvg_clocks.specs.Judging.{IsAccepted, IsUntold, TimedRefused, TimedVerdict};
 ghost use Rattle.dvg_clocks.specs.Sums.{frame_sum};
 
-use crate::clocks::Range;
+use crate::clocks::ClockRange;
 use crate::frames::{Timing, frame_clocks};
 use crate::shapes::ShapeClocks;
 use dvg_cert::{Cert, ListIndex};
@@ -24,7 +24,7 @@ use std::alloc::Global;
 #[derive(Clone, Copy, Debug, PartialEq, Eq)]
 pub struct TimedYes {
     pub yes: Yes,
-    pub clocks: Range,
+    pub clocks: ClockRange,
 }
 
 /// Why a frame is refused by its own certificate, or takes too long.
@@ -36,14 +36,14 @@ pub enum TimedRefusal {
     Slow { at: u16 },
 }
 
-/// What a frame takes that is accepted by this certificate.
+/// The clocks of a frame that is accepted by this certificate; or 58 at an item, or a want of memory.
 fn clocks_by(
     alloc: Global,
     timing: &Timing,
     rom: &RomImage,
     frame: &FrameImage,
     cert: &Cert,
-) -> Result<Range, TimedRefusal>
+) -> Result<ClockRange, TimedRefusal>
     requires { IsAccepted (record { frame = frame.now; rom = rom.now }) cert.now.entries }
     ensures value { (accepted : IsAccepted (record { frame = frame.now; rom = rom.now }) cert.now.entries)
         → IfOk result (λ clocks. clocks ≡ frame_sum (clocks_known timing.now.states) (record { frame = frame.now; rom = rom.now }) cert.now.entries accepted.words) }

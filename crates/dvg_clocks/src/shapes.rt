@@ -3,9 +3,9 @@
 ghost use Rattle.std.specs.Prelude.{◌≡◌, [], OnOk, IfOk};
 ghost use Rattle.dvg_items.specs.Bounds.{IsSomeCertificate};
 ghost use Rattle.dvg_clocks.specs.Sums.{AreGood};
-ghost use Rattle.dvg_clocks.specs.Private.Walking.{AreTold, IsKeptToo, clocks_in};
+ghost use Rattle.dvg_clocks.specs.Kept.{AreTold, IsKeptToo, clocks_in};
 
-use crate::clocks::{Range, States};
+use crate::clocks::{ClockRange, States};
 use crate::items::{ScaleCursor, items_clocks};
 use dvg_cert::{Entries, Entry, Key};
 use dvg_items::Kind;
@@ -17,11 +17,11 @@ use std::marker::Model;
 /// The clocks of shapes, each from its first word to its return, with all that it calls: by the addresses and keys of their entries.
 #[derive(Drop)]
 pub struct ShapeClocks {
-    found: IndexMap<(u16, Key), Range>,
+    found: IndexMap<(u16, Key), ClockRange>,
 }
 
 impl Model for ShapeClocks {
-    ghost use Rattle.dvg_clocks.specs.Private.Walking.{Kept};
+    ghost use Rattle.dvg_clocks.specs.Kept.{Kept};
 
     ghost Value = { Kept };
 
@@ -38,18 +38,18 @@ impl ShapeClocks {
         }
     }
 
-    /// What the shape of an entry takes; nothing of an entry that is not among those asked for.
-    pub fn of(&self, entry: &Entry) -> Range
+    /// What the shape of an entry takes; nothing for an entry that the certificate doesn't have.
+    pub fn of(&self, entry: &Entry) -> ClockRange
         ensures { result ≡ clocks_in self.now entry.now }
     {
         match self.found.get(&(entry.addr, entry.key)) {
             Some(clocks) => *clocks,
-            None => Range::NONE,
+            None => ClockRange::ZERO,
         }
     }
 
     /// Adds what the shape of an entry takes.
-    fn add(&mut self, entry: &Entry, clocks: Range) -> Result<(), AllocError>
+    fn add(&mut self, entry: &Entry, clocks: ClockRange) -> Result<(), AllocError>
         ensures { OnOk result (IsKeptToo entry.now clocks self.old self.new) }
     {
         self.found.insert((entry.addr, entry.key), clocks)?;
@@ -58,8 +58,8 @@ impl ShapeClocks {
 
     /// The clocks of all shapes of a certificate whose shapes are good, by its list and an index of it.
     ///
-    /// Each shape is gone over once, those with fewer words first: what a shape calls has fewer. Takes memory for the entries and their
-    /// clocks; an `Err` says that there was none.
+    /// Each shape is gone over once, those with fewer words first: a shape has more words than each shape that it calls. Takes memory for
+    /// the entries and their clocks; an `Err` says that there was none.
     pub fn of_all<E: Entries>(
         alloc: Global,
         states: &States,

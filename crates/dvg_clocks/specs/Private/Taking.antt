@@ -1,8 +1,8 @@
 -- What runs of the generator take, and what shapes do from a call to its return, for every measure that is forecast right.
-use Rattle.std.specs.Prelude.{Contains, List, None, length, suc, ℕ, ◌*◌, ◌+◌, ◌∷◌, ◌≡◌, ◌≤◌}
+use Rattle.std.specs.Prelude.{Contains, List, length, suc, ℕ, ◌*◌, ◌+◌, ◌∷◌, ◌≡◌, ◌≤◌}
 use Rattle.dvg_words.specs.Decoding.{cell_at, word_count}
 use Rattle.dvg_words.specs.Generator.{Halted, Reached, Running, State, Status, next_status, start}
-use Rattle.dvg_words.specs.Memory.{IsMemory, Memory, Rom, rom_word, word_at}
+use Rattle.dvg_words.specs.Memory.{IsMemory, Memory, Rom, word_at}
 use Rattle.dvg_words.specs.Values.{Window}
 use Rattle.dvg_words.specs.declared.beam.Point.{Point}
 use Rattle.dvg_words.specs.declared.instruction.Cell.{Cell}
@@ -15,17 +15,15 @@ use Rattle.dvg_words.specs.declared.machine.Machine.TheVariants.{Board}
 use Rattle.dvg_cert.specs.declared.entry.Entry.{Entry}
 use Rattle.dvg_cert.specs.declared.entry.Key.{Key}
 use Rattle.dvg_cert.specs.declared.limits.TheConstants.{MOST_DEPTH}
-use Rattle.dvg_items.specs.Items.{LeadsTo, next_address}
-use Rattle.dvg_items.specs.Known.{Context, frame_context, shape_context, words_before}
+use Rattle.dvg_items.specs.Known.{Context, frame_context, words_before}
 use Rattle.dvg_items.specs.declared.item.Item.{Item}
-use Rattle.dvg_items.specs.declared.item.Kind.TheVariants.{Shape}
 use Rattle.dvg_check.specs.Behaving.{PlaceFits, ScaleFits}
 use Rattle.dvg_check.specs.Rules.{Good, GoodFrame}
 use Rattle.dvg_check.specs.declared.fault.Mode.{Mode}
 use Rattle.dvg_clocks.specs.Clocks.{IsInRange, Measure, TakenOnCircuit, clocks_of_instr, states_of, words_of_instr}
 use Rattle.dvg_clocks.specs.Forecasts.{Forecast, clocks_known, taken_before, words_known}
-use Rattle.dvg_clocks.specs.Sums.{frame_sum, sum_of}
-use Rattle.dvg_clocks.specs.declared.clocks.Range.{Range}
+use Rattle.dvg_clocks.specs.Sums.{IsSumOfItems, frame_sum, sum_of}
+use Rattle.dvg_clocks.specs.declared.clocks.ClockRange.{ClockRange}
 use Rattle.dvg_clocks.specs.declared.clocks.States.{States}
 
 -- ---- the generator
@@ -48,13 +46,13 @@ IsRight measure forecast =
     (format : Format) (i : Instr) (key : Key) (scale : ℕ) → ScaleFits key scale → IsInRange (forecast format i key) (measure format i scale)
 
 -- a run leads from one running state to another, and takes what the range says
-pub record Took (measure : Measure) (m : Memory) (range : Range) (from to : State) : Type 0 where
+pub record Took (measure : Measure) (m : Memory) (range : ClockRange) (from to : State) : Type 0 where
   pub steps : ℕ
   pub reached : Reached m steps (Running from) (Running to)
   pub took : IsInRange range (taken_by measure m steps (Running from))
 
 -- a run leads from a state at a shape's first word to the state just past its return, and takes what is said of its entry
-pub record TookBack (measure : Measure) (by_entry : Entry → Range) (m : Memory) (e : Entry) (back : ℕ) (rest : List ℕ)
+pub record TookBack (measure : Measure) (by_entry : Entry → ClockRange) (m : Memory) (e : Entry) (back : ℕ) (rest : List ℕ)
     (from to : State) : Type 0 where
   pub took : Took measure m (by_entry e) from to
   pub pc : to.pc ≡ back
@@ -63,7 +61,7 @@ pub record TookBack (measure : Measure) (by_entry : Entry → Range) (m : Memory
   pub scale : ScaleFits e.scale to.scale
 
 -- each call that an entry allows returns, and takes what is said of the entry
-abbrev pub Takes : Measure → (Entry → Range) → Memory → Entry → Type 0
+abbrev pub Takes : Measure → (Entry → ClockRange) → Memory → Entry → Type 0
 Takes measure by_entry m e =
     (s : State) (back : ℕ) (rest : List ℕ)
     → length s.return_stack ≤ s.max_stack
@@ -73,17 +71,10 @@ Takes measure by_entry m e =
     → length s.return_stack + e.depth ≤ 4
     → (t : State) × TookBack measure by_entry m e back rest s t
 
--- what is said of each entry is what all items of its shape take, up to the last one
-abbrev pub IsSumOfItems : Forecast → Rom → List Entry → (Entry → Range) → Type 0
-IsSumOfItems forecast rom list by_entry =
-    (e : Entry) → Contains list e → (earlier : List Item) (i : Item)
-    → LeadsTo Shape (rom_word rom) e.addr earlier i.at → cell_at (rom_word rom) i.at ≡ Holds i.format i.instr → next_address Shape i ≡ None
-    → by_entry e ≡ taken_before forecast by_entry (shape_context rom.machine list e) (i ∷ earlier)
-
 -- all good shapes take what is said of their entries
 abbrev pub AllTake : Type 0
 AllTake =
-    (measure : Measure) (forecast : Forecast) (by_entry : Entry → Range) (mode : Mode) (m : Memory) (w : Window) (list : List Entry)
+    (measure : Measure) (forecast : Forecast) (by_entry : Entry → ClockRange) (mode : Mode) (m : Memory) (w : Window) (list : List Entry)
     → IsRight measure forecast → IsMemory m → Good mode w m.rom list → IsSumOfItems forecast m.rom list by_entry
     → (e : Entry) → Contains list e → Takes measure by_entry m e
 
@@ -91,15 +82,15 @@ AllTake =
 
 -- what a good frame takes, its HALT included
 abbrev pub frame_taken :
-    Forecast → (Entry → Range) → {w : Window} {machine : Machine} {frame : List ℕ} {list : List Entry} {budget words depth : ℕ}
-    → GoodFrame w machine frame list budget words depth → Range
+    Forecast → (Entry → ClockRange) → {w : Window} {machine : Machine} {frame : List ℕ} {list : List Entry} {budget words depth : ℕ}
+    → GoodFrame w machine frame list budget words depth → ClockRange
 frame_taken forecast by_entry {machine = machine} {list = list} good =
     taken_before forecast by_entry (frame_context machine list) (record { at = good.at; format = good.format; instr = Halt } ∷ good.items)
 
 -- a good frame over good shapes takes so much on the generator, whenever it halts
 abbrev pub FrameTakes : Type 0
 FrameTakes =
-    (measure : Measure) (forecast : Forecast) (by_entry : Entry → Range) (mode : Mode) (m : Memory) (w v : Window) (list : List Entry)
+    (measure : Measure) (forecast : Forecast) (by_entry : Entry → ClockRange) (mode : Mode) (m : Memory) (w v : Window) (list : List Entry)
     (budget words depth : ℕ)
     → IsRight measure forecast → IsMemory m
     → ((e : Entry) → Contains list e → e.depth ≤ MOST_DEPTH)
@@ -111,7 +102,7 @@ FrameTakes =
 -- a good frame over good shapes takes so much on the circuit, too
 abbrev pub CircuitTakes : Type 0
 CircuitTakes =
-    (measure : Measure) (forecast : Forecast) (by_entry : Entry → Range) (mode : Mode) (m : Memory) (w v : Window) (list : List Entry)
+    (measure : Measure) (forecast : Forecast) (by_entry : Entry → ClockRange) (mode : Mode) (m : Memory) (w v : Window) (list : List Entry)
     (budget words depth : ℕ)
     → IsRight measure forecast → IsMemory m → m.rom.machine ≡ Board
     → ((e : Entry) → Contains list e → e.depth ≤ MOST_DEPTH)
@@ -124,11 +115,11 @@ CircuitTakes =
 -- it is as much for each word as for an instruction of one word, at most; so is a frame's
 pub record FewTaken (forecast : Forecast) (each : ℕ) : Type 0 where
   pub entries :
-      (by_entry : Entry → Range) (mode : Mode) (w : Window) (rom : Rom) (list : List Entry)
+      (by_entry : Entry → ClockRange) (mode : Mode) (w : Window) (rom : Rom) (list : List Entry)
       → Good mode w rom list → IsSumOfItems forecast rom list by_entry
       → (e : Entry) → Contains list e → (by_entry e).most ≤ each * e.words
   pub items :
-      (by_entry : Entry → Range) (c : Context) → ((e : Entry) → Contains c.list e → (by_entry e).most ≤ each * e.words)
+      (by_entry : Entry → ClockRange) (c : Context) → ((e : Entry) → Contains c.list e → (by_entry e).most ≤ each * e.words)
       → (items : List Item) → (taken_before forecast by_entry c items).most ≤ each * words_before c items
 
 -- no instruction takes more than so much for each of its words

@@ -1,63 +1,22 @@
--- What the code keeps while it goes over items, and what it keeps of shapes.
-use Rattle.std.specs.Prelude.{◌≡◌, ◌≤◌, ◌<◌, ◌*◌, ◌==◌, ◌&&◌, ℕ, List, ◌∷◌, Option, Some, None, unwrap_or, Contains, cond}
+-- What the code keeps while it goes over items.
 use Rattle.std.specs.Option.{option_map}
-use Rattle.std.specs.Map.{lookup}
-use Rattle.dvg_words.specs.Values.{Source}
-use Rattle.dvg_words.specs.Memory.{Rom}
+use Rattle.std.specs.Prelude.{List, None, Option, unwrap_or, ℕ, ◌*◌, ◌<◌, ◌∷◌, ◌≡◌, ◌≤◌}
 use Rattle.dvg_words.specs.Decoding.{cell_at}
-use Rattle.dvg_words.specs.declared.instruction.Instr.{Instr}
-use Rattle.dvg_words.specs.declared.instruction.Format.{Format}
+use Rattle.dvg_words.specs.Values.{Source}
 use Rattle.dvg_words.specs.declared.instruction.Cell.TheVariants.{Holds}
+use Rattle.dvg_words.specs.declared.instruction.Format.{Format}
+use Rattle.dvg_words.specs.declared.instruction.Instr.{Instr}
 use Rattle.dvg_cert.specs.declared.entry.Entry.{Entry}
-use Rattle.dvg_cert.specs.declared.entry.Key.{Key}
 use Rattle.dvg_cert.specs.declared.limits.TheConstants.{MOST_WORDS}
-use Rattle.dvg_cert.specs.Lookup.{same_key}
 use Rattle.dvg_items.specs.Items.{LeadsTo, next_address}
 use Rattle.dvg_items.specs.Known.{Context, scale_set, words_before}
 use Rattle.dvg_items.specs.declared.item.Item.{Item}
 use Rattle.dvg_items.specs.declared.item.Kind.{Kind}
-use Rattle.dvg_clocks.specs.declared.clocks.Range.{Range}
+use Rattle.dvg_clocks.specs.Forecasts.{clocks_known, taken_before}
+use Rattle.dvg_clocks.specs.Kept.{Kept, WORD_CLOCKS, clocks_in}
+use Rattle.dvg_clocks.specs.declared.clocks.ClockRange.{ClockRange}
 use Rattle.dvg_clocks.specs.declared.clocks.States.{States}
-use Rattle.dvg_clocks.specs.Forecasts.{clocks_known, just, taken_before}
-use Rattle.dvg_clocks.specs.Sums.{WORD_CLOCKS, sum_of}
 pub use Rattle.dvg_clocks.specs.declared.items.ScaleCursor.{ScaleCursor}
-
--- ---- what is kept of shapes
-
--- clocks, each with the address and key of an entry
-abbrev pub Kept : Type 0
-Kept = List ((ℕ × Key) × Range)
-
--- the clocks that are kept at an address and key
-abbrev pub found_at : Kept → ℕ → Key → Option Range
-found_at kept addr key = lookup (λ p. (addr == p.0) && same_key key p.1) kept
-
--- what the shape of an entry takes by what is kept; nothing if nothing is
-abbrev pub clocks_in : Kept → Entry → Range
-clocks_in kept e = unwrap_or (found_at kept e.addr e.key) (just 0)
-
--- the clocks of an entry's shape are kept, too, and nothing else has changed
-abbrev pub IsKeptToo : Entry → Range → Kept → Kept → Type 0
-IsKeptToo e clocks old new =
-    (addr : ℕ) (key : Key) → found_at new addr key ≡ cond ((e.addr == addr) && same_key e.key key) (Some clocks) (found_at old addr key)
-
--- what is kept of an entry is a range, of no more than so many clocks for each word
-pub record IsFewFor (kept : Kept) (e : Entry) : Type 0 where
-  pub ordered : (clocks_in kept e).least ≤ (clocks_in kept e).most
-  pub few : (clocks_in kept e).most ≤ WORD_CLOCKS * e.words
-
--- of each entry of the list
-abbrev pub AreAllFew : Kept → List Entry → Type 0
-AreAllFew kept list = (e : Entry) → Contains list e → IsFewFor kept e
-
--- what is kept of an entry is the sum of its shape
-pub record IsToldOf (t : States) (rom : Rom) (list : List Entry) (kept : Kept) (e : Entry) : Type 0 where
-  pub told : found_at kept e.addr e.key ≡ Some (sum_of (clocks_known t) rom list e)
-  pub few : IsFewFor kept e
-
--- of each entry of the list
-abbrev pub AreTold : States → Rom → List Entry → Kept → Type 0
-AreTold t rom list kept = (e : Entry) → Contains list e → IsToldOf t rom list kept e
 
 -- ---- going over items
 
@@ -92,7 +51,7 @@ pub record IsWhole (kind : Kind) (source : Source) (first : ℕ) (items : List I
   pub last : next_address kind i ≡ None
 
 -- the items from the first one on, up to and with the last one, take so much by what is kept, which is within the limit
-pub record IsTaken (t : States) (source : Source) (list : List Entry) (kept : Kept) (first : ScaleCursor) (limit : ℕ) (sum : Range) : Type 0 where
+pub record IsTaken (t : States) (source : Source) (list : List Entry) (kept : Kept) (first : ScaleCursor) (limit : ℕ) (sum : ClockRange) : Type 0 where
   pub items : List Item
   pub item : Item
   pub whole : IsWhole first.kind source first.at items item

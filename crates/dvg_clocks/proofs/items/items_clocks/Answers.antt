@@ -1,4 +1,4 @@
-use Rattle.dvg_clocks.proofs.Common.{◌≡◌, ◌∙◌, ap, sym, subst, arith, target, callee, IsTaken, Range}
+use Rattle.dvg_clocks.proofs.Common.{◌≡◌, ◌∙◌, ap, sym, subst, arith, target, callee, IsTaken, ClockRange}
 use Rattle.dvg_items.specs.Known.{callee_at}
 use Rattle.dvg_clocks.proofs.Walking.{Going, few_of, onward, done, over}
 use Rattle.dvg_clocks.proofs.items.items_clocks.Goals as goal
@@ -12,7 +12,7 @@ returns-then-sum-limit-clause-err g c =
     let source = g.F.Fetch.words c.args.words.now in
     let here = c.loop-format.here in
     let names : c.callee-called.result ≡ callee_at list (target here.kind c.in-Holds.instr) here.scale = rw c.target.ensures at c.callee-called.ensures.value in
-    let all = ap (λ (r : Range). r.most) c.plus-sum.ensures.value in
+    let all = ap (λ (r : ClockRange). r.most) c.plus-sum.ensures.value in
     over c.args.states.now source list c.args.shapes.now c.args.first.now c.args.limit c.requires.walkable here c.loop-format.sum c.loop-format.invariant c.in-Holds.format c.in-Holds.instr (sym c.in-Holds.ensures.value) c.callee-called.result names c.item_clocks.result c.item_clocks.ensures.value c.item_clocks.ensures.ordered c.item_clocks.ensures.few (omega (arith, all, c.if-sum-limit.true))
 
 pub loop-format-preserved : goal.loop-format-preserved
@@ -21,7 +21,7 @@ loop-format-preserved g c =
     let source = g.F.Fetch.words c.args.words.now in
     let here = c.loop-format.here in
     let names : c.callee-called.result ≡ callee_at list (target here.kind c.in-Holds.instr) here.scale = rw c.target.ensures at c.callee-called.ensures.value in
-    let all = ap (λ (r : Range). r.most) c.plus-sum.ensures.value in
+    let all = ap (λ (r : ClockRange). r.most) c.plus-sum.ensures.value in
     subst (Going c.args.states.now source list c.args.shapes.now c.args.first.now c.args.limit c.in-Some.next) (sym c.plus-sum.ensures.value)
     (onward c.args.states.now source list c.args.shapes.now c.args.first.now c.args.limit c.requires.walkable here c.loop-format.sum c.loop-format.invariant c.in-Holds.format c.in-Holds.instr (sym c.in-Holds.ensures.value) c.callee-called.result names c.item_clocks.result c.item_clocks.ensures.value c.item_clocks.ensures.ordered c.item_clocks.ensures.few (omega (arith, all, c.if-sum-limit.false)) c.in-Some.next (sym c.past.ensures.value ∙ c.in-Some.is) c.in-Some.ensures.key)
 
@@ -31,6 +31,6 @@ returns-in-None-clause-ok g c =
     let source = g.F.Fetch.words c.args.words.now in
     let here = c.loop-format.here in
     let names : c.callee-called.result ≡ callee_at list (target here.kind c.in-Holds.instr) here.scale = rw c.target.ensures at c.callee-called.ensures.value in
-    let all = ap (λ (r : Range). r.most) c.plus-sum.ensures.value in
+    let all = ap (λ (r : ClockRange). r.most) c.plus-sum.ensures.value in
     subst (IsTaken c.args.states.now source list c.args.shapes.now c.args.first.now c.args.limit) (sym c.plus-sum.ensures.value)
     (done c.args.states.now source list c.args.shapes.now c.args.first.now c.args.limit c.requires.walkable here c.loop-format.sum c.loop-format.invariant c.in-Holds.format c.in-Holds.instr (sym c.in-Holds.ensures.value) c.callee-called.result names c.item_clocks.result c.item_clocks.ensures.value c.item_clocks.ensures.ordered c.item_clocks.ensures.few (omega (arith, all, c.if-sum-limit.false)) (sym c.past.ensures.value ∙ c.in-None.is))
