@@ -40,7 +40,8 @@ pub record IsSlow (timing : Timing) (rom : Rom) (words : List ℕ) (w : Window) 
 -- the verdict on a frame: that by its own certificate, and of an accepted one its clocks, or where they are over the limit
 abbrev pub TimedVerdict : Timing → Rom → List ℕ → Window → ℕ → Result TimedYes TimedRefusal → Type 0
 TimedVerdict timing rom words w budget (Ok timed) =
-    VerdictByMade rom words w budget (Ok timed.yes) × AreClocks timing.states rom words timed.yes.words timed.clocks × (timed.clocks.most ≤ timing.limit)
+    VerdictByMade rom words w budget (Ok timed.yes) × AreClocks timing.states rom words timed.yes.words timed.clocks
+    × (timed.clocks.most ≤ timing.limit)
 TimedVerdict timing rom words w budget (Err (Judged r)) = VerdictByMade rom words w budget (Err r)
 TimedVerdict timing rom words w budget (Err (Slow at)) = IsSlow timing rom words w budget at
 

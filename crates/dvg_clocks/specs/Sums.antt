@@ -86,4 +86,5 @@ pub record IsFirstOver (t : States) (m : Memory) (list : List Entry) (limit at :
   pub leads : LeadsTo Frame (frame_word m.rom.machine m.frame) 0 items item.at
   pub stands : cell_at (frame_word m.rom.machine m.frame) item.at ≡ Holds item.format item.instr
   pub before : (taken_before (clocks_known t) (sum_of (clocks_known t) m.rom list) (frame_context m.rom.machine list) items).most ≤ limit
-  pub over : limit < (taken_before (clocks_known t) (sum_of (clocks_known t) m.rom list) (frame_context m.rom.machine list) (item ∷ items)).most
+  pub over :
+      limit < (taken_before (clocks_known t) (sum_of (clocks_known t) m.rom list) (frame_context m.rom.machine list) (item ∷ items)).most

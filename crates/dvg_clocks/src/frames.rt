@@ -36,11 +36,14 @@ pub fn frame_clocks<E: Entries>(
     requires told { AreTold timing.now.states rom.now (E.list entries.now) shapes.now }
     requires frame { (words : ℕ) × IsAcceptedFrame (record { frame = frame.now; rom = rom.now }) (E.list entries.now) words }
     ensures value { (words : ℕ) → IsAcceptedFrame (record { frame = frame.now; rom = rom.now }) (E.list entries.now) words
-        → IfOk result (λ clocks. clocks ≡ frame_sum (clocks_known timing.now.states) (record { frame = frame.now; rom = rom.now }) (E.list entries.now) words) }
+        → IfOk result (λ clocks. clocks ≡ frame_sum (clocks_known timing.now.states) (record { frame = frame.now; rom = rom.now })
+            (E.list entries.now) words) }
     ensures ordered { IfOk result (λ clocks. clocks.least ≤ clocks.most) }
     ensures within { IfOk result (λ clocks. clocks.most ≤ timing.now.limit) }
-    ensures circuit { rom.now.machine ≡ Board → IfOk result (TakenOnCircuit (clocks_of_instr timing.now.states) (record { frame = frame.now; rom = rom.now })) }
-    ensures err { IfErr result (IsFirstOver timing.now.states (record { frame = frame.now; rom = rom.now }) (E.list entries.now) timing.now.limit) }
+    ensures circuit { rom.now.machine ≡ Board
+        → IfOk result (TakenOnCircuit (clocks_of_instr timing.now.states) (record { frame = frame.now; rom = rom.now })) }
+    ensures err { IfErr result (IsFirstOver timing.now.states (record { frame = frame.now; rom = rom.now }) (E.list entries.now)
+        timing.now.limit) }
 {
     // Their clauses say that the ROM and the frame are whole.
     let _map = rom.map();

@@ -57,7 +57,8 @@ fn item_clocks(
     requires fields { InstrFits item.now.instr }
     requires claim { IfSome called.now IsClaim }
     requires few { IfSome called.now (IsFewFor shapes.now) }
-    ensures value { result ≡ plus (clocks_known states.now item.now.format item.now.instr scale) (callee_taken (clocks_in shapes.now) called.now) }
+    ensures value { result ≡ plus (clocks_known states.now item.now.format item.now.instr scale)
+        (callee_taken (clocks_in shapes.now) called.now) }
     ensures ordered { result.least ≤ result.most }
     ensures few { result.most ≤ WORD_CLOCKS * (1 + callee_words called.now) }
 {

@@ -46,9 +46,11 @@ fn clocks_by(
 ) -> Result<ClockRange, TimedRefusal>
     requires { IsAccepted (record { frame = frame.now; rom = rom.now }) cert.now.entries }
     ensures value { (accepted : IsAccepted (record { frame = frame.now; rom = rom.now }) cert.now.entries)
-        → IfOk result (λ clocks. clocks ≡ frame_sum (clocks_known timing.now.states) (record { frame = frame.now; rom = rom.now }) cert.now.entries accepted.words) }
+        → IfOk result (λ clocks. clocks ≡ frame_sum (clocks_known timing.now.states) (record { frame = frame.now; rom = rom.now })
+            cert.now.entries accepted.words) }
     ensures within { IfOk result (λ clocks. clocks.most ≤ timing.now.limit) }
-    ensures circuit { rom.now.machine ≡ Board → IfOk result (TakenOnCircuit (clocks_of_instr timing.now.states) (record { frame = frame.now; rom = rom.now })) }
+    ensures circuit { rom.now.machine ≡ Board
+        → IfOk result (TakenOnCircuit (clocks_of_instr timing.now.states) (record { frame = frame.now; rom = rom.now })) }
     ensures err { IfErr result (IsUntold timing.now (record { frame = frame.now; rom = rom.now }) cert.now.entries) }
 {
     let list = cert.entries();
@@ -78,10 +80,12 @@ pub fn judge_timed(
 ) -> Result<TimedYes, TimedRefusal>
     requires { budget ≤ MOST_WORDS }
     ensures verdict { TimedVerdict timing.now rom.now frame.now window budget result }
-    ensures means { IfOk result (λ timed. Means Exact (record { frame = frame.now; rom = rom.now }) window timed.yes.words timed.yes.depth) }
+    ensures means { IfOk result (λ timed. Means Exact (record { frame = frame.now; rom = rom.now }) window
+        timed.yes.words timed.yes.depth) }
     ensures least { IfOk result (λ timed. AreLeast rom.now frame.now window timed.yes.words timed.yes.depth) }
     ensures clocks { rom.now.machine ≡ Board
-        → IfOk result (λ timed. TakenOnCircuit (clocks_of_instr timing.now.states) (record { frame = frame.now; rom = rom.now }) timed.clocks) }
+        → IfOk result (λ timed. TakenOnCircuit (clocks_of_instr timing.now.states)
+            (record { frame = frame.now; rom = rom.now }) timed.clocks) }
     ensures refused { IfErr result (TimedRefused rom.now frame.now window budget) }
 {
     let judged = explain_judging(alloc, rom, frame, budget, window);

@@ -27,7 +27,8 @@ context_at source list first = record { kind = first.kind; machine = source.mach
 -- at the next item, past one that calls this entry
 abbrev pub cursor_past : ScaleCursor → Item → Option Entry → Option ScaleCursor
 cursor_past here i named =
-    option_map (λ at. record { kind = here.kind; at = at; scale = unwrap_or (scale_set i.instr named) here.scale }) (next_address here.kind i)
+    option_map (λ at. record { kind = here.kind; at = at; scale = unwrap_or (scale_set i.instr named) here.scale })
+    (next_address here.kind i)
 
 -- each place that items lead to has an item, up to which the words are few
 pub record AreFew (c : Context) (source : Source) (first most : ℕ) : Type 0 where
@@ -51,7 +52,8 @@ pub record IsWhole (kind : Kind) (source : Source) (first : ℕ) (items : List I
   pub last : next_address kind i ≡ None
 
 -- the items from the first one on, up to and with the last one, take so much by what is kept, which is within the limit
-pub record IsTaken (t : States) (source : Source) (list : List Entry) (kept : Kept) (first : ScaleCursor) (limit : ℕ) (sum : ClockRange) : Type 0 where
+pub record IsTaken
+    (t : States) (source : Source) (list : List Entry) (kept : Kept) (first : ScaleCursor) (limit : ℕ) (sum : ClockRange) : Type 0 where
   pub items : List Item
   pub item : Item
   pub whole : IsWhole first.kind source first.at items item
