@@ -27,14 +27,14 @@ def memory(rom, frame):
     return low + [0] * (WORDS - len(low))
 
 
-def line_of(told):
-    registers, lit = told.split(" ", 9)[:9], told.split(" ", 9)[9:]
+def line_of(line):
+    registers, lit = line.split(" ", 9)[:9], line.split(" ", 9)[9:]
     address, x, y, scale, pointer, *places = map(int, registers)
     return Line(address, x, y, scale, pointer, tuple(places), list(map(int, lit[0].replace(",", " ").split())) if lit else [])
 
 
-def traced(trace, folder, rom, run, most):
-    """What the circuit does, in this run, of so many instructions at most."""
+def told(trace, folder, rom, run, most):
+    """The lines about this run, of so many instructions at most."""
     path = os.path.join(folder, "memory")
     with open(path, "wb") as file:
         file.write(as_bytes(memory(rom, run.frame)))
@@ -42,4 +42,17 @@ def traced(trace, folder, rom, run, most):
     done = subprocess.run([trace, path, *words], capture_output=True, text=True, check=False)
     if done.returncode:
         raise SystemExit(f"FAILED: dvg_trace: status {done.returncode}: {done.stderr[:300]}")
-    return [line_of(told) for told in done.stdout.splitlines()]
+    return done.stdout.splitlines()
+
+
+def traced(trace, folder, rom, run, most):
+    """What the circuit does in this run, instruction by instruction; the last line has the clocks."""
+    return [line_of(line) for line in told(trace, folder, rom, run, most)[:-1]]
+
+
+def traced_clocks(trace, folder, rom, run):
+    """The clocks of this run until it halts."""
+    name, clocks = told(trace, folder, rom, run, run.most)[-1].split()
+    if name != "clocks":
+        raise SystemExit("FAILED: dvg_trace: no clocks")
+    return int(clocks)

@@ -7,13 +7,17 @@
 //! instructions there are at most, and what the counters, the global scale, the stack pointer and the four stored places hold at the
 //! start: counters and places 0 to 4095, scale and pointer 0 to 15, which is not checked. The program counter is at 0. For each
 //! instruction there is a line: the program counter after it, which HALT leaves at its own address, both counters, the scale, the
-//! pointer, the four places, and then the counters wherever it had the beam lit.
+//! pointer, the four places, and then the counters wherever it had the beam lit. The last line is `clocks N`: how many clocks of
+//! 1.512 MHz these instructions took, by the states of Atari's DVG.
 #![tactic(auto)]
 
 mod memory;
 
 use anyhow::{Context, Result};
-use dvg_circuit::{Circuit, Counters, Run};
+use dvg_cert::Key;
+use dvg_circuit::{Bus, Circuit, Counters, Run};
+use dvg_clocks::{DVG_STATES, instr_clocks};
+use dvg_words::{Format, Machine, decode_on, is_long};
 use memory::Memory;
 use std::env::Args;
 use std::fmt::Write;
@@ -67,6 +71,22 @@ fn print_line(rt: &HostRuntime, run: &Run, lit_before: usize) -> Result<()> {
     Ok(())
 }
 
+/// The clocks of the next instruction, which are just so many as the circuit holds the scale.
+fn next_clocks(memory: &Memory, circuit: &Circuit) -> Result<u64> {
+    let first = memory.read(circuit.pc);
+    let second = memory.read((circuit.pc % 0x1000 + 1) % 0x1000);
+    let format = if is_long(first) {
+        Format::Long
+    } else {
+        Format::Short
+    };
+    let instr = decode_on(Machine::Board, first, second).context(
+        "each two words are an instruction",
+    )?;
+    let clocks = instr_clocks(&DVG_STATES, format, &instr, Key::At(circuit.scale % 16));
+    Ok(clocks.most)
+}
+
 fn main(rt: HostRuntime) -> Result<()> {
     let mut words = env::args(&rt)?.skip(1);
     let memory = Memory {
@@ -74,7 +94,10 @@ fn main(rt: HostRuntime) -> Result<()> {
     };
     let most: u32 = next_word(&mut words)?.parse()?;
     let mut run = Run::begin(registers(&mut words)?, rt.alloc());
+    let mut clocks: u64 = 0;
     for _ in 0..most {
+        let next = next_clocks(&memory, &run.circuit())?;
+        clocks = clocks.checked_add(next).context("too many clocks")?;
         let lit_before = run.lit().len();
         run.step(&memory)?;
         print_line(&rt, &run, lit_before)?;
@@ -82,5 +105,6 @@ fn main(rt: HostRuntime) -> Result<()> {
             break;
         }
     }
+    println!(rt; "clocks {clocks}")?;
     Ok(())
 }
