@@ -13,6 +13,8 @@ mod changed;
 #[cfg(test)]
 mod checking;
 #[cfg(test)]
+mod clocks;
+#[cfg(test)]
 mod columns;
 #[cfg(test)]
 mod expecting;

@@ -8,6 +8,7 @@
 //! - `text`, the certificate's whole text where it is another one, with `|` for each LF,
 //! - `frame` and its words,
 //! - `budget`, `window` and `mode`,
+//! - `limit`, how many clocks the frame may take,
 //! - `made` and the machines whose maker makes the certificate,
 //! - `board` and what the board reports, where the row is judged on it,
 //! - `accepted` or `refused`, which is what the profile's machine reports.
@@ -54,6 +55,7 @@ pub struct Row<'a> {
     budget: &'a str,
     window: &'a str,
     mode: &'a str,
+    pub limit: &'a str,
     pub made: &'a str,
     /// What the board reports, empty where the row is not judged on it.
     pub board: &'a str,
@@ -73,6 +75,7 @@ pub const ZEROS: Row<'static> = Row {
     budget: "20000",
     window: "0,1023,0,1023",
     mode: "bound",
+    limit: "",
     made: "",
     board: "",
     report: "",
@@ -97,10 +100,16 @@ pub const MADE: Row<'static> = Row {
     ..ZEROS
 };
 
+/// The same as `ZEROS`, where the frame may take more clocks than any frame takes.
+pub const UNLIMITED: Row<'static> = Row {
+    limit: "99999999999",
+    ..ZEROS
+};
+
 /// What a line of a row may begin with.
 const NAMES: &[&str] = &[
-    "map", "rom", "bytes", "shape", "text", "frame", "budget", "window", "mode", "made", "board",
-    "accepted", "refused",
+    "map", "rom", "bytes", "shape", "text", "frame", "budget", "window", "mode", "limit", "made",
+    "board", "accepted", "refused",
 ];
 
 /// Each line behind the first begins with a name.
@@ -189,6 +198,7 @@ impl<'a> Row<'a> {
             budget: words_of(lines, "budget", self.budget),
             window: words_of(lines, "window", self.window),
             mode: words_of(lines, "mode", self.mode),
+            limit: words_of(lines, "limit", self.limit),
             made: words_of(lines, "made", self.made),
             board: words_of(lines, "board", self.board),
             report: report_of(lines, self.report),
