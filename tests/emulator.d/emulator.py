@@ -24,6 +24,11 @@ class Run(NamedTuple):
     most: int = 1 << 20             # after so many instructions the generator is halted
 
 
+class Timed(NamedTuple):
+    run: Run
+    clocks: int         # after GO; then it is to halt
+
+
 class Item(NamedTuple):
     """The registers before an instruction, or after the last."""
     address: int
@@ -95,14 +100,18 @@ def filled(words, length, word=0):
     return as_bytes(words + [word] * (length - len(words)))
 
 
-def write_runs(path, batches):
+def spelled(what, run, number):
+    ram = filled(run.frame, RAM_WORDS, HALT).hex()
+    places = ",".join(map(str, run.places))
+    return f"{what} {run.x & 0xFFF} {run.y & 0xFFF} {run.scale} {run.pointer} {places} {number} {ram}"
+
+
+def write_batches(path, batches, spell):
     with open(path, "w", encoding="ascii") as file:
         for rom, runs in batches:
             print("rom", filled(rom, ROM_WORDS).hex(), file=file)
             for run in runs:
-                ram = filled(run.frame, RAM_WORDS, HALT).hex()
-                places = ",".join(map(str, run.places))
-                print("run", run.x & 0xFFF, run.y & 0xFFF, run.scale, run.pointer, places, run.most, ram, file=file)
+                print(spell(run), file=file)
 
 
 def start(folder):
@@ -126,23 +135,37 @@ def seen_of(line):
     return Seen([item_of(item) for item in items.split()], [tuple(map(int, point.split(","))) for point in points.split()])
 
 
-def emulate(folder, batches):
-    """For each run of these batches, a batch being a vector ROM's words and its Runs, what was seen, one after another."""
+def do_all(folder, batches, spell):
     os.makedirs(folder)
     write_roms(os.path.join(folder, "roms", "asteroid"))
-    write_runs(os.path.join(folder, "runs"), batches)
+    write_batches(os.path.join(folder, "runs"), batches, spell)
     said = start(folder)
     path = os.path.join(folder, "seen")
     with open(path, "a+", encoding="ascii") as file:
         file.seek(max(0, os.path.getsize(path) - 4))
         if file.read() != "end\n":
             raise SystemExit("FAILED: MAME did not come to the end:\n" + said[-2000:])
+
+
+def told_in(folder):
+    with open(os.path.join(folder, "seen"), encoding="ascii") as file:
+        for line in file:
+            if line != "end\n":
+                yield line
+
+
+def emulate(folder, batches):
+    """For each run of these batches, a batch being a vector ROM's words and its Runs, what was seen, one after another."""
+    do_all(folder, batches, lambda run: spelled("run", run, run.most))
     yield from seen_before(folder)
 
 
 def seen_before(folder):
     """What was seen of the runs that were emulated in this folder, once more."""
-    with open(os.path.join(folder, "seen"), encoding="ascii") as file:
-        for line in file:
-            if line != "end\n":
-                yield seen_of(line)
+    return map(seen_of, told_in(folder))
+
+
+def lateness(folder, batches):
+    """For each run of these batches, which has its Timed here, how many clocks later than that it halted, as runs.lua has it."""
+    do_all(folder, batches, lambda timed: spelled("time", timed.run, timed.clocks))
+    yield from map(int, told_in(folder))

@@ -4,8 +4,12 @@
 --   run X Y SCALE POINTER PLACES MOST HEX
 --                                before GO these are the counters, the global scale, the stack pointer, the four stored places, and the
 --                                bytes of vector RAM; MOST is how many instructions there are at most
+--   time X Y SCALE POINTER PLACES CLOCKS HEX
+--                                the same for a run that is to halt so many clocks after GO
 -- EMULATOR_SEEN gets a line for each run, and one line `end` if all went well:
 --   ITEM.. / POINT..             what the registers were before each instruction, and after the last; what the picture has
+--   LATE                         of a run that is timed: how many clocks after that its halt came, -9 to 9. The first stands for all that is
+--                                earlier, too, and the last for all that is later
 -- An ITEM is ADDRESS,X,Y,POINTER,PLACES,SCALE,OPCODE,INTENSITY,WORDS,POINTS. The opcode is that of the instruction to come, the
 -- intensity that of the last draw, WORDS how many words were fetched so far, and POINTS how many points the picture has so far. A
 -- POINT is X,Y,INTENSITY: the beam went there, with this intensity on its way. PLACES are four numbers.
@@ -118,7 +122,8 @@ local function wait_for_halt()
   until get("sync_halt") == 1 and get("halt") == 1
 end
 
-local function run(x, y, scale, pointer, places, instructions, hex)
+-- These are the registers and vector RAM, and GO.
+local function go(x, y, scale, pointer, places, hex)
   each_byte(hex, function(index, byte) space:write_u8(0x4000 + index, byte) end)
   set("xpos", tonumber(x))
   set("ypos", tonumber(y))
@@ -129,12 +134,38 @@ local function run(x, y, scale, pointer, places, instructions, hex)
     registers.stack:write(place, tonumber(address))
     place = place + 1
   end
-  words, items, running, most = 0, {}, true, tonumber(instructions)
   space:write_u8(0x3000, 0)
+end
+
+local function run(x, y, scale, pointer, places, instructions, hex)
+  words, items, running, most = 0, {}, true, tonumber(instructions)
+  go(x, y, scale, pointer, places, hex)
   wait_for_halt()
   if running then note_item(11) end -- after the last: no instruction comes
   running = false
   return table.concat(items, " ") .. " / " .. points() .. "\n"
+end
+
+-- A clock in seconds; and how many clocks before and after the one at which a halt is to come it is looked for.
+local CLOCK, NEAR = 8 / 12096000, 9
+
+-- How many clocks later than so many after GO, which was at `begun`, the processor sees the halt. It is looked for half a clock past
+-- each clock, so that it doesn't matter how times are rounded. Between two looks the emulator's time goes on by just one clock.
+local function lateness(begun, clocks)
+  for late = -NEAR, NEAR - 1 do
+    local left = begun + (clocks + late + 0.5) * CLOCK - manager.machine.time:as_double()
+    if left > 0 then emu.wait(left) end
+    if get("sync_halt") == 1 then return late end
+  end
+  return NEAR
+end
+
+local function time(x, y, scale, pointer, places, clocks, hex)
+  local begun = manager.machine.time:as_double()
+  go(x, y, scale, pointer, places, hex)
+  local late = lateness(begun, tonumber(clocks))
+  wait_for_halt()
+  return late .. "\n"
 end
 
 local function do_all()
@@ -146,7 +177,8 @@ local function do_all()
     if what == "rom" then
       each_byte(rest, function(index, byte) region:write_u8(0x5000 + index, byte) end)
     else
-      seen:write(run(rest:match("^(%S+) (%S+) (%S+) (%S+) (%S+) (%S+) (%S+)$")))
+      local go_on = what == "time" and time or run
+      seen:write(go_on(rest:match("^(%S+) (%S+) (%S+) (%S+) (%S+) (%S+) (%S+)$")))
     end
   end
   seen:write("end\n")
