@@ -9,7 +9,7 @@ use crate::inputs::rom_bytes;
 use crate::table::{Row, UNLIMITED, read_rows};
 use dvg_cert::MOST_WORDS;
 use dvg_check::frame_of;
-use dvg_clocks::{DVG_STATES, Range, TimedRefusal, TimedYes, Timing, judge_timed};
+use dvg_clocks::{ClockRange, DVG_STATES, TimedRefusal, TimedYes, Timing, judge_timed};
 use dvg_make::FrameRefusal;
 use dvg_text::read_cert;
 use dvg_words::{ASTEROIDS, FrameImage, Machine, RomImage, SCREEN};
@@ -217,7 +217,7 @@ fn needs_memory(rt: HostRuntime) {
     };
     match judge_timed(rt.alloc(), &rom, &frame, 100, SCREEN, &timing) {
         Ok(timed) => {
-            let clocks = Range {
+            let clocks = ClockRange {
                 least: 1564,
                 most: 1564,
             };
