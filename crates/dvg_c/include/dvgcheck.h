@@ -222,8 +222,8 @@ struct dvgcheck_recipe_answer dvgcheck_recipe(const uint8_t *rom, size_t rom_len
                                               size_t frame_size);
 
 /*
- * Tells whether a frame, as bytes, is one of a recipe's, as `dvgcheck belongs` does. Of the ROM only the length is looked at.
- * `recipe` is the text, as that of dvgcheck_recipe. The number is 83, or the first that applies of 51 to 56, 1, 57, 2 and
+ * Tells whether a frame, as bytes, is one of a recipe's, as `dvgcheck belongs` does. Of the ROM only the length is looked at, unless a
+ * draw of the recipe has to lead somewhere. `recipe` is the text, as that of dvgcheck_recipe. The number is 83, or the first that applies of 51 to 56, 1, 57, 2 and
  * DVGCHECK_OUTSIDE; or 0, and the frame is one of the recipe's. So where this is 0, and dvgcheck_recipe accepts the recipe over the
  * same ROM, the frame is safe. Takes memory for the recipe and for the frame's items, and gives it back; where there is none, the
  * number is 56 or 63. At most 160 KiB of the stack.

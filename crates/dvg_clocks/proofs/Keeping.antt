@@ -1,6 +1,6 @@
 -- What is kept of shapes, by the map that keeps it.
-use Rattle.dvg_clocks.proofs.Common.{◌≡◌, ℕ, Bool, List, [], ◌∷◌, refl, sym, ◌∙◌, ap, Key, ClockRange, Kept, found_at}
-use Rattle.std.specs.Prelude.{◌==◌, ◌&&◌, nat_eq}
+use Rattle.dvg_clocks.proofs.Common.{◌≡◌, ℕ, Bool, [], ◌∷◌, refl, sym, ap, Key, Kept, found_at}
+use Rattle.std.specs.Prelude.{◌==◌, ◌&&◌}
 use Rattle.std.specs.Map.{lookup}
 use Rattle.dvg_cert.specs.Lookup.{same_key}
 use Rattle.dvg_cert.proofs.Pairs.{pair_eq, key_test}

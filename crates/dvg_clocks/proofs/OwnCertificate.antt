@@ -1,11 +1,11 @@
 -- A frame that is accepted by its own certificate is one whose clocks are added up.
-use Rattle.dvg_clocks.proofs.Common.{◌≡◌, ℕ, ◌≤◌, List, [], ◌∷◌, sym, ◌∙◌, subst, Entry, Window, Rom, Memory, Good, GoodFrame, AreGood, IsAcceptedFrame, IsFirstOver, ClockRange, States}
-use Rattle.std.specs.Prelude.{Result, Ok, Err}
+use Rattle.dvg_clocks.proofs.Common.{◌≡◌, ℕ, ◌≤◌, List, [], ◌∷◌, subst, Entry, Window, Rom, Good, GoodFrame}
+use Rattle.std.specs.Prelude.{Ok}
 use Rattle.dvg_cert.specs.declared.limits.TheConstants.{MOST_WORDS}
 use Rattle.dvg_check.specs.declared.fault.Mode.TheVariants.{Exact}
 use Rattle.dvg_check.specs.declared.verdict.Yes.{Yes}
 use Rattle.dvg_make.specs.Frames.{FrameMade}
-use Rattle.dvg_make.specs.Judging.{VerdictByMade, ByMade}
+use Rattle.dvg_make.specs.Judging.{VerdictByMade}
 use Rattle.dvg_make.proofs.OneFrame.{one_frames_made}
 use Rattle.dvg_clocks.specs.Judging.{IsAccepted}
 

@@ -1,5 +1,5 @@
 -- What the loop over the entries of a certificate keeps: those with fewer words come first.
-use Rattle.dvg_clocks.proofs.Common.{◌≡◌, ℕ, ◌+◌, ◌*◌, ◌≤◌, ◌<◌, Bool, true, List, [], ◌∷◌, length, Option, Some, None, refl, sym, ◌∙◌, ap, subst, arith, inl, inr, ◌⊎◌, ⊎_elim, Contains, Entry, Key, Rom, rom_word, Shape, Item, shape_context, words_before, ClockRange, States, just, taken_before, clocks_known, sum_of, AreGood, WORD_CLOCKS, ScaleCursor, Kept, found_at, clocks_in, IsKeptToo, IsFewFor, AreAllFew, IsToldOf, AreTold, IsTaken, IsWalkable}
+use Rattle.dvg_clocks.proofs.Common.{◌≡◌, ℕ, ◌+◌, ◌*◌, ◌≤◌, ◌<◌, Bool, true, List, [], ◌∷◌, length, Option, Some, None, refl, sym, ◌∙◌, ap, subst, arith, inl, inr, ◌⊎◌, ⊎_elim, Contains, Entry, Key, Rom, rom_word, Shape, shape_context, words_before, ClockRange, States, just, clocks_known, sum_of, AreGood, WORD_CLOCKS, Kept, found_at, clocks_in, IsKeptToo, IsFewFor, AreAllFew, IsToldOf, AreTold, IsTaken, IsWalkable}
 use Rattle.std.specs.Prelude.{◌==◌, ◌&&◌, cond, false, get_or, unwrap_or, IfSome, IfNone, IsPermutation}
 use Rattle.std.specs.List.Sorted.{IsNonDecreasingBy}
 use Rattle.std.proofs.lemmas.List.{get_or_default}
@@ -7,7 +7,6 @@ use Rattle.std.proofs.Math.Nat.{mul-le-mul_left}
 use Rattle.std.proofs.lemmas.List.Sorted.{Contains-permutation, IsPermutation-sym}
 use Rattle.dvg_cert.specs.Lookup.{same_key, entry_at, IsOnlyAt, HasNoneAt}
 use Rattle.dvg_cert.specs.Order.{IsRising}
-use Rattle.dvg_cert.specs.declared.limits.TheConstants.{MOST_WORDS}
 use Rattle.dvg_cert.proofs.OnlyEntries.{found}
 use Rattle.dvg_check.proofs.Common.{listed_claim, IsSomeCertificate}
 use Rattle.dvg_check.specs.declared.fault.ShapeWhy.TheVariants as shape

@@ -37,7 +37,7 @@ pub fn frame_clocks<E: Entries>(
     requires frame { (words : ℕ) × IsAcceptedFrame (record { frame = frame.now; rom = rom.now }) (E.list entries.now) words }
     ensures value { (words : ℕ) → IsAcceptedFrame (record { frame = frame.now; rom = rom.now }) (E.list entries.now) words
         → IfOk result (λ clocks. clocks ≡ frame_sum (clocks_known timing.now.states) (record { frame = frame.now; rom = rom.now })
-            (E.list entries.now) words) }
+        (E.list entries.now) words) }
     ensures ordered { IfOk result (λ clocks. clocks.least ≤ clocks.most) }
     ensures within { IfOk result (λ clocks. clocks.most ≤ timing.now.limit) }
     ensures circuit { rom.now.machine ≡ Board

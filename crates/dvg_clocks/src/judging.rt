@@ -47,7 +47,7 @@ fn clocks_by(
     requires { IsAccepted (record { frame = frame.now; rom = rom.now }) cert.now.entries }
     ensures value { (accepted : IsAccepted (record { frame = frame.now; rom = rom.now }) cert.now.entries)
         → IfOk result (λ clocks. clocks ≡ frame_sum (clocks_known timing.now.states) (record { frame = frame.now; rom = rom.now })
-            cert.now.entries accepted.words) }
+        cert.now.entries accepted.words) }
     ensures within { IfOk result (λ clocks. clocks.most ≤ timing.now.limit) }
     ensures circuit { rom.now.machine ≡ Board
         → IfOk result (TakenOnCircuit (clocks_of_instr timing.now.states) (record { frame = frame.now; rom = rom.now })) }
@@ -85,7 +85,7 @@ pub fn judge_timed(
     ensures least { IfOk result (λ timed. AreLeast rom.now frame.now window timed.yes.words timed.yes.depth) }
     ensures clocks { rom.now.machine ≡ Board
         → IfOk result (λ timed. TakenOnCircuit (clocks_of_instr timing.now.states)
-            (record { frame = frame.now; rom = rom.now }) timed.clocks) }
+        (record { frame = frame.now; rom = rom.now }) timed.clocks) }
     ensures refused { IfErr result (TimedRefused rom.now frame.now window budget) }
 {
     let judged = explain_judging(alloc, rom, frame, budget, window);

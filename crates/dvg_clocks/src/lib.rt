@@ -11,7 +11,7 @@ mod judging;
 pub mod laws;
 mod shapes;
 
-pub use clocks::{DVG_STATES, ClockRange, States, instr_clocks};
+pub use clocks::{ClockRange, DVG_STATES, States, instr_clocks};
 pub use frames::{Timing, frame_clocks};
 pub use judging::{TimedRefusal, TimedYes, judge_timed};
 pub use shapes::ShapeClocks;

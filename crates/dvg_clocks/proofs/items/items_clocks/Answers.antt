@@ -1,4 +1,4 @@
-use Rattle.dvg_clocks.proofs.Common.{◌≡◌, ◌∙◌, ap, sym, subst, arith, target, callee, IsTaken, ClockRange}
+use Rattle.dvg_clocks.proofs.Common.{◌≡◌, ◌∙◌, ap, sym, subst, arith, target, IsTaken, ClockRange}
 use Rattle.dvg_items.specs.Known.{callee_at}
 use Rattle.dvg_clocks.proofs.Walking.{Going, few_of, onward, done, over}
 use Rattle.dvg_clocks.proofs.items.items_clocks.Goals as goal

@@ -1,4 +1,4 @@
-use Rattle.dvg_clocks.proofs.Common.{◌≡◌, sym, ◌∙◌, subst}
+use Rattle.dvg_clocks.proofs.Common.{sym, ◌∙◌, subst}
 use Rattle.std.specs.Prelude.{Ok}
 use Rattle.dvg_make.specs.Judging.{VerdictByMade}
 use Rattle.dvg_clocks.proofs.OwnCertificate.{accepted}

@@ -1,7 +1,7 @@
 use Rattle.std.specs.Prelude.{cond, Some, ◌==◌, ◌&&◌}
 use Rattle.dvg_cert.specs.Lookup.{same_key}
 use Rattle.std.specs.Map.{lookup}
-use Rattle.dvg_clocks.proofs.Common.{◌≡◌, ◌∙◌, ap, sym, found_at}
+use Rattle.dvg_clocks.proofs.Common.{◌∙◌, ap, sym, found_at}
 use Rattle.dvg_clocks.proofs.Keeping.{found_in, pair_of}
 use Rattle.dvg_cert.proofs.Pairs.{pair_eq}
 use Rattle.dvg_clocks.proofs.shapes.ShapeClocks.add.Goals as goal
