@@ -1,14 +1,14 @@
 """How long a frame takes: clocks.py PROGRAM TRACE FOLDER EXAMPLES
 
 The clocks that dvg_trace has of a frame, until it halts, are to be the emulator's: its emulated time from GO to the halt that the
-processor sees, to the clock. GO adds one clock there, in which the state latch takes in that the generator is no longer halted; only
-the emulator's first run begins without it.
+processor sees, to the clock. Each run but the emulator's first takes one clock more there: it seems that its latch of states first has
+to take in that the generator is no longer halted. How many states an instruction has is by the PROM of emulator.py.
 
 The frames are those of frames.py, and as many short ones that are dark and mostly come before the first LABS, from each scale that the
 generator may hold at the start: draws and calls, four deep, by tail jumps, and jumps of the frame.
 
-Of the frames that `frames --board` accepts the clocks of dvg_trace are also to be those that sums.py adds up, item by item; or between
-its least and its most, where draws come before a scale is known.
+Of the frames that `frames --board` accepts the clocks of dvg_trace are also to be those that sums.py adds up, item by item, from the
+scale at the start; and, where that is not known, no less than the least and no more than the most that it adds up.
 """
 
 import os
@@ -94,11 +94,12 @@ class Clocks:
 
     def compare_sum(self, lot, timed, sums):
         least, most, _ = sums.frame()
+        known = sums.items(0, timed.run.scale)
         self.exact += least == most
         self.between += least < most
         self.widest = max(self.widest, most - least)
-        if not least <= timed.clocks <= most:
-            self.differs(lot, timed.run, f"the circuit takes {timed.clocks} clocks, and by its items it's {least} to {most}")
+        if not least <= known.least == timed.clocks == known.most <= most:
+            self.differs(lot, timed.run, f"the circuit takes {timed.clocks} clocks, and by its items it's {known.most}, {least} to {most}")
 
     def report(self):
         least, most = min(self.late), max(self.late)
