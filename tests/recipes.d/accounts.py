@@ -44,7 +44,7 @@ def rooms(recipe):
 
 
 def takes_most(every):
-    """The line that takes most, in all turns, by the most words of each instance; jumps and HALT count for nothing."""
+    """The line that takes most, in all turns, by the most words of each instance; none where all but jumps and HALT take nothing."""
     most = {}
     for one, _, words in every:
         if one.item[0] not in ("jmpl", "halt"):
@@ -53,8 +53,9 @@ def takes_most(every):
     sums = {}
     for (line, _), words in most.items():
         sums[line] = sums.get(line, 0) + words
-    line = min(sums, key=lambda line: (-sums[line], line), default=1)
-    return f"takes most: line {line}, up to {sums.get(line, 0)} words in all"
+    if any(sums.values()):
+        line = min(sums, key=lambda line: (-sums[line], line))
+        yield f"takes most: line {line}, up to {sums[line]} words in all"
 
 
 def extent(places):
@@ -121,4 +122,4 @@ def account(case, shapes, answer, witness):
     if answer.number:
         return [*turns(case.recipe, answer), f"shown by: a frame of {len(witness)} words, as follows"]
     every = [one for member in case.members for one in seen(member, shapes)]
-    return [*rooms(case.recipe), takes_most(every), *known(every)]
+    return [*rooms(case.recipe), *takes_most(every), *known(every)]

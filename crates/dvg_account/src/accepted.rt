@@ -70,7 +70,7 @@ impl Survey {
             Some(rom) => shapes_extent(rom, cert, &entries),
             None => LitBox::Empty,
         };
-        let remarks = remarks_on(alloc, cert, &entries, rom, &frame.faint, inputs.labels)?;
+        let remarks = remarks_on(alloc, inputs, cert, &entries, rom, &frame.faint)?;
         Ok(Survey {
             frame,
             shapes,

@@ -6,6 +6,7 @@ ghost use Rattle.dvg_account.specs.Building.{Adds};
 
 use crate::line::Line;
 use crate::lines::Lines;
+use crate::starts::ShapeStarts;
 use crate::why::{Addresses, InputWhy, Why};
 use dvg_cert::Cert;
 use dvg_check::{Mode, Refusal};
@@ -31,6 +32,8 @@ pub struct Inputs<'a> {
     pub mode: Mode,
     /// The labels of words, if there are any.
     pub labels: Option<&'a Labels>,
+    /// Where the shapes of other frames begin, if these were looked at.
+    pub others: Option<&'a ShapeStarts>,
 }
 
 /// Why an answer is a refusal before any item was judged.

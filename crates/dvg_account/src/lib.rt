@@ -26,6 +26,7 @@ mod refused;
 mod remarks;
 mod sentences;
 mod spelling;
+mod starts;
 mod swapped;
 mod text;
 mod texts;
@@ -45,6 +46,7 @@ pub use middle::Middle;
 pub use own::{frame_lines, own_lines};
 pub use recipes::{KnownBefore, RecipeLine, recipe_text};
 pub use remarks::{Beginning, Remark};
+pub use starts::ShapeStarts;
 pub use swapped::{Swapped, find_swapped};
 pub use texts::{
     certificate_text, frame_text, leaving_text, made_text, own_text, plain_text, unmade_text,

@@ -1,6 +1,8 @@
 //! What is worth a second look in what is accepted. It changes no answer.
 
+use crate::inputs::Inputs;
 use crate::line::EntryName;
+use crate::starts::ShapeStarts;
 use crate::zeros::{MOST_ITEMS, item_below};
 use dvg_cert::{Cert, Entries, Entry, Key};
 use dvg_items::{Item, Kind};
@@ -35,6 +37,26 @@ pub enum Beginning {
     Label,
 }
 
+/// Where something begins beside the shapes of a certificate: the shapes of other frames, and, by word address, what labels name.
+#[derive(Clone, Copy)]
+struct Beside<'a> {
+    others: Option<&'a ShapeStarts>,
+    labelled: &'a [bool],
+}
+
+impl<'a> Beside<'a> {
+    /// What begins at a word address, a shape before a label.
+    fn beginning(&self, at: u16) -> Option<Beginning> {
+        if self.others.is_some_and(|others| others.has(at)) {
+            Some(Beginning::Entry)
+        } else if self.labelled.get(usize::from(at)) == Some(&true) {
+            Some(Beginning::Label)
+        } else {
+            None
+        }
+    }
+}
+
 /// What a walk over the items of a shape found.
 #[derive(Clone, Copy)]
 struct Walk {
@@ -56,14 +78,14 @@ fn labelled_words(alloc: Global, labels: Option<&Labels>) -> Result<Vec<bool>, A
 }
 
 impl Walk {
-    /// The walk over the shape of an entry, with the entries behind it, in their order, and which words have labels. It ends where
-    /// another shape begins at the very scale that is known there, whose own walk goes on.
+    /// The walk over the shape of an entry, with the entries behind it, in their order, and what begins beside them. It ends where
+    /// another shape of the certificate begins at the very scale that is known there, whose own walk goes on.
     fn over<E: Entries>(
         rom: &RomImage,
         entries: &E,
         entry: &Entry,
         later: &[Entry],
-        labelled: &[bool],
+        beside: Beside,
     ) -> Walk {
         let mut walk = Walk {
             first: None,
@@ -84,7 +106,7 @@ impl Walk {
             let Some(at) = here else {
                 break;
             };
-            if walk.meets(entries, later, at, scale, labelled) {
+            if walk.meets(entries, later, at, scale, beside) {
                 break;
             }
         }
@@ -107,15 +129,15 @@ impl Walk {
         }
     }
 
-    /// Notes where a shape begins, the first of these entries', or a label stands, and answers whether a shape begins there at this
-    /// very scale.
+    /// Notes what begins at a word address, the first of these entries' shapes or something beside them, and answers whether a shape
+    /// of the certificate begins there at this very scale.
     fn meets<E: Entries>(
         &mut self,
         entries: &E,
         later: &[Entry],
         at: u16,
         scale: Key,
-        labelled: &[bool],
+        beside: Beside,
     ) -> bool {
         match later.first() {
             Some(entry) if entry.addr == at => {
@@ -123,8 +145,8 @@ impl Walk {
                 entries.find(at, scale).is_some()
             }
             _ => {
-                if labelled.get(usize::from(at)) == Some(&true) {
-                    self.note_beginning(at, Beginning::Label);
+                if let Some(beginning) = beside.beginning(at) {
+                    self.note_beginning(at, beginning);
                 }
                 false
             }
@@ -165,21 +187,25 @@ fn from_address(entries: &[Entry], here: Option<u16>) -> &[Entry] {
     }
 }
 
-/// The remarks on a frame, whose faint draws stand at these word addresses, and on the shapes of a certificate over a ROM, whose words
-/// these labels name.
+/// The remarks on a frame, whose faint draws stand at these word addresses, and on the shapes of a certificate over a ROM, by the labels
+/// and the other frames of these inputs.
 pub fn remarks_on<E: Entries>(
     alloc: Global,
+    inputs: &Inputs,
     cert: &Cert,
     entries: &E,
     rom: Option<&RomImage>,
     faint: &[u16],
-    labels: Option<&Labels>,
 ) -> Result<Vec<Remark>, AllocError> {
     let mut remarks = Vec::new(alloc);
     push_some(&mut remarks, faint_in_frame(faint))?;
     if let Some(rom) = rom {
-        let labelled = labelled_words(alloc, labels)?;
-        push_shapes(&mut remarks, rom, cert, entries, labelled.as_slice())?;
+        let labelled = labelled_words(alloc, inputs.labels)?;
+        let beside = Beside {
+            others: inputs.others,
+            labelled: labelled.as_slice(),
+        };
+        push_shapes(&mut remarks, rom, cert, entries, beside)?;
     }
     Ok(remarks)
 }
@@ -199,14 +225,14 @@ fn push_shapes<E: Entries>(
     rom: &RomImage,
     cert: &Cert,
     entries: &E,
-    labelled: &[bool],
+    beside: Beside,
 ) -> Result<(), AllocError> {
     let mut told = None;
     let mut later = cert.entries();
     for entry in cert.entries() {
         later = from_address(later, Some(entry.addr));
         let shape = EntryName::of(entry);
-        let walk = Walk::over(rom, entries, entry, later, labelled);
+        let walk = Walk::over(rom, entries, entry, later, beside);
         push_some(remarks, walk.faint(shape))?;
         if told != Some(entry.addr) {
             push_some(

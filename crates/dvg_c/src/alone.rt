@@ -31,5 +31,6 @@ pub fn own_certificates<'a>(
         map,
         budget,
         window,
+        others: None,
     })
 }

@@ -13,13 +13,13 @@ ghost use Rattle.dvg_cmd.specs.declared.detail.Detail.TheVariants as details;
 ghost use Rattle.dvg_cmd.specs.Private.Judging.{AreImages};
 
 use crate::detail::{Behind, Detail};
-use dvg_account::{Inputs, frame_text, own_text};
+use dvg_account::{Inputs, ShapeStarts, frame_text, own_text};
 use dvg_cert::{Cert, Entries};
 use dvg_check::{JudgedShapes, Mode, Refusal, RomFinding, Yes, frame_of};
 use dvg_labels::Labels;
-use dvg_make::{FrameRefusal, explain_judging, judge, own_verdict};
+use dvg_make::{EntryCause, FrameRefusal, explain_judging, judge, own_verdict};
 use dvg_words::{FrameImage, Machine, RomImage, RomMap, Window};
-use std::alloc::Global;
+use std::alloc::{AllocError, Global};
 
 /// A verdict on a frame, and what the detail asks for behind its line.
 pub type ToldVerdict = (Result<Yes, FrameRefusal>, Behind);
@@ -60,6 +60,8 @@ pub struct OwnCertificates<'a> {
     pub budget: u32,
     /// Where strokes may be lit. On the profile a yes for `CLIPPED` says nothing of the screen.
     pub window: Window,
+    /// Where the shapes of other frames begin, if an account is to tell which of a frame's own shapes runs on into one of them.
+    pub others: Option<&'a ShapeStarts>,
 }
 
 impl<'a> FrameJudge for OwnCertificates<'a> {
@@ -92,6 +94,30 @@ fn images_for<'a>(
 {
     let frame = frame_of(frame, budget)?;
     Ok((frame, RomImage::from_bytes_on(machine, rom, map)?))
+}
+
+impl<'a> OwnCertificates<'a> {
+    /// Adds where the shapes begin that a frame calls, if a certificate can be made for it. Takes memory as
+    /// [`explain_judging`] does; an `Err` says that there was none.
+    pub fn add_starts(
+        &self,
+        alloc: Global,
+        frame: &[u8],
+        starts: &mut ShapeStarts,
+    ) -> Result<(), AllocError> {
+        let Ok((frame, rom)) = images_for(self.machine, self.rom, self.map, frame, self.budget)
+        else {
+            return Ok(());
+        };
+        match explain_judging(alloc, &rom, &frame, self.budget, self.window) {
+            Ok(judged) => {
+                starts.add(&judged.cert);
+                Ok(())
+            }
+            Err(account) if account.cause == EntryCause::Memory => Err(AllocError),
+            Err(_) => Ok(()),
+        }
+    }
 }
 
 /// The verdict on the bytes of a frame by its own certificate: the first that applies of 2, 49 and 1, else that of [`judge`].
@@ -128,6 +154,7 @@ fn explain_by_own<'a>(
         window: own.window,
         mode: Mode::Exact,
         labels,
+        others: own.others,
     };
     match images_for(own.machine, own.rom, own.map, frame, own.budget) {
         Ok((image, rom)) => {
@@ -265,6 +292,7 @@ fn account_over<E: Entries>(
         window: given.shapes.window(),
         mode: given.mode,
         labels,
+        others: None,
     };
     Behind::of(frame_text(alloc, &inputs, verdict, cause))
 }

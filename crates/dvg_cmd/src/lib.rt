@@ -31,6 +31,7 @@ pub use comparing::run_comparison;
 pub use detail::Behind;
 pub use detail::Detail;
 pub use dvg_account::PlainWhy;
+pub use dvg_account::ShapeStarts;
 pub use dvg_cert::Cert;
 pub use dvg_cert::CertFault;
 pub use dvg_cert::CertWhy;

@@ -188,6 +188,7 @@ fn account_of(
         window: options.window,
         mode: options.mode,
         labels,
+        others: None,
     };
     Behind::of(verdict_text(alloc, &inputs, &judged.verdict, judged.cause.as_ref()))
 }

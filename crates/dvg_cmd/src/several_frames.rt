@@ -230,6 +230,7 @@ impl<'a> Given<'a> {
             window: self.options.window,
             mode: Mode::Bound,
             labels,
+            others: None,
         };
         let verdict = Err(cause.refusal());
         Behind::of(verdict_text(alloc, &inputs, &verdict, Some(cause)))

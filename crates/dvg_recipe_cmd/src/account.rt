@@ -93,9 +93,9 @@ fn push_known(
     Ok(())
 }
 
-/// The line of the text whose pieces may take the most words, and how many these are.
-fn takes_most(read: &ReadRecipe, seen: &[SeenPiece]) -> RecipeLine {
-    let mut most = (1, 0);
+/// The line of the text whose pieces may take the most words, and how many these are; `None` if no piece takes any.
+fn takes_most(read: &ReadRecipe, seen: &[SeenPiece]) -> Option<RecipeLine> {
+    let mut most = (0, 0);
     let mut here = (0, 0u32);
     for (piece, number) in seen.iter().zip(read.lines.iter()) {
         let line = u32::from(*number);
@@ -105,10 +105,11 @@ fn takes_most(read: &ReadRecipe, seen: &[SeenPiece]) -> RecipeLine {
             most = here;
         }
     }
-    RecipeLine::TakesMost {
-        line: most.0,
-        words: most.1,
+    let (line, words) = most;
+    if words == 0 {
+        return None;
     }
+    Some(RecipeLine::TakesMost { line, words })
 }
 
 /// The account of an accepted recipe.
@@ -119,7 +120,9 @@ fn accepted_text(
 ) -> Result<String, AllocError> {
     let mut lines = Vec::new(alloc);
     push_rooms(alloc, read, &mut lines)?;
-    lines.push(takes_most(read, seen))?;
+    if let Some(line) = takes_most(read, seen) {
+        lines.push(line)?;
+    }
     push_known(read, seen, &mut lines)?;
     recipe_text(alloc, &lines)
 }
@@ -225,6 +228,7 @@ fn shown_text(
         map: explained.options.map,
         budget: explained.options.budget,
         window: explained.options.window,
+        others: None,
     };
     let (verdict, behind) = judge.verdict(alloc, &shown.frame, Detail::Account(labels));
     if let Err(FrameRefusal::NoMemory) = verdict {

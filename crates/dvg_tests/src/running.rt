@@ -94,6 +94,7 @@ fn expect_line(
         map: ASTEROIDS,
         budget: 20000,
         window: SCREEN,
+        others: None,
     };
     let frame = NamedFrame {
         name: format!(in alloc; "frame").expect(rt, "memory for a name"),

@@ -57,11 +57,36 @@ impl From<io::Error> for InputFault {
     }
 }
 
-/// An open file that is read.
+/// An open file that is read, or what was read of one.
 #[derive(Drop)]
 pub enum Source {
     File(File),
     Standard(Stdin),
+    Kept(KeptBytes),
+}
+
+/// The bytes that were read of a file, of which the first ones were taken.
+#[derive(Drop)]
+pub struct KeptBytes {
+    bytes: Vec<u8>,
+    taken: usize,
+}
+
+impl KeptBytes {
+    /// These bytes, none of them taken.
+    pub fn new(bytes: Vec<u8>) -> KeptBytes {
+        KeptBytes { bytes, taken: 0 }
+    }
+}
+
+impl Read for KeptBytes {
+    fn read(&mut self, buf: &mut [u8]) -> io::Result<usize> {
+        let rest = self.bytes.get(self.taken..).unwrap_or(&[]);
+        let count = rest.len().min(buf.len());
+        buf[..count].copy_from_slice(&rest[..count]);
+        self.taken = self.taken.saturating_add(count);
+        Ok(count)
+    }
 }
 
 impl Read for Source {
@@ -69,6 +94,7 @@ impl Read for Source {
         match self {
             Source::File(file) => file.read(buf),
             Source::Standard(stdin) => stdin.read(buf),
+            Source::Kept(kept) => kept.read(buf),
         }
     }
 }

@@ -16,13 +16,14 @@ mod options;
 mod output;
 mod recipe_arguments;
 mod recipes;
+mod together;
 
 use command::{
     Asked, Certificates, CheckArgs, FrameNames, FramesArgs, MakeArgs, Named, Parsed, Request, Usage,
 };
 use dvg_cmd::{
     Counted, CountedWrite, Detail, FrameOutcome, FramesRunFault, Labels, MakeAnswer, MakeFault,
-    MakeRunFault, NamedFrame, Outcome, OwnCertificates, Rule, RunFault, TextWatch, Window,
+    MakeRunFault, NamedFrame, Outcome, OwnCertificates, RomMap, Rule, RunFault, TextWatch, Window,
     all_rules, frames_status_of, load_cert, load_rom, make_frames_status_of, message_of,
     run_check_in, run_comparison, run_explain_make, run_frames, run_frames_given, run_make_frames,
     run_places, run_rule, run_rules, status_of, write_make_answer, write_make_fault, write_message,
@@ -35,6 +36,7 @@ use recipes::{run_belonging, run_print_of, run_recipe};
 use std::alloc::AllocError;
 use std::io;
 use std::process::ExitCode;
+use together::{ReadFrame, read_frames, starts_of};
 
 fn open<F: Drop>(rt: &HostRuntime, input: Input, fault: F) -> Result<Source, F> {
     input.open(rt).map_err(|_| fault)
@@ -57,9 +59,52 @@ fn check(rt: &HostRuntime, args: &CheckArgs, detail: Detail) -> Result<Outcome, 
 }
 
 /// Reads the ROM, and the certificate if one is given, and then judges frame after frame: each file is opened when the one before it
-/// is closed.
+/// is closed. Accounts of several frames by certificates of their own come when all frames are read.
 fn frames(rt: &HostRuntime, named: Vec<Named>, asked: &Asked) -> Result<FrameOutcome, RunFault> {
-    judge_frames(rt, asked, named.into_iter().map(|frame| opened(rt, frame)))
+    match asked.certificates {
+        Certificates::Made(map) if asked.listing.detail.has_account() && named.len() > 1 => {
+            explain_together(rt, asked, map, named)
+        }
+        _ => judge_frames(rt, asked, named.into_iter().map(|frame| opened(rt, frame))),
+    }
+}
+
+/// Reads the ROM and then all frames, and judges these with accounts, each of which knows where the shapes of the other frames begin.
+fn explain_together(
+    rt: &HostRuntime,
+    asked: &Asked,
+    map: RomMap,
+    named: Vec<Named>,
+) -> Result<FrameOutcome, RunFault> {
+    let rom = load_rom(&mut Counted::new(open(rt, asked.rom, RunFault::ReadRom)?))?;
+    let start = asked.options.start;
+    let frames = read_frames(rt, named, start).map_err(|_| RunFault::Memory)?;
+    let judge = own_certificates(asked, rom.as_slice(), map);
+    let starts = starts_of(rt.alloc(), &judge, frames.as_slice()).map_err(|_| RunFault::Memory)?;
+    let judge = OwnCertificates {
+        others: Some(&starts),
+        ..judge
+    };
+    run_frames(
+        rt.alloc(),
+        &judge,
+        start,
+        frames.into_iter().map(ReadFrame::reopened),
+        asked.listing,
+        &mut Counted::new(io::writer(rt)),
+    )
+}
+
+/// The judge by certificates that are made over this ROM.
+fn own_certificates<'a>(asked: &Asked, rom: &'a [u8], map: RomMap) -> OwnCertificates<'a> {
+    OwnCertificates {
+        machine: asked.options.machine,
+        rom,
+        map,
+        budget: asked.options.budget,
+        window: asked.options.window,
+        others: None,
+    }
 }
 
 /// Does the same with the frames that a list names, which is read name by name, beginning before the ROM is opened.
@@ -95,13 +140,7 @@ fn judge_frames<I: Iterator<Item = NamedFrame<Counted<Source>>> + Drop>(
     let rom = load_rom(&mut Counted::new(open(rt, asked.rom, RunFault::ReadRom)?))?;
     match asked.certificates {
         Certificates::Made(map) => {
-            let judge = OwnCertificates {
-                machine: asked.options.machine,
-                rom: rom.as_slice(),
-                map,
-                budget: asked.options.budget,
-                window: asked.options.window,
-            };
+            let judge = own_certificates(asked, rom.as_slice(), map);
             let start = asked.options.start;
             run_frames(rt.alloc(), &judge, start, frames, asked.listing, &mut out)
         }
