@@ -272,13 +272,13 @@ fn verdict_over<E: Entries>(
 }
 
 /// The account of this verdict on the bytes of a frame over judged shapes.
-fn account_over<E: Entries>(
+fn account_over<'a, E: Entries>(
     alloc: Global,
-    given: &GivenCertificate<E>,
-    frame: &[u8],
+    given: &GivenCertificate<'a, E>,
+    frame: &'a [u8],
     verdict: &Result<Yes, FrameRefusal>,
     cause: Option<&RomFinding>,
-    labels: Option<&Labels>,
+    labels: Option<&'a Labels>,
 ) -> Behind
     ensures { IsBehind (details.Account None) result }
 {

@@ -161,14 +161,14 @@ pub fn text_account(
 }
 
 /// What the detail asks for behind the report of a verdict on these bytes.
-fn account_of(
+fn account_of<'a>(
     alloc: Global,
-    rom: &[u8],
-    frame: &[u8],
-    judged: &Judgment,
+    rom: &'a [u8],
+    frame: &'a [u8],
+    judged: &'a Judgment,
     options: &CheckOptions,
     watch: &TextWatch,
-    detail: Detail,
+    detail: Detail<'a>,
 ) -> Behind
     ensures { IsBehind detail.entry result }
 {

@@ -212,7 +212,7 @@ struct Given<'a> {
 
 impl<'a> Given<'a> {
     /// What the detail asks for behind the line of a refusal of the ROM or of a shape, of which this is the cause.
-    fn refusal_account(&self, alloc: Global, cause: &RomFinding, detail: Detail) -> Behind
+    fn refusal_account(&self, alloc: Global, cause: &RomFinding, detail: Detail<'a>) -> Behind
         requires { RefusesShapes self.now.options.now.machine self.now.options.now.window self.now.rom.now self.now.cert.now
             (refusal_of cause.now) }
         ensures { IsBehind detail.entry result }
@@ -241,7 +241,7 @@ impl<'a> Given<'a> {
         &self,
         alloc: Global,
         cause: &RomFinding,
-        detail: Detail,
+        detail: Detail<'a>,
         out: &mut W,
     ) -> Result<FrameOutcome, RunFault>
         requires { RefusesShapes self.now.options.now.machine self.now.options.now.window self.now.rom.now self.now.cert.now
