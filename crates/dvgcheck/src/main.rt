@@ -23,11 +23,11 @@ use command::{
 };
 use dvg_cmd::{
     Counted, CountedWrite, Detail, FrameOutcome, FramesRunFault, Labels, MakeAnswer, MakeFault,
-    MakeRunFault, NamedFrame, Outcome, OwnCertificates, RomMap, Rule, RunFault, TextWatch, Window,
-    all_rules, frames_status_of, load_cert, load_rom, make_frames_status_of, message_of,
-    run_check_in, run_comparison, run_explain_make, run_frames, run_frames_given, run_make_frames,
-    run_places, run_rule, run_rules, status_of, write_make_answer, write_make_fault, write_message,
-    write_text,
+    MakeRunFault, NamedFrame, Outcome, OwnCertificates, RomMap, Rule, RunFault, ShapeStarts,
+    TextWatch, Window, all_rules, frames_status_of, load_cert, load_rom, make_frames_status_of,
+    message_of, run_check_in, run_comparison, run_explain_make, run_frames, run_frames_given,
+    run_make_frames, run_places, run_rule, run_rules, status_of, write_make_answer,
+    write_make_fault, write_message, write_text,
 };
 use input::{Input, Source};
 use list::{List, ListFault};
@@ -79,12 +79,9 @@ fn explain_together(
     let rom = load_rom(&mut Counted::new(open(rt, asked.rom, RunFault::ReadRom)?))?;
     let start = asked.options.start;
     let frames = read_frames(rt, named, start).map_err(|_| RunFault::Memory)?;
-    let judge = own_certificates(asked, rom.as_slice(), map);
-    let starts = starts_of(rt.alloc(), &judge, frames.as_slice()).map_err(|_| RunFault::Memory)?;
-    let judge = OwnCertificates {
-        others: Some(&starts),
-        ..judge
-    };
+    let alone = own_certificates(asked, rom.as_slice(), map, None);
+    let starts = starts_of(rt.alloc(), &alone, frames.as_slice()).map_err(|_| RunFault::Memory)?;
+    let judge = own_certificates(asked, rom.as_slice(), map, Some(&starts));
     run_frames(
         rt.alloc(),
         &judge,
@@ -95,15 +92,20 @@ fn explain_together(
     )
 }
 
-/// The judge by certificates that are made over this ROM.
-fn own_certificates<'a>(asked: &Asked, rom: &'a [u8], map: RomMap) -> OwnCertificates<'a> {
+/// The judge by certificates that are made over this ROM, beside other frames whose shapes begin here.
+fn own_certificates<'a>(
+    asked: &Asked,
+    rom: &'a [u8],
+    map: RomMap,
+    others: Option<&'a ShapeStarts>,
+) -> OwnCertificates<'a> {
     OwnCertificates {
         machine: asked.options.machine,
         rom,
         map,
         budget: asked.options.budget,
         window: asked.options.window,
-        others: None,
+        others,
     }
 }
 
@@ -140,7 +142,7 @@ fn judge_frames<I: Iterator<Item = NamedFrame<Counted<Source>>> + Drop>(
     let rom = load_rom(&mut Counted::new(open(rt, asked.rom, RunFault::ReadRom)?))?;
     match asked.certificates {
         Certificates::Made(map) => {
-            let judge = own_certificates(asked, rom.as_slice(), map);
+            let judge = own_certificates(asked, rom.as_slice(), map, None);
             let start = asked.options.start;
             run_frames(rt.alloc(), &judge, start, frames, asked.listing, &mut out)
         }
