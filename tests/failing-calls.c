@@ -31,7 +31,7 @@
 void *__libc_malloc(size_t);
 void *__libc_realloc(void *, size_t);
 
-enum { MOST_BYTES = 1 << 21, MOST_FILES = 64, MOST_TEXT = 400 };
+enum { MOST_BYTES = 1 << 21, MOST_FILES = 64, MOST_TEXT = 4000 };
 
 struct stream {
   size_t length;
