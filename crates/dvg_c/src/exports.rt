@@ -71,7 +71,7 @@ pub extern "C" fn dvgcheck_frame_alone(
         → Means Exact (memory_on (machine_of machine) (map_of map) (words_of frame.now) rom.now) (window_of window) result.words result.depth }
 {
     match own_certificates(machine, rom, map, budget, window) {
-        Ok(own) => {
+        Ok(mut own) => {
             let (verdict, _) = own.verdict(alloc, frame, Detail::Line);
             own_answer(&verdict)
         }
@@ -100,7 +100,7 @@ pub extern "C" fn dvgcheck_explain(
     ensures { IsExplained machine rom.now (map_of map) frame.now budget (window_of window) text.old text.new result }
 {
     match own_certificates(machine, rom, map, budget, window) {
-        Ok(own) => {
+        Ok(mut own) => {
             let (verdict, behind) = own.verdict(alloc, frame, Detail::Account(None));
             let answer = own_answer(&verdict);
             match account_of(alloc, &verdict, &behind) {

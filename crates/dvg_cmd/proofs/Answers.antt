@@ -1,5 +1,7 @@
 -- The answer to a frame, over plain values.
-use Rattle.dvg_cmd.proofs.Common.{◌≡◌, ℕ, List, ◌++◌, length, Option, Result, IfOk, IfErr, IfSome, words_of, IsFrameLength, Means, HasCallCause, Yes, FrameRefusal, IsReadTo, arith, MOST_FRAME_READ, Judged, Judging, ReadsFrame, AnswersFrame, started, take, drop, subst, common_steps, Machine, MemoryMap, Window, Rom, rom_on, IsPrefix, IsJudged, IsReadFrom, VerdictOnBytes, AreImages, limited}
+use Rattle.dvg_cmd.proofs.Common.{◌≡◌, ℕ, List, ◌++◌, length, Option, Result, IfOk, IfErr, IfSome, words_of, IsFrameLength, Means, HasCallCause, Yes, FrameRefusal, IsReadTo, arith, MOST_FRAME_READ, Judged, Judging, ReadsFrame, AnswersFrame, started, take, drop, subst, common_steps, Machine, MemoryMap, Window, Rom, rom_on, IsPrefix, IsJudged, IsReadFrom, VerdictOnBytes, AreImages, InRange, limited}
+use Rattle.dvg_cmd.specs.Private.Judging.{IsKeptFor}
+use Rattle.dvg_kept.specs.Kept.{Kept}
 use Rattle.dvg_cmd.proofs.Whole.{frame_same}
 
 -- what holds of the bytes that were judged holds of all that the reader held
@@ -35,3 +37,17 @@ module _ (machine : Machine) (rom : List ℕ) (map : MemoryMap) (bytes : List �
 
   pub own_told : IfErr v (HasCallCause (rom_on machine map rom) (words_of bytes))
   own_told = on_bytes.told
+
+-- what is said over kept shapes
+module _ (machine : Machine) (rom : List ℕ) (map : MemoryMap) (bytes : List ℕ) (budget : ℕ) (w : Window) (words : List ℕ) (kept : Kept) (is : IsKeptFor machine rom map w kept) (range : InRange bytes budget) (words_are : words ≡ words_of bytes) (v : Result Yes FrameRefusal) (said : IsJudged kept.rom words kept.window budget v) where
+  images : AreImages machine rom map bytes budget words kept.rom
+  images = record { in_range = range; rom_length = is.rom_length; words_are = words_are; rom_is = is.rom_is }
+
+  in_window : IsJudged kept.rom words w budget v
+  in_window = rw is.window_is at said
+
+  pub kept_verdict : VerdictOnBytes machine rom map bytes budget w v
+  kept_verdict = own_verdict machine rom map bytes budget w words kept.rom images v in_window
+
+  pub kept_told : IfErr v (HasCallCause (rom_on machine map rom) (words_of bytes))
+  kept_told = own_told machine rom map bytes budget w words kept.rom images v in_window

@@ -6,6 +6,7 @@ pub mod SeveralFrames
 pub mod FramesRuns
 pub mod Answers
 pub mod SeveralLines
+pub mod Alike
 pub mod Naming
 pub mod LineByLine
 pub mod ReachingLines

@@ -147,6 +147,14 @@ judged_over shapes count budget =
       mode = shapes.mode;
     }
 
+-- what is said by the later one is said by the first, of the same ROM, window and mode
+pub record JudgesAlike (first later : Judging) : Type 0 where
+  pub verdict : (bytes : List ℕ) (v : Result Yes FrameRefusal) → later.is_verdict bytes v → first.is_verdict bytes v
+  pub told : (bytes : List ℕ) (r : FrameRefusal) → later.is_told bytes r → first.is_told bytes r
+  pub rom : later.rom ≡ first.rom
+  pub window : later.window ≡ first.window
+  pub mode : later.mode ≡ first.mode
+
 -- the answer to a frame that a reader held, which still holds `left`; `bytes` are any where it was not read
 pub record AnswersFrame (j : Judging) (start : Option ℕ) (frame left : Option (List ℕ)) (answer : FrameAnswer) : Type 0 where
   pub bytes : List ℕ

@@ -1,21 +1,23 @@
 //! By which certificate a frame is judged: by its own, which is made for it, or by a given one, whose shapes were judged.
 
-ghost use Rattle.std.specs.Prelude.{◌≡◌, length, Err, None, IfOk, IfErr};
+ghost use Rattle.std.specs.Prelude.{◌≡◌, length, Err, None, IfOk, IfErr, IfSome};
 ghost use Rattle.dvg_words.specs.Memory.{IsFrameLength, rom_on, words_of};
 ghost use Rattle.dvg_words.specs.Values.{Window as Places};
 ghost use Rattle.dvg_check.specs.Means.{Means};
 ghost use Rattle.dvg_make.specs.Judging.{HasCallCause};
 ghost use Rattle.dvg_make.specs.declared.judging.FrameRefusal.TheVariants.{Check};
 ghost use Rattle.dvg_cmd.specs.Detail.{IsBehind};
-ghost use Rattle.dvg_cmd.specs.Frames.{Judging, MayJudgeOver, VerdictOnBytes, VerdictOver, judged_by_own, judged_over};
+ghost use Rattle.dvg_cmd.specs.Frames.{JudgesAlike, Judging, MayJudgeOver, VerdictOnBytes, VerdictOver, judged_by_own, judged_over};
 ghost use Rattle.dvg_cmd.specs.declared.detail.Detail.{Detail};
 ghost use Rattle.dvg_cmd.specs.declared.detail.Detail.TheVariants as details;
-ghost use Rattle.dvg_cmd.specs.Private.Judging.{AreImages};
+ghost use Rattle.dvg_cmd.specs.Private.Judging.{AreImages, IsKeptFor};
 
 use crate::detail::{Behind, Detail};
+use crate::several_frames::FrameOptions;
 use dvg_account::{Inputs, ShapeStarts, frame_text, own_text};
 use dvg_cert::{Cert, Entries};
 use dvg_check::{JudgedShapes, Mode, Refusal, RomFinding, Yes, frame_of};
+use dvg_kept::KeptShapes;
 use dvg_labels::Labels;
 use dvg_make::{EntryCause, FrameRefusal, explain_judging, judge, own_verdict};
 use dvg_words::{FrameImage, Machine, RomImage, RomMap, Window};
@@ -36,15 +38,17 @@ pub trait FrameJudge {
     /// The machine that accounts name.
     fn machine(&self) -> Machine;
 
-    /// The verdict on the bytes of a frame, and what the detail asks for behind its line.
-    fn verdict(&self, alloc: Global, frame: &[u8], detail: Detail) -> ToldVerdict
-        requires { valid self.now detail }
-        ensures verdict { (judging self.now).is_verdict frame.now result.0 }
+    /// The verdict on the bytes of a frame, and what the detail asks for behind its line. It judges later frames in the same way.
+    fn verdict(&mut self, alloc: Global, frame: &[u8], detail: Detail) -> ToldVerdict
+        requires { valid self.old detail }
+        ensures verdict { (judging self.old).is_verdict frame.now result.0 }
         ensures behind { IsBehind detail.entry result.1 }
         ensures whole { IfOk result.0 (λ yes. IsFrameLength (length frame.now)) }
-        ensures means { IfOk result.0 (λ yes. Means (judging self.now).mode
-            (record { frame = words_of frame.now; rom = (judging self.now).rom }) (judging self.now).window yes.words yes.depth) }
-        ensures told { IfErr result.0 ((judging self.now).is_told frame.now) };
+        ensures means { IfOk result.0 (λ yes. Means (judging self.old).mode
+            (record { frame = words_of frame.now; rom = (judging self.old).rom }) (judging self.old).window yes.words yes.depth) }
+        ensures told { IfErr result.0 ((judging self.old).is_told frame.now) }
+        ensures valid { valid self.new detail.entry }
+        ensures same { JudgesAlike (judging self.old) (judging self.new) };
 }
 
 /// The judge of each frame by its own certificate, as [`judge`] judges.
@@ -73,11 +77,8 @@ impl<'a> FrameJudge for OwnCertificates<'a> {
         self.machine
     }
 
-    fn verdict(&self, alloc: Global, frame: &[u8], detail: Detail) -> ToldVerdict {
-        match detail {
-            Detail::Line => (verdict_by_own(alloc, self, frame), Behind::Nothing),
-            Detail::Account(labels) => explain_by_own(alloc, self, frame, labels),
-        }
+    fn verdict(&mut self, alloc: Global, frame: &[u8], detail: Detail) -> ToldVerdict {
+        told_by_own(alloc, self, frame, detail)
     }
 }
 
@@ -171,6 +172,128 @@ fn explain_by_own<'a>(
     }
 }
 
+/// That verdict, and what the detail asks for behind its line.
+fn told_by_own<'a>(
+    alloc: Global,
+    own: &OwnCertificates<'a>,
+    frame: &'a [u8],
+    detail: Detail<'a>,
+) -> ToldVerdict
+    ensures verdict { VerdictOnBytes own.now.machine own.now.rom.now own.now.map frame.now own.now.budget own.now.window result.0 }
+    ensures told { IfErr result.0 (HasCallCause (rom_on own.now.machine own.now.map own.now.rom.now) (words_of frame.now)) }
+    ensures behind { IsBehind detail.entry result.1 }
+{
+    match detail {
+        Detail::Line => (verdict_by_own(alloc, own, frame), Behind::Nothing),
+        Detail::Account(labels) => explain_by_own(alloc, own, frame, labels),
+    }
+}
+
+/// The judge of each frame by its own certificate, as [`OwnCertificates`] judges. It keeps what it made for the frames that it
+/// accepted, so that a later one that calls the same shapes costs less.
+#[derive(Drop)]
+pub struct KeptCertificates<'a> {
+    own: OwnCertificates<'a>,
+    /// `None` if an account is asked for, the ROM has a wrong length, or there was no memory to keep shapes.
+    kept: Option<KeptShapes<'a>>,
+}
+
+/// Shapes to be kept over a ROM, none so far, if no account is asked for, the ROM's length is right and there is memory for them.
+fn shapes_over<'a>(
+    alloc: Global,
+    detail: Detail,
+    machine: Machine,
+    rom: &'a [u8],
+    map: RomMap,
+    window: Window,
+) -> Option<KeptShapes<'a>>
+    ensures { IfSome result (IsKeptFor machine rom.now map window) }
+{
+    if detail.has_account() {
+        return None;
+    }
+    let rom = RomImage::from_bytes_on(machine, rom, map).ok()?;
+    KeptShapes::new(alloc, rom, window).ok()
+}
+
+impl<'a> KeptCertificates<'a> {
+    /// A judge over the bytes of a ROM at this map, which keeps nothing so far. With an account each frame is judged anew, and so it is
+    /// where there is no memory to keep shapes. The start is the run's, and no part of it.
+    pub fn new(
+        alloc: Global,
+        rom: &'a [u8],
+        map: RomMap,
+        options: &FrameOptions,
+        detail: Detail,
+    ) -> KeptCertificates<'a>
+        ensures own { result.own ≡ record {
+          machine = options.now.machine;
+          rom = rom.entry;
+          map = map;
+          budget = options.now.budget;
+          window = options.now.window;
+          others = None;
+        } }
+        ensures kept { IfSome result.kept (IsKeptFor options.now.machine rom.entry.now map options.now.window) }
+    {
+        let FrameOptions {
+            machine,
+            budget,
+            window,
+            ..
+        } = *options;
+        let own = OwnCertificates {
+            machine,
+            rom,
+            map,
+            budget,
+            window,
+            others: None,
+        };
+        let kept = shapes_over(alloc, detail, machine, rom, map, window);
+        KeptCertificates { own, kept }
+    }
+}
+
+/// The verdict of [`verdict_by_own`], over kept shapes.
+#[tactic(auto, using(crate::proofs::Answers::kept_verdict, crate::proofs::Answers::kept_told))]
+fn verdict_by_kept(
+    alloc: Global,
+    own: &OwnCertificates,
+    kept: &mut KeptShapes,
+    frame: &[u8],
+) -> Result<Yes, FrameRefusal>
+    requires { IsKeptFor own.now.machine own.now.rom.now own.now.map own.now.window kept.old }
+    ensures verdict { VerdictOnBytes own.now.machine own.now.rom.now own.now.map frame.now own.now.budget own.now.window result }
+    ensures told { IfErr result (HasCallCause (rom_on own.now.machine own.now.map own.now.rom.now) (words_of frame.now)) }
+    ensures kept { IsKeptFor own.now.machine own.now.rom.now own.now.map own.now.window kept.new }
+{
+    match frame_of(frame, own.budget) {
+        Ok(frame) => kept.judge(alloc, &frame, own.budget),
+        Err(refusal) => Err(FrameRefusal::Check(refusal)),
+    }
+}
+
+impl<'a> FrameJudge for KeptCertificates<'a> {
+    ghost valid = { λ judge _. IfSome judge.kept (IsKeptFor judge.own.machine judge.own.rom.now judge.own.map judge.own.window) };
+
+    ghost judging = { λ judge. judged_by_own judge.own.machine judge.own.rom.now judge.own.map judge.own.budget judge.own.window };
+
+    fn machine(&self) -> Machine {
+        self.own.machine
+    }
+
+    fn verdict(&mut self, alloc: Global, frame: &[u8], detail: Detail) -> ToldVerdict {
+        match (detail, &mut self.kept) {
+            (Detail::Line, Some(kept)) => (
+                verdict_by_kept(alloc, &self.own, kept, frame),
+                Behind::Nothing,
+            ),
+            _ => told_by_own(alloc, &self.own, frame, detail),
+        }
+    }
+}
+
 /// The judge of frames over judged shapes: the shapes of a certificate over the bytes of a ROM.
 #[derive(Drop)]
 pub struct GivenCertificate<'a, E: Entries> {
@@ -226,7 +349,7 @@ impl<'a, E: Entries> FrameJudge for GivenCertificate<'a, E> {
         self.machine
     }
 
-    fn verdict(&self, alloc: Global, frame: &[u8], detail: Detail) -> ToldVerdict {
+    fn verdict(&mut self, alloc: Global, frame: &[u8], detail: Detail) -> ToldVerdict {
         let (verdict, cause) = verdict_over(self.shapes, self.cert, frame, self.budget);
         let behind = match detail {
             Detail::Line => Behind::Nothing,

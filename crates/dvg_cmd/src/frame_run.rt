@@ -5,7 +5,7 @@ ghost use Rattle.std.specs.Io.KnownBytes.{Appends};
 ghost use Rattle.dvg_text.specs.Devices.{AppendsPrefix, TakesOneWrite, count_after};
 ghost use Rattle.dvg_cmd.specs.Detail.{IsBehind, behind_text, frame_outcome_behind};
 ghost use Rattle.dvg_cmd.specs.Runs.{MOST_FRAME_READ, IsReadTo};
-ghost use Rattle.dvg_cmd.specs.Frames.{ReadsFrame, AnswersFrame, frame_line, frame_outcome_of, is_unread};
+ghost use Rattle.dvg_cmd.specs.Frames.{JudgesAlike, ReadsFrame, AnswersFrame, frame_line, frame_outcome_of, is_unread};
 
 use crate::detail::{Behind, Detail};
 use crate::frame_judge::FrameJudge;
@@ -61,16 +61,18 @@ pub fn unread_account(machine: Machine, alloc: Global, detail: Detail) -> Behind
 /// Reads a frame and judges it: the answer, and what the detail asks for behind its line.
 pub fn answer_of<J: FrameJudge, R: CountedRead>(
     alloc: Global,
-    judge: &J,
+    judge: &mut J,
     start: Option<u16>,
     frame: &mut R,
     detail: Detail,
 ) -> (FrameAnswer, Behind)
-    requires { J.valid judge.now detail }
-    ensures answers { AnswersFrame (J.judging judge.now)
+    requires { J.valid judge.old detail }
+    ensures answers { AnswersFrame (J.judging judge.old)
         start (R.remaining frame.old) (R.remaining frame.new) result.0 }
     ensures behind { IsBehind detail.entry result.1 }
     ensures count { R.failures frame.new ≡ count_after (is_unread result.0) (R.failures frame.old) }
+    ensures valid { J.valid judge.new detail.entry }
+    ensures same { JudgesAlike (J.judging judge.old) (J.judging judge.new) }
 {
     match read_started(frame, start) {
         Ok(bytes) => {

@@ -106,6 +106,7 @@ pub use explaining_make::run_explain_make;
 pub use explaining_make::write_make_answer;
 pub use frame_judge::FrameJudge;
 pub use frame_judge::GivenCertificate;
+pub use frame_judge::KeptCertificates;
 pub use frame_judge::OwnCertificates;
 pub use frame_run::plain_account;
 pub use frame_run::read_started;

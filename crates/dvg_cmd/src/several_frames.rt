@@ -9,6 +9,7 @@ ghost use Rattle.dvg_check.specs.Causes.{refusal_of};
 ghost use Rattle.dvg_spelling.specs.Outcomes.{plain_outcome};
 ghost use Rattle.dvg_spelling.specs.declared.outcome.Outcome.{Outcome as Plain};
 ghost use Rattle.dvg_cmd.specs.Detail.{IsBehind};
+ghost use Rattle.dvg_cmd.specs.Frames.{JudgesAlike};
 ghost use Rattle.dvg_cmd.specs.Runs.{WritesReport, WritesReportPrefix};
 ghost use Rattle.dvg_cmd.specs.SeveralFrames.{AnswersOpened, HoldsOfAll, HoldsOfTaken, TakeOneWriteEach, joined, line_outcome, line_texts, summary_of, ReportsFrames, ReportsFramesPrefix, ReportsRefusal, ReportsRefusalPrefix, RefusesShapes, judged_given};
 ghost use Rattle.dvg_cmd.specs.Private.Named.{WritesLineOf, WritesLineOfPrefix};
@@ -53,14 +54,16 @@ pub struct FrameOptions {
 /// The answer to a frame whose turn it is, and what the listing's detail asks for behind its line.
 fn answer_opened<J: FrameJudge, R: CountedRead + Drop>(
     alloc: Global,
-    judge: &J,
+    judge: &mut J,
     start: Option<u16>,
     reader: Option<R>,
     listing: Listing,
 ) -> (FrameAnswer, Behind)
-    requires { J.valid judge.now listing.detail }
-    ensures answers { AnswersOpened R.remaining R.failures (J.judging judge.now) listing.entry start reader result.0 }
+    requires { J.valid judge.old listing.detail }
+    ensures answers { AnswersOpened R.remaining R.failures (J.judging judge.old) listing.entry start reader result.0 }
     ensures behind { IsBehind listing.entry.detail result.1 }
+    ensures valid { J.valid judge.new listing.entry.detail }
+    ensures same { JudgesAlike (J.judging judge.old) (J.judging judge.new) }
 {
     match reader {
         Some(mut reader) => answer_of(alloc, judge, start, &mut reader, listing.detail),
@@ -101,21 +104,23 @@ fn write_listed<W: CountedWrite>(
 /// Judges a frame whose turn it is, counts its line, and writes it if the listing has it.
 fn run_named<J: FrameJudge, R: CountedRead + Drop, W: CountedWrite>(
     alloc: Global,
-    judge: &J,
+    judge: &mut J,
     start: Option<u16>,
     frame: NamedFrame<R>,
     listing: Listing,
     tally: &mut Tally,
     out: &mut W,
 ) -> Result<FrameOutcome, RunFault>
-    requires { J.valid judge.now listing.detail }
-    ensures ok { IfOk result (WritesLineOf R.remaining R.failures (J.judging judge.now) listing.entry start
+    requires { J.valid judge.old listing.detail }
+    ensures ok { IfOk result (WritesLineOf R.remaining R.failures (J.judging judge.old) listing.entry start
         frame (W.contents out.old) (W.contents out.new) tally.old tally.new
         (W.whole_writes out.old) (W.whole_writes out.new)) }
-    ensures prefix { OnErr result (WritesLineOfPrefix R.remaining R.failures (J.judging judge.now) listing.entry start
+    ensures prefix { OnErr result (WritesLineOfPrefix R.remaining R.failures (J.judging judge.old) listing.entry start
         frame (W.contents out.old) (W.contents out.new)) }
     ensures fault { IfErr result (λ fault. fault ≡ RunFault.Write) }
     ensures count { W.failures out.new ≡ count_after (is_err result) (W.failures out.old) }
+    ensures valid { J.valid judge.new listing.entry.detail }
+    ensures same { JudgesAlike (J.judging judge.old) (J.judging judge.new) }
 {
     let NamedFrame { name, reader } = frame;
     let (answer, behind) = answer_opened(alloc, judge, start, reader, listing);
@@ -153,25 +158,25 @@ pub fn run_frames<
     W: CountedWrite,
 >(
     alloc: Global,
-    judge: &J,
+    judge: &mut J,
     start: Option<u16>,
     frames: I,
     listing: Listing,
     out: &mut W,
 ) -> Result<FrameOutcome, RunFault>
-    requires valid { J.valid judge.now listing.detail }
+    requires valid { J.valid judge.old listing.detail }
     requires can { I.can_next frames }
     requires ends { IsFinite (I.remaining frames) }
 
     // A line is written for each frame that the listing has, in their order, and then the summary, each by one write if it fits one.
     // Of each accepted frame it says what a yes means (`AnswersFrame`).
     ensures report { IfOk result (λ end. HoldsOfAll I.next_gives frames (λ taken.
-        ReportsFrames R.remaining R.failures (J.judging judge.now) listing.entry start taken (W.contents out.old) (W.contents out.new)
+        ReportsFrames R.remaining R.failures (J.judging judge.old) listing.entry start taken (W.contents out.old) (W.contents out.new)
         (W.whole_writes out.old) (W.whole_writes out.new) end)) }
 
     // Where the writer failed, a prefix of what is written of the frames that were taken.
     ensures prefix { OnErr result (HoldsOfTaken I.next_gives frames (λ taken.
-        ReportsFramesPrefix R.remaining R.failures (J.judging judge.now) listing.entry start taken
+        ReportsFramesPrefix R.remaining R.failures (J.judging judge.old) listing.entry start taken
         (W.contents out.old) (W.contents out.new))) }
     ensures fault { IfErr result (λ fault. fault ≡ RunFault.Write) }
     ensures count { W.failures out.new ≡ count_after (is_err result) (W.failures out.old) }
@@ -330,8 +335,8 @@ pub fn run_frames_given<
     let mode = Mode::Bound;
     match JudgedShapes::find_shape_fault(&image, cert, &entries, window, mode) {
         Ok(shapes) => {
-            let judge = GivenCertificate::new(machine, rom, cert, &shapes, mode, budget);
-            run_frames(alloc, &judge, start, frames, listing, out)
+            let mut judge = GivenCertificate::new(machine, rom, cert, &shapes, mode, budget);
+            run_frames(alloc, &mut judge, start, frames, listing, out)
         }
         Err(finding) => given.refuse(alloc, &RomFinding::Shape(finding), detail, out),
     }

@@ -26,4 +26,5 @@ pub use account::{EntryCause, MakeAccount, ShapeAt, explain_making};
 pub use entry_maker::EntryMaker;
 pub use fault::{EntryFault, FrameCall, FramesFault, MakeFault};
 pub use judging::{FrameRefusal, JudgedFrame, explain_judging, judge, own_verdict};
+pub use made_entries::MadeEntries;
 pub use maker::{make, make_for_frames};

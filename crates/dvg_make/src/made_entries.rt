@@ -1,6 +1,6 @@
 //! The entries that are made so far.
 
-ghost use Rattle.std.specs.Prelude.{◌≡◌, ◌++◌, List, [], ◌∷◌, length, ℕ, IfOk, OnOk, OnErr, None};
+ghost use Rattle.std.specs.Prelude.{◌≡◌, ◌++◌, List, [], ◌∷◌, length, slice_get, ℕ, IfOk, IfSome, OnOk, OnErr, Some, None};
 ghost use Rattle.std.specs.Map.{values_of};
 ghost use Rattle.dvg_cert.specs.declared.entry.Entry.{Entry as EntryValue};
 ghost use Rattle.dvg_cert.specs.declared.entry.Key.{Key as KeyValue};
@@ -43,6 +43,23 @@ impl MadeEntries {
         ensures { result ≡ entry_at self.now addr key }
     {
         self.found.get(&(addr, key)).copied()
+    }
+
+    /// The entry with exactly this address and key, and its position in their order.
+    pub fn find_full(&self, addr: u16, key: Key) -> Option<(usize, Entry)>
+        ensures found { IfSome result (λ full. entry_at self.now addr key ≡ Some full.1) }
+        ensures stands { IfSome result (λ full. slice_get self.now full.0 ≡ Some full.1) }
+    {
+        let (position, _, entry) = self.found.get_full(&(addr, key))?;
+        Some((position, *entry))
+    }
+
+    /// The entry at a position in their order.
+    pub fn get(&self, position: usize) -> Option<Entry>
+        ensures { result ≡ slice_get self.now position }
+    {
+        let (_, entry) = self.found.get_index(position)?;
+        Some(*entry)
     }
 
     /// How many entries are made.

@@ -222,7 +222,7 @@ fn shown_text(
         words: shown.frame.len() / 2,
     })?;
     let mut text = recipe_text(alloc, &lines)?;
-    let judge = OwnCertificates {
+    let mut judge = OwnCertificates {
         machine: Machine::Board,
         rom: explained.rom,
         map: explained.options.map,

@@ -88,7 +88,7 @@ fn expect_line(
     line: &str,
 ) {
     let rom = stroke_rom();
-    let judge = OwnCertificates {
+    let mut judge = OwnCertificates {
         machine: Machine::Profile,
         rom: &rom,
         map: ASTEROIDS,
@@ -106,7 +106,14 @@ fn expect_line(
         summary: false,
     };
     let mut out = Counted::new(Vec::new(alloc));
-    let judged = run_frames(alloc, &judge, None, iter::once(frame), listing, &mut out);
+    let judged = run_frames(
+        alloc,
+        &mut judge,
+        None,
+        iter::once(frame),
+        listing,
+        &mut out,
+    );
     expect_same(rt, &judged, &Ok(outcome), &line);
     let written = out.into_inner();
     expect_same(rt, &str::from_utf8(&written).unwrap_or(""), &line, &line);

@@ -22,12 +22,12 @@ use command::{
     Asked, Certificates, CheckArgs, FrameNames, FramesArgs, MakeArgs, Named, Parsed, Request, Usage,
 };
 use dvg_cmd::{
-    Counted, CountedWrite, Detail, FrameOutcome, FramesRunFault, Labels, MakeAnswer, MakeFault,
-    MakeRunFault, NamedFrame, Outcome, OwnCertificates, RomMap, Rule, RunFault, ShapeStarts,
-    TextWatch, Window, all_rules, frames_status_of, load_cert, load_rom, make_frames_status_of,
-    message_of, run_check_in, run_comparison, run_explain_make, run_frames, run_frames_given,
-    run_make_frames, run_places, run_rule, run_rules, status_of, write_make_answer,
-    write_make_fault, write_message, write_text,
+    Counted, CountedWrite, Detail, FrameOutcome, FramesRunFault, KeptCertificates, Labels,
+    MakeAnswer, MakeFault, MakeRunFault, NamedFrame, Outcome, OwnCertificates, RomMap, Rule,
+    RunFault, ShapeStarts, TextWatch, Window, all_rules, frames_status_of, load_cert, load_rom,
+    make_frames_status_of, message_of, run_check_in, run_comparison, run_explain_make, run_frames,
+    run_frames_given, run_make_frames, run_places, run_rule, run_rules, status_of,
+    write_make_answer, write_make_fault, write_message, write_text,
 };
 use input::{Input, Source};
 use list::{List, ListFault};
@@ -81,10 +81,10 @@ fn explain_together(
     let frames = read_frames(rt, named, start).map_err(|_| RunFault::Memory)?;
     let alone = own_certificates(asked, rom.as_slice(), map, None);
     let starts = starts_of(rt.alloc(), &alone, frames.as_slice()).map_err(|_| RunFault::Memory)?;
-    let judge = own_certificates(asked, rom.as_slice(), map, Some(&starts));
+    let mut judge = own_certificates(asked, rom.as_slice(), map, Some(&starts));
     run_frames(
         rt.alloc(),
-        &judge,
+        &mut judge,
         start,
         frames.into_iter().map(ReadFrame::reopened),
         asked.listing,
@@ -142,9 +142,17 @@ fn judge_frames<I: Iterator<Item = NamedFrame<Counted<Source>>> + Drop>(
     let rom = load_rom(&mut Counted::new(open(rt, asked.rom, RunFault::ReadRom)?))?;
     match asked.certificates {
         Certificates::Made(map) => {
-            let judge = own_certificates(asked, rom.as_slice(), map, None);
-            let start = asked.options.start;
-            run_frames(rt.alloc(), &judge, start, frames, asked.listing, &mut out)
+            let options = &asked.options;
+            let detail = asked.listing.detail;
+            let mut judge = KeptCertificates::new(rt.alloc(), rom.as_slice(), map, options, detail);
+            run_frames(
+                rt.alloc(),
+                &mut judge,
+                options.start,
+                frames,
+                asked.listing,
+                &mut out,
+            )
         }
         Certificates::Given(cert) => {
             let file = open(rt, cert, RunFault::ReadCert)?;

@@ -1,6 +1,7 @@
 use Rattle.dvg_cmd.proofs.Common.{◌≡◌, rules}
 use Rattle.std.specs.Iterator.{Drains}
 use Rattle.std.proofs.iter.Next.{Yields-more}
+use Rattle.dvg_cmd.proofs.Alike.{alike_on, cut_alike, writes_alike}
 use Rattle.dvg_cmd.proofs.LineByLine.{on_err}
 use Rattle.dvg_cmd.proofs.SeveralLines.{more_lines, cut_lines, with_summary, cut_summary}
 use Rattle.dvg_cmd.proofs.several_frames.run_frames.Goals as goal
@@ -12,11 +13,11 @@ returns-in_err-run_named-clause-prefix g c =
       _,
       c.next.new.self,
       rw same at (Yields-more g.I.Iterator.next_gives c.into_iter-frame-iterator.result c.loop-frame.yielded c.loop-frame.frame-iterator c.in-Some.frame c.next.new.self c.loop-frame.yielded_by c.in-Some.ensures.steps),
-      cut_lines g.R.Read.remaining g.R.CountedRead.failures _ c.args.listing c.args.start c.loop-frame.yielded c.in-Some.frame _ _ _ _ _ _ _ _ c.loop-frame.invariant.reports c.in_err-run_named.ensures.prefix,
+      cut_lines g.R.Read.remaining g.R.CountedRead.failures _ c.args.listing c.args.start c.loop-frame.yielded c.in-Some.frame _ _ _ _ _ _ _ _ c.loop-frame.invariant.reports (cut_alike _ _ c.loop-frame.invariant.same c.args.start g.R.Read.remaining g.R.CountedRead.failures c.args.listing c.in-Some.frame _ _ c.in_err-run_named.ensures.prefix),
     )
 
 pub loop-frame-preserved : goal.loop-frame-preserved
-loop-frame-preserved g c = search (rules, more_lines g.R.Read.remaining g.R.CountedRead.failures _ c.args.listing c.args.start c.loop-frame.yielded c.in-Some.frame _ _ _ _ _ _ _ _ _ _ _ _ c.loop-frame.invariant.reports c.in_ok-run_named.ensures.ok c.or_worse-worst.ensures)
+loop-frame-preserved g c = search (rules, more_lines g.R.Read.remaining g.R.CountedRead.failures _ c.args.listing c.args.start c.loop-frame.yielded c.in-Some.frame _ _ _ _ _ _ _ _ _ _ _ _ c.loop-frame.invariant.reports (writes_alike _ _ c.loop-frame.invariant.same c.args.start g.R.Read.remaining g.R.CountedRead.failures c.args.listing c.in-Some.frame _ _ _ _ _ _ _ c.in_ok-run_named.ensures.ok) c.or_worse-worst.ensures, alike_on _ _ _ c.loop-frame.invariant.same c.in_ok-run_named.ensures.same)
 
 pub returns-in_err-write_summary-clause-prefix : goal.returns-in_err-write_summary-clause-prefix
 returns-in_err-write_summary-clause-prefix g c =

@@ -1,0 +1,19 @@
+use Rattle.std.proofs.Common.{arith, ◌+◌, ◌<◌, sym, subst, ◌∙◌, List, length}
+use Rattle.dvg_make.proofs.Common.{Entry}
+use Rattle.dvg_kept.proofs.Merging.{Added, more_added, same_added, some_of}
+use Rattle.dvg_kept.proofs.kept.merged.Goals.{then-is_none+in_ok-add, else-is_none}
+use Rattle.dvg_kept.proofs.kept.merged.Goals as goal
+
+pub loop-entry-preserved : goal.loop-entry-preserved
+loop-entry-preserved c =
+    let n = c.loop-entry.entry-index in
+    let lt : n < length c.args.made.now = omega (arith, c.loop-entry-test.true) in
+    elim c.if-is_none.branch [
+      | then-is_none+in_ok-add w ↦
+          subst (λ (l : List Entry). Added c.args.entries c.args.made.now (n + 1) l) (sym (w.merged-is ∙ w.in_ok-add.ensures.ok))
+          (more_added c.args.entries c.args.made.now n c.loop-entry.merged c.loop-entry.invariant lt _)
+      | else-is_none w ↦
+          let has = some_of _ _ c.is_none.ensures w.if-is_none.false in
+          subst (λ (l : List Entry). Added c.args.entries c.args.made.now (n + 1) l) (sym w.merged-is)
+          (same_added c.args.entries c.args.made.now n c.loop-entry.merged c.loop-entry.invariant lt _ has.0 (sym c.find.ensures ∙ has.1))
+    ]

@@ -1,0 +1,215 @@
+//! Frames over kept shapes.
+
+ghost use Rattle.std.specs.Prelude.{◌≡◌, ◌≤◌, [], Ok, length, IfOk, IfErr, IfSome};
+ghost use Rattle.dvg_words.specs.Memory.{rom_word};
+ghost use Rattle.dvg_cert.specs.Entry.{IsKey};
+ghost use Rattle.dvg_cert.specs.declared.limits.TheConstants.{MOST_WORDS};
+ghost use Rattle.dvg_check.specs.Means.{Means};
+ghost use Rattle.dvg_check.specs.Rules.{GoodFrame};
+ghost use Rattle.dvg_check.specs.declared.fault.Mode.TheVariants.{Exact};
+ghost use Rattle.dvg_make.specs.Judging.{AreLeast, FrameRefused, HasCallCause, VerdictByMade};
+ghost use Rattle.dvg_make.specs.Private.Judged.{IsJudged};
+ghost use Rattle.dvg_items.specs.Bounds.{IsSomeCertificate};
+ghost use Rattle.dvg_kept.specs.Kept.{IsKept};
+ghost use Rattle.dvg_kept.specs.Private.Marks.{AllAskedMarked, Asks, IsMarking, MarksMore, context_of, shape_start};
+ghost use Rattle.dvg_kept.specs.Private.Own.{HasOwn, IsMerged};
+
+use crate::leaves::Leaves;
+use crate::marks::{MarkedEntries, Place};
+use dvg_cert::{Entry, Key, MOST_ENTRIES};
+use dvg_check::{Accepted, JudgedShapes, Mode, Yes};
+use dvg_items::Kind;
+use dvg_make::{FrameRefusal, MadeEntries, explain_judging, own_verdict};
+use dvg_words::{FrameImage, FrameOn, RomImage, Window};
+use std::alloc::{AllocError, Global};
+use std::marker::Model;
+use std::mem;
+
+/// The entries that were made for frames over a ROM, whose shapes light in a window.
+#[derive(Drop)]
+pub struct KeptShapes<'a> {
+    rom: RomImage<'a>,
+    window: Window,
+    entries: MadeEntries,
+    /// Whose calls need not be looked for.
+    leaves: Leaves,
+}
+
+impl<'a> Model for KeptShapes<'a> {
+    ghost use Rattle.dvg_kept.specs.Kept.{Kept, IsKept};
+    ghost use Rattle.dvg_kept.specs.Private.Leaves.{AreLeaves};
+
+    ghost Value = { Kept };
+
+    ghost view = { λ kept. record { rom = kept.rom; window = kept.window; list = kept.entries } };
+
+    ghost invariant = { λ kept. IsKept (record { rom = kept.rom; window = kept.window; list = kept.entries })
+        × AreLeaves kept.rom kept.leaves };
+}
+
+/// These entries, and those of a certificate that are not among them, in the order of a certificate.
+fn merged(entries: MadeEntries, made: &[Entry]) -> Result<MadeEntries, AllocError>
+    ensures { IfOk result (IsMerged entries made.now) }
+{
+    let mut merged = entries;
+    for entry in made {
+        if merged.find(entry.addr, entry.key).is_none() {
+            merged.add(*entry)?;
+        }
+    }
+    merged.sort()?;
+    Ok(merged)
+}
+
+/// The marks of the entries that a frame's items call; `None` if one of them is not among these, or there is no memory.
+fn called_by_frame(
+    alloc: Global,
+    rom: &RomImage,
+    entries: &MadeEntries,
+    frame: &FrameImage,
+) -> Option<MarkedEntries>
+    requires { IsSomeCertificate entries.now }
+    ensures { IfSome result (IsMarking rom.now frame.now entries.now) }
+{
+    let Ok(mut marks) = MarkedEntries::none(alloc, entries.len()) else {
+        return None;
+    };
+    let first = Place {
+        kind: Kind::Frame,
+        at: 0,
+        scale: Key::Any,
+    };
+    let words = FrameOn::new(rom.machine(), frame);
+    marks.mark_calls(entries, &words, first)?;
+    Some(marks)
+}
+
+/// The words and the depth of a frame that is accepted over these entries; `None` if it isn't.
+fn accepted_over(
+    rom: &RomImage,
+    entries: &MadeEntries,
+    frame: &FrameImage,
+    budget: u32,
+    window: Window,
+) -> Option<Accepted>
+    requires budget { budget ≤ MOST_WORDS }
+    requires kept { IsKept (record { rom = rom.now; window = window; list = entries.now }) }
+    ensures good { IfSome result (λ yes. GoodFrame window rom.now.machine frame.now entries.now budget yes.words yes.depth) }
+    ensures means { IfSome result (λ yes. Means Exact (record { frame = frame.now; rom = rom.now }) window yes.words yes.depth) }
+{
+    let shapes = JudgedShapes::unchecked(rom, entries, window, Mode::Exact);
+    match shapes.find_fault(frame, budget) {
+        Ok(accepted) => Some(accepted),
+        Err(_) => None,
+    }
+}
+
+impl<'a> KeptShapes<'a> {
+    /// Nothing so far. Takes memory for which shapes call nothing; an `Err` says that there was none.
+    pub fn new(
+        alloc: Global,
+        rom: RomImage<'a>,
+        window: Window,
+    ) -> Result<KeptShapes<'a>, AllocError>
+        ensures { IfOk result (λ kept. kept ≡ record { rom = rom.entry; window = window; list = [] }) }
+    {
+        // Its clause says that the ROM is whole.
+        let _map = rom.map();
+        Ok(KeptShapes {
+            rom,
+            window,
+            entries: MadeEntries::new(alloc),
+            leaves: Leaves::none(alloc)?,
+        })
+    }
+
+    /// Marks what the shape of an entry calls; `None` if one of these is not kept, or there is no memory.
+    fn mark_shape(&self, marks: &mut MarkedEntries, entry: &Entry) -> Option<()>
+        requires len { length marks.old.marked ≡ length self.now.list }
+        requires key { IsKey entry.now.key }
+        ensures asked { IfSome result (λ _. AllAskedMarked (rom_word self.now.rom) self.now.list (shape_start entry.now) marks.new) }
+        ensures more { IfSome result (λ _. MarksMore self.now.list (Asks (context_of (rom_word self.now.rom) self.now.list
+            (shape_start entry.now)) (rom_word self.now.rom) entry.now.addr) marks.old marks.new) }
+    {
+        if self.leaves.has(entry.addr) {
+            return Some(());
+        }
+        let first = Place {
+            kind: Kind::Shape,
+            at: entry.addr,
+            scale: entry.key,
+        };
+        marks.mark_calls(&self.entries, &self.rom, first)
+    }
+
+    /// How many entries the certificate has that is made for a frame, if all of them are kept.
+    fn own_entries(&self, alloc: Global, frame: &FrameImage) -> Option<usize>
+        ensures { IfSome result (HasOwn self.now frame.now) }
+    {
+        let mut marks = called_by_frame(alloc, &self.rom, &self.entries, frame)?;
+        while let Some(position) = marks.take() {
+            let entry = self.entries.get(position)?;
+            self.mark_shape(&mut marks, &entry)?;
+        }
+        Some(marks.count())
+    }
+
+    /// The verdict on a frame that is accepted over the kept entries; `None` if it isn't, or one of its entries isn't kept.
+    fn kept_verdict(&self, alloc: Global, frame: &FrameImage, budget: u32) -> Option<Yes>
+        requires { budget ≤ MOST_WORDS }
+        ensures { IfSome result (λ yes. IsJudged self.now.rom frame.now self.now.window budget (Ok yes)) }
+    {
+        let own = self.own_entries(alloc, frame)?;
+        let accepted = accepted_over(&self.rom, &self.entries, frame, budget, self.window)?;
+        Some(Yes {
+            shapes: own as u32,
+            words: accepted.words,
+            depth: accepted.depth,
+        })
+    }
+
+    /// Keeps the entries of a certificate that was made for a frame, if they are not too many; without memory for them nothing is kept.
+    fn keep(&mut self, alloc: Global, made: &[Entry])
+        requires { IsKept (record { rom = self.old.rom; window = self.old.window; list = made.now }) }
+        ensures rom { self.new.rom ≡ self.old.rom }
+        ensures window { self.new.window ≡ self.old.window }
+    {
+        if self.entries.len() + made.len() > MOST_ENTRIES {
+            return;
+        }
+        self.leaves.add(&self.rom, made);
+        let entries = mem::replace(&mut self.entries, MadeEntries::new(alloc));
+        if let Ok(merged) = merged(entries, made) {
+            self.entries = merged;
+        }
+    }
+
+    /// Judges a frame as [`judge`](dvg_make::judge) does, over the ROM and the window. The shapes that an accepted frame calls are kept, up
+    /// to 4,096 entries in all. Takes memory as [`explain_judging`] does, and for what is kept; without it nothing more is kept.
+    pub fn judge(
+        &mut self,
+        alloc: Global,
+        frame: &FrameImage,
+        budget: u32,
+    ) -> Result<Yes, FrameRefusal>
+        requires { budget ≤ MOST_WORDS }
+        ensures verdict { VerdictByMade self.old.rom frame.now self.old.window budget result }
+        ensures means { IfOk result (λ yes. Means Exact (record { frame = frame.now; rom = self.old.rom }) self.old.window
+            yes.words yes.depth) }
+        ensures least { IfOk result (λ yes. AreLeast self.old.rom frame.now self.old.window yes.words yes.depth) }
+        ensures refused { IfErr result (FrameRefused self.old.rom frame.now self.old.window budget) }
+        ensures told { IfErr result (HasCallCause self.old.rom frame.now) }
+        ensures rom { self.new.rom ≡ self.old.rom }
+        ensures window { self.new.window ≡ self.old.window }
+    {
+        if let Some(yes) = self.kept_verdict(alloc, frame, budget) {
+            return Ok(yes);
+        }
+        let judged = explain_judging(alloc, &self.rom, frame, budget, self.window);
+        let verdict = own_verdict(&judged);
+        if let (Ok(judged), Ok(_)) = (&judged, &verdict) {
+            self.keep(alloc, judged.cert.entries());
+        }
+        verdict
+    }
+}
