@@ -11,22 +11,22 @@ _dvgcheck() {
   fi
   case $before in
     # a file, or a word that nobody can guess
-    --cert | --list | --labels | --frame | -o | --output | --print | --budget | --window | --rom | --start) return ;;
+    --cert | --list | --labels | --frame | -o | --output | --print | --budget | --window | --rom | --start | --within | --records) return ;;
   esac
   case $command in
     '') options='frames check make places diff recipe belongs explain rules help -h --help -V --version' ;;
-    frames) options='--board --rom --cert --budget --window --clip --start --labels --list --null --only-refused --summary -h --help' ;;
+    frames) options='--board --rom --cert --budget --window --clip --start --labels --clocks --within --records --list --null --only-refused --summary -h --help' ;;
     check) options='--board --budget --window --clip --exact -h --help' ;;
     make) options='--board --frame --rom --labels -o --output -h --help' ;;
     places) options='--board --frame --rom --labels --window --clip -h --help' ;;
     diff) options='--board --frame --rom --labels -h --help' ;;
-    recipe) options='--board --rom --budget --window --clip --labels -o --output --print -h --help' ;;
-    belongs) options='--board --rom --labels --list --null --only-outside --summary -h --help' ;;
+    recipe) options='--board --rom --budget --window --clip --labels --clocks --within -o --output --print -h --help' ;;
+    belongs) options='--board --rom --labels --records --list --null --only-outside --summary -h --help' ;;
     explain) options='frames check make belongs recipe help -h --help' ;;
-    'explain frames') options='--board --rom --cert --budget --window --clip --start --labels -h --help' ;;
+    'explain frames') options='--board --rom --cert --budget --window --clip --start --labels --clocks --within --records -h --help' ;;
     'explain check') options='--board --budget --window --clip --exact --labels -h --help' ;;
     'explain make') options='--board --frame --rom --labels -h --help' ;;
-    'explain belongs') options='--board --rom --labels -h --help' ;;
+    'explain belongs') options='--board --rom --labels --records -h --help' ;;
     'explain recipe') options='--board --rom --budget --window --clip --labels -h --help' ;;
     rules) options='-h --help' ;;
     help | 'explain help') options='frames check make places diff recipe belongs explain rules' ;;

@@ -74,7 +74,7 @@ static const struct dvgcheck_window turned = {1, 0, 0, 1023}, wide = {0, 1024, 0
 
 static int same(struct dvgcheck_answer a, struct dvgcheck_answer b) {
     return a.number == b.number && a.shapes == b.shapes && a.words == b.words && a.depth == b.depth && a.line == b.line &&
-           a.word == b.word && a.shape == b.shape && a.scale == b.scale && a.call == b.call;
+           a.word == b.word && a.shape == b.shape && a.scale == b.scale && a.call == b.call && a.clocks == b.clocks;
 }
 
 /* The frame by a certificate, on the profile. */

@@ -1,16 +1,14 @@
 """Plays a game of rocks over examples/arcade.rom, as its recipe examples/game.recipe describes it, and notes each frame:
-game.py FOLDER COUNT [FAULT], or game.py --faults for the names of the faults that the game may have.
+game.py COUNT [FAULT], or game.py --faults for the names of the faults that the game may have.
 
-Each frame is a file of FOLDER, the whole of vector RAM, and its path a line of the output. The game has two lists: it writes the one
-that is not shown, and then changes the jump in word 000. What was there before stays in RAM. Nobody plays: rocks drift, the ship turns and
-thrusts, and shots hit, all by chance, which is the same in each run.
+Each frame is a record of 2048 bytes on standard output, the whole of vector RAM. The game has two lists: it writes the one that is not
+shown, and then changes the jump in word 000. What was there before stays in RAM. Nobody plays: rocks drift, the ship turns and thrusts,
+and shots hit, all by chance, which is the same in each run.
 """
 
-import os
-import random
-import struct
 import sys
-from dataclasses import dataclass
+
+from parts import DOT, HALT, PLACES, Chance, Memory, Thing, call, dark_move, labs, note
 
 SEED = 60
 DIGITS = (0x8B4, 0x8B5, 0x8B9, 0x8C1, 0x8C8, 0x8CF, 0x8D0, 0x8D8, 0x8DD, 0x8E5)
@@ -22,9 +20,7 @@ FLAMES = (0x94D, 0x952, 0x95B, 0x960, 0x969, 0x96E, 0x977, 0x97C)
 # where each nose points, from up on to the right
 NOSES = ((0, 7), (5, 5), (7, 0), (5, -5), (0, -7), (-5, -5), (-7, 0), (-5, 5))
 SCORE, HIGH_SCORE, SPACE, SHIP_LEFT, SAUCER, CREDITS = 0x9CA, 0x9CF, 0x8EC, 0x8FD, 0x9B3, 0x9EF
-HALT, DOT = 0xB000, (0x9000, 0xF000)
 LISTS = (0x001, 0x201)
-PLACES = 1024
 MOST_ROCKS, MOST_SHIPS, MOST_SHOTS, MOST_SCORE = 27, 5, 4, 1_000_000
 LARGE, SMALL = 2, 0     # sizes of rocks are their global scales
 POINTS = (1000, 500, 200)
@@ -42,63 +38,10 @@ FAULTS = {
 }
 
 
-class Chance:
-    """Random numbers that are the same in all versions of Python."""
-
-    def __init__(self, seed):
-        self.next = random.Random(seed).random
-
-    def below(self, end):
-        return int(self.next() * end)
-
-    def one_in(self, times):
-        return self.below(times) == 0
-
-    def between(self, least, most):
-        return least + self.below(most - least + 1)
-
-
-@dataclass
-class Thing:
-    x: int
-    y: int
-    across: int
-    up: int
-    left: int = 0       # of a shot, for how many frames it flies
-    size: int = 0       # the global scale
-    shape: int = 0
-
-    def drift(self):
-        self.x, self.y = self.x + self.across, self.y + self.up
-
-    def wrap(self):
-        self.x, self.y = self.x % PLACES, self.y % PLACES
-
-
-# ---- words
-
-def labs(x, y, scale):
-    return [0xA000 | y & 0xFFF, scale << 12 | x & 0xFFF]
-
-
-def call(address):
-    return [0xC000 | address]
-
-
-def sized(size):
-    return abs(size) | (0x400 if size < 0 else 0)
-
-
-def dark_move(x, y):
-    return [0x9000 | sized(y), sized(x)]
-
-
-# ---- the game
-
 class Game:
     def __init__(self, fault):
         self.fault, self.chance = fault, Chance(SEED)
-        self.ram, self.shown = [0] * 1024, 0
+        self.memory, self.shown = Memory(), 0
         self.high, self.wave = 0, 0
         self.begin(MOST_SCORE - 8000)
 
@@ -228,29 +171,24 @@ class Game:
         words, first = self.list_words(), LISTS[self.shown]
         if self.fault == "early" and self.chance.one_in(20):
             words = words[:len(words) // 2]
-        self.ram[first:first + len(words)] = words
-        self.ram[0] = 0xE000 | first
-        return self.ram
+        return self.memory.show(first, words)
 
 
-def play(folder, count, fault):
+def play(count, fault):
     game = Game(fault)
-    for number in range(count):
+    for _ in range(count):
         game.step()
-        path = os.path.join(folder, str(number))
-        with open(path, "wb") as file:
-            file.write(struct.pack("<1024H", *game.frame()))
-        print(path)
+        yield game.frame()
 
 
 def main(words):
     if words == ["--faults"]:
         print("\n".join(FAULTS))
         return
-    folder, count, fault = *words, *[None] * (3 - len(words))
+    count, fault = *words, *[None] * (2 - len(words))
     if fault is not None and fault not in FAULTS:
         raise SystemExit(f"no fault is named {fault}")
-    play(folder, int(count), fault)
+    note(play(int(count), fault))
 
 
 if __name__ == "__main__":

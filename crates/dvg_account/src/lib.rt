@@ -30,6 +30,7 @@ mod starts;
 mod swapped;
 mod text;
 mod texts;
+mod time;
 mod why;
 mod zeros;
 
@@ -39,7 +40,7 @@ pub use inputs::{Inputs, PlainWhy, plain_lines};
 pub use leaving::leaving_lines;
 pub use line::{
     AcceptedLine, EntryName, Instruction, ItemLine, Line, MadeLine, MakerChain, PathLine, Role,
-    Words, Zeros,
+    TimeLine, Words, Zeros,
 };
 pub use making::{made_lines, unmade_lines};
 pub use middle::Middle;
@@ -49,7 +50,7 @@ pub use remarks::{Beginning, Remark};
 pub use starts::ShapeStarts;
 pub use swapped::{Swapped, find_swapped};
 pub use texts::{
-    certificate_text, frame_text, leaving_text, made_text, own_text, plain_text, unmade_text,
-    verdict_text,
+    certificate_text, frame_text, leaving_text, made_text, own_text, plain_text, timed_text,
+    unmade_text, verdict_text,
 };
 pub use why::{Addresses, Bounds, ClaimWhy, Corner, Difference, InputWhy, MakerWhy, Owner, Why};

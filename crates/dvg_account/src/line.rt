@@ -8,6 +8,7 @@ use crate::remarks::Remark;
 use crate::why::Why;
 use dvg_cert::{End, Entry, Key, LitBox};
 use dvg_check::Yes;
+use dvg_clocks::{ClockRange, TimedItem};
 use dvg_form::Expected;
 use dvg_items::Item;
 use dvg_make::{FrameCall, FrameRefusal, ShapeAt};
@@ -47,6 +48,8 @@ pub enum Line {
     Accepted(AcceptedLine),
     /// The certificate that is made.
     Made(MadeLine),
+    /// The time that a frame takes.
+    Time(TimeLine),
     /// The other machine, for which the certificate may have been made.
     MadeForOther(Machine),
     /// The keys of the entries that the certificate has for the called shape.
@@ -147,6 +150,15 @@ pub enum MadeLine {
     Words(u32),
     /// The most return places that one of its entries stores at once.
     ReturnPlaces(u8),
+}
+
+/// A line about how long a frame takes to draw.
+#[derive(Clone, Copy)]
+pub enum TimeLine {
+    /// How many clocks it takes.
+    Clocks(ClockRange),
+    /// A call or a draw that may take most.
+    Dearest(TimedItem),
 }
 
 /// The words of an item, as far as they are there.

@@ -41,6 +41,12 @@ pub fn push_why(text: &mut Text, why: &Why) {
             let budget = words.saturating_sub(*over);
             push_words_over(text, *words, "the budget is ", budget, *over);
         }
+        Why::OverTime { limit } => {
+            text.push_number(
+                "with it the frame may take more clocks than the limit, ",
+                *limit,
+            )
+        }
         Why::Claim(claim) => push_claim(text, claim),
         Why::Maker(why) => push_maker(text, why),
         Why::Input(why) => push_input(text, why),

@@ -14,6 +14,7 @@ use crate::remarks::{Beginning, Remark};
 use crate::sentences::{push_other_length, push_why};
 use crate::swapped::Swapped;
 use crate::text::Text;
+use crate::time::push_time_line;
 use crate::why::Why;
 use dvg_cert::{Key, MOST_DEPTH, MOST_ENTRIES, MOST_WORDS};
 use dvg_check::Yes;
@@ -156,6 +157,7 @@ fn push_line(text: &mut Text, telling: Telling, line: &Line) {
         Line::Path(line) => push_path_line(text, line),
         Line::Accepted(line) => push_accepted_line(text, line),
         Line::Made(line) => push_made_line(text, *line),
+        Line::Time(line) => push_time_line(text, line),
         Line::MadeForOther(machine) => push_other_machine(text, *machine),
         Line::ClaimedScales(keys) => push_scales(text, keys),
         Line::CouldStand(lines) => push_could_stand(text, lines),
@@ -387,7 +389,7 @@ fn push_instruction_line(text: &mut Text, instruction: &Option<Instruction>) {
 }
 
 /// An item behind a label: its word address and its instruction.
-fn push_item(text: &mut Text, label: &str, item: &Item) {
+pub fn push_item(text: &mut Text, label: &str, item: &Item) {
     text.push(label);
     text.push_address(item.at);
     text.push(" ");

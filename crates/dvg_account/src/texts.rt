@@ -7,8 +7,10 @@ use crate::making::{made_lines, unmade_lines};
 use crate::own::{frame_lines, own_lines};
 use crate::spelling::{Telling, text_of};
 use crate::swapped::{Swapped, find_swapped};
+use crate::time::{slow_lines, time_lines};
 use dvg_cert::{Cert, CertFault};
 use dvg_check::{Refusal, RomFinding, Yes};
+use dvg_clocks::{FrameTime, TimedJudging, TimedRefusal};
 use dvg_form::TextWatch;
 use dvg_labels::Labels;
 use dvg_make::{FrameRefusal, JudgedFrame, MakeAccount, own_verdict};
@@ -81,10 +83,51 @@ pub fn own_text(
     frame: &FrameImage,
     judged: Result<JudgedFrame, MakeAccount>,
 ) -> Result<String, AllocError> {
+    own_text_with(alloc, inputs, rom, frame, judged, None)
+}
+
+/// That account, with the time that the frame takes on the board.
+fn own_text_with(
+    alloc: Global,
+    inputs: &Inputs,
+    rom: &RomImage,
+    frame: &FrameImage,
+    judged: Result<JudgedFrame, MakeAccount>,
+    time: Option<FrameTime>,
+) -> Result<String, AllocError> {
     let verdict = own_verdict(&judged);
-    let lines = own_lines(alloc, inputs, rom, frame, judged)?;
+    let mut lines = own_lines(alloc, inputs, rom, frame, judged)?;
+    if let (Machine::Board, Some(time)) = (inputs.machine, time) {
+        for line in time_lines(alloc, &time)? {
+            lines.push(line)?;
+        }
+    }
     let swapped = swapped_for_frame(alloc, inputs, &verdict)?;
     text_of(alloc, Telling::of_own(swapped), &lines, inputs.labels)
+}
+
+/// The account of a frame that was judged with its time, as a text: that of [`own_text`], behind which the time is told that an accepted
+/// frame takes on the board; or where it may take more than `limit` clocks, that of its refusal with 58.
+pub fn timed_text(
+    alloc: Global,
+    inputs: &Inputs,
+    rom: &RomImage,
+    frame: &FrameImage,
+    timed: TimedJudging,
+    limit: u64,
+) -> Result<String, AllocError> {
+    let TimedJudging {
+        judged,
+        answer,
+        time,
+    } = timed;
+    match (answer, time?) {
+        (Err(TimedRefusal::Slow { at }), Some(time)) => {
+            let lines = slow_lines(alloc, inputs, frame, at, limit, &time)?;
+            text_of(alloc, Telling::of_own(None), &lines, inputs.labels)
+        }
+        (_, time) => own_text_with(alloc, inputs, rom, frame, judged, time),
+    }
 }
 
 /// The account of [`plain_lines`] as a text, where no certificate was given.

@@ -63,6 +63,10 @@ pub enum Why {
         words: u32,
         over: u32,
     },
+    /// With the item the frame may take more than so many clocks.
+    OverTime {
+        limit: u64,
+    },
     /// The shape breaks a claim of its entry.
     Claim(ClaimWhy),
     /// The maker can't make the entry.

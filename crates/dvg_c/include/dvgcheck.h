@@ -115,6 +115,8 @@ enum { DVGCHECK_ANY_SCALE = 16, DVGCHECK_NO_CALL = 0xFFFF };
  * and with 0 by dvgcheck_make, only the number is told.
  */
 struct dvgcheck_answer {
+    uint64_t clocks; /* with 0, of dvgcheck_frame_alone on the board: how many clocks every run takes at most, 1,512 a millisecond; 0 where
+                        there was no memory to count them */
     uint32_t shapes; /* with 0: how many shapes the certificate claims, given or made for the frame */
     uint32_t words;  /* with 0, of a frame: how many words every run fetches at most */
     uint32_t line;   /* with 10 to 16: the certificate's line, counted from 1 */
@@ -161,10 +163,10 @@ struct dvgcheck_recipe_answer {
  * 83, 80, or the first that applies of 2, 49, 1, 60 to 63, 25, 40 to 44, 46 and 48, or 0. Where it is 0, every run of the generator
  * from the frame's first word, at any beam place and any global scale, reaches HALT, fetches just `words` words, stores just `depth`
  * return places at once, and four at most, fetches only words of the ROM and the frame, and draws no lit stroke that leaves the window
- * on either axis; on the board so does every run of its circuit; and no certificate gets the frame accepted with less. 60 to 62 are
- * those of the first call whose entry can't be made: `call` is the word address of it, and with 60 `word` that of what no shape can
- * have. Takes memory for the certificate's entries and their index, and gives it back; where there is none, the number is 63. At most
- * 64 KiB of the stack.
+ * on either axis; on the board so does every run of its circuit, within `clocks` clocks, unless these are 0; and no certificate gets the
+ * frame accepted with less. 60 to 62 are those of the first call whose entry can't be made: `call` is the word address of it, and with 60 `word` that of what no shape can
+ * have. Takes memory for the certificate's entries, their index and the clocks of their shapes, and gives it back; where there is none,
+ * the number is 63, or there are no clocks. At most 64 KiB of the stack.
  */
 struct dvgcheck_answer dvgcheck_frame_alone(uint32_t machine, const uint8_t *rom, size_t rom_length, struct dvgcheck_map map,
                                             const uint8_t *frame, size_t frame_length, uint32_t budget,
@@ -172,7 +174,7 @@ struct dvgcheck_answer dvgcheck_frame_alone(uint32_t machine, const uint8_t *rom
 
 /*
  * The account of a frame: what `dvgcheck explain frames` prints for it behind `NAME: `, the line of its answer and the lines below
- * it, with no labels. `answer` is one of dvgcheck_frame_alone. `text` is not null, also where `text_size` is 0. The number is 0, and
+ * it, with no labels. `answer` is one of dvgcheck_frame_alone, but without clocks. `text` is not null, also where `text_size` is 0. The number is 0, and
  * the text is in the buffer, with no null byte behind it; or 84, and `length` is what the text needs, and the buffer is as it was; or
  * 85, and there was no memory for the account; or 82, 83 or 80, as that of the answer. Takes memory as dvgcheck_frame_alone does, and
  * for the account; at most 96 KiB of the stack.

@@ -1,17 +1,21 @@
 -- What a frame comes to by its own certificate, from what C passes. All of it is this project's own.
-use Rattle.std.specs.Prelude.{◌≡◌, ◌≤◌, ℕ, List, Result, Ok, Err, IfErr}
+use Rattle.std.specs.Prelude.{◌≡◌, ◌≢◌, ◌≤◌, ℕ, List, Option, Result, Ok, Err, IfErr}
 use Rattle.dvg_words.specs.Values.{MemoryMap, Window, IsMap, IsFor}
 use Rattle.dvg_words.specs.Memory.{words_of, rom_on}
+use Rattle.dvg_words.specs.declared.machine.Machine.TheVariants.{Board}
 use Rattle.dvg_check.specs.declared.verdict.Yes.{Yes}
 use Rattle.dvg_make.specs.declared.judging.FrameRefusal.{FrameRefusal}
 use Rattle.dvg_make.specs.Judging.{HasCallCause}
+use Rattle.dvg_clocks.specs.Clocks.{TakenOnCircuit, clocks_of_instr}
+use Rattle.dvg_clocks.specs.declared.clocks.TheConstants.{DVG_STATES}
+use Rattle.dvg_clocks.specs.declared.clocks.ClockRange.{ClockRange}
 use Rattle.dvg_cmd.specs.declared.frame_judge.OwnCertificates.{OwnCertificates}
 use Rattle.dvg_cmd.specs.Frames.{VerdictOnBytes}
 use Rattle.dvg_c.specs.declared.answer.Answer.{Answer}
 use Rattle.dvg_c.specs.declared.machine.TheConstants.{BOARD}
 use Rattle.dvg_c.specs.declared.answer.OutOfRange.{OutOfRange}
 use Rattle.dvg_c.specs.declared.answer.OutOfRange.TheVariants as bad
-use Rattle.dvg_c.specs.Told.{bad_number, machine_of, numbered, told_own}
+use Rattle.dvg_c.specs.Told.{bad_number, machine_of, numbered, told_own, told_with}
 
 -- the number stands for a machine, a ROM may lie there, and the window is one for that machine
 pub record AreTaken (machine : ℕ) (map : MemoryMap) (w : Window) : Type 0 where
@@ -44,7 +48,16 @@ abbrev pub told_alone : Result (Result Yes FrameRefusal) OutOfRange → Answer
 told_alone (Ok v) = told_own v
 told_alone (Err b) = numbered (bad_number b)
 
--- the answer tells what the frame comes to
+-- the answer tells what the frame comes to, with some clocks
 abbrev pub TellsAlone : ℕ → List ℕ → MemoryMap → List ℕ → ℕ → Window → Answer → Type 0
 TellsAlone machine rom map frame budget w a =
-    (v : Result (Result Yes FrameRefusal) OutOfRange) × AloneVerdict machine rom map frame budget w v × (a ≡ told_alone v)
+    (v : Result (Result Yes FrameRefusal) OutOfRange) × (clocks : Option ClockRange) × AloneVerdict machine rom map frame budget w v
+    × (a ≡ told_with clocks (told_alone v))
+
+-- if clocks are told, each run of the board's circuit takes at most so many, by the states that documentation has for its instructions
+abbrev pub ClocksHold : ℕ → List ℕ → MemoryMap → List ℕ → Answer → Type 0
+ClocksHold machine rom map frame a =
+    a.clocks ≢ 0
+    → (machine_of machine ≡ Board)
+    × (least : ℕ) × TakenOnCircuit (clocks_of_instr DVG_STATES) (record { frame = words_of frame; rom = rom_on (machine_of machine) map rom })
+    (record { least = least; most = a.clocks })

@@ -9,6 +9,7 @@ use Rattle.dvg_check.specs.Numbers.{refusal_number}
 use Rattle.dvg_check.specs.declared.fault.Mode.{Mode}
 use Rattle.dvg_check.specs.declared.fault.Mode.TheVariants.{Bound, Exact}
 use Rattle.dvg_check.specs.declared.verdict.Yes.{Yes}
+use Rattle.dvg_clocks.specs.declared.clocks.ClockRange.{ClockRange}
 use Rattle.dvg_check.specs.declared.verdict.Refusal.{Refusal}
 use Rattle.dvg_check.specs.declared.verdict.Refusal.TheVariants as refusal
 use Rattle.dvg_make.specs.declared.fault.EntryFault.{EntryFault}
@@ -52,7 +53,7 @@ told_key Any = ANY_SCALE
 
 -- a number alone
 abbrev pub numbered : ℕ → Answer
-numbered n = record { shapes = 0; words = 0; line = 0; word = 0; shape = 0; scale = 0; depth = 0; number = n; call = 0 }
+numbered n = record { clocks = 0; shapes = 0; words = 0; line = 0; word = 0; shape = 0; scale = 0; depth = 0; number = n; call = 0 }
 
 -- what is out of range
 abbrev pub bad_number : OutOfRange → ℕ
@@ -97,6 +98,11 @@ told_own (Ok y) = told_yes y
 told_own (Err (Make at why)) = record (told_fault why) { call = at }
 told_own (Err NoMemory) = told_fault fault.Memory
 told_own (Err (Check r)) = told_refusal r
+
+-- an answer with clocks, if they were counted: the most
+abbrev pub told_with : Option ClockRange → Answer → Answer
+told_with None a = a
+told_with (Some clocks) a = record a { clocks = clocks.most }
 
 -- the answer tells a verdict that is this one
 abbrev pub Tells : (Result Yes Refusal → Type 0) → Answer → Type 0

@@ -1,7 +1,7 @@
 //! A frame is judged from the ROM alone, by the certificate that is made for it.
 
-ghost use Rattle.std.specs.Prelude.{IfOk, IfErr};
-ghost use Rattle.dvg_c.specs.Told.{map_of, window_of};
+ghost use Rattle.std.specs.Prelude.{◌≡◌, IfOk, IfErr};
+ghost use Rattle.dvg_c.specs.Told.{machine_of, map_of, window_of};
 ghost use Rattle.dvg_c.specs.Alone.{IsBad, JudgesAlone};
 
 use crate::answer::OutOfRange;
@@ -20,6 +20,7 @@ pub fn own_certificates<'a>(
     window: WindowEnds,
 ) -> Result<OwnCertificates<'a>, OutOfRange>
     ensures ok { IfOk result (JudgesAlone machine rom.now (map_of map) budget (window_of window)) }
+    ensures over { IfOk result (λ own. (own.machine ≡ machine_of machine) × (own.map ≡ map_of map) × (own.rom.now ≡ rom.now)) }
     ensures err { IfErr result (IsBad machine (map_of map) (window_of window)) }
 {
     let machine = machine_numbered(machine).ok_or(OutOfRange::Machine)?;

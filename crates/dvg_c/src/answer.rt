@@ -1,16 +1,20 @@
 //! What a judgement comes to, in plain numbers.
 
 ghost use Rattle.std.specs.Prelude.{◌≡◌, ◌≢◌, Ok};
-ghost use Rattle.dvg_c.specs.Told.{bad_number, told_key, numbered, told_yes, told_refusal, told, told_fault, told_own, yes_of};
+ghost use Rattle.dvg_c.specs.Told.{bad_number, told_key, numbered, told_yes, told_refusal, told, told_fault, told_own, told_with, yes_of};
 
 use dvg_cert::Key;
 use dvg_check::{Refusal, Yes};
+use dvg_clocks::ClockRange;
 use dvg_make::{EntryFault, FrameRefusal, MakeFault};
 
 /// What a judgement comes to. A field that its number doesn't speak of is 0.
 #[repr(C)]
 #[derive(Clone, Copy)]
 pub struct Answer {
+    /// With 0, of a frame that is judged alone on the board: how many clocks every run takes at most, a clock being 1/1,512,000 s; 0 where
+    /// there was no memory to count them.
+    pub clocks: u64,
     /// With 0: how many shapes the certificate claims.
     pub shapes: u32,
     /// With 0: how many words every run fetches at most.
@@ -101,6 +105,7 @@ pub fn numbered(number: u8) -> Answer
     ensures { result ≡ numbered number }
 {
     Answer {
+        clocks: 0,
         shapes: 0,
         words: 0,
         line: 0,
@@ -184,5 +189,20 @@ pub fn own_answer(verdict: &Result<Yes, FrameRefusal>) -> Answer
         },
         Err(FrameRefusal::NoMemory) => unmade(EntryFault::Memory),
         Err(FrameRefusal::Check(refusal)) => refused(refusal),
+    }
+}
+
+/// What a verdict on a frame by its own certificate comes to, with the clocks of an accepted frame, if they were counted.
+pub fn timed_answer(verdict: &Result<Yes, FrameRefusal>, clocks: &Option<ClockRange>) -> Answer
+    ensures value { result ≡ told_with clocks.now (told_own verdict.now) }
+    ensures accepted { result.number ≡ 0 → verdict.now ≡ Ok (yes_of result) }
+{
+    let answer = own_answer(verdict);
+    match clocks {
+        Some(clocks) => Answer {
+            clocks: clocks.most,
+            ..answer
+        },
+        None => answer,
     }
 }

@@ -10,7 +10,7 @@ ghost use Rattle.dvg_check.specs.Verdict.{memory_on};
 ghost use Rattle.dvg_recipe_cmd.specs.Recipes.{IsAcceptedRecipe};
 ghost use Rattle.dvg_verdict.specs.Verdict.{MeansOn};
 ghost use Rattle.dvg_c.specs.Told.{machine_of, map_of, mode_of, window_of};
-ghost use Rattle.dvg_c.specs.Alone.{TellsAlone};
+ghost use Rattle.dvg_c.specs.Alone.{ClocksHold, TellsAlone};
 ghost use Rattle.dvg_c.specs.ByCertificate.{TellsCheck};
 ghost use Rattle.dvg_c.specs.Texts.{IsExplained};
 ghost use Rattle.dvg_c.specs.Making.{IsMade, root_of};
@@ -19,7 +19,7 @@ ghost use Rattle.dvg_c.specs.Recipes.{IsJudged, TellsMember, options_of, recipe_
 use crate::alone::own_certificates;
 use crate::answer::{
     Answer, BAD_MACHINE, BAD_MAP, BAD_MODE, BAD_WINDOW, NO_TEXT_MEMORY, answer_of, numbered,
-    own_answer,
+    own_answer, timed_answer,
 };
 use crate::explain::account_of;
 use crate::machine::machine_numbered;
@@ -32,7 +32,7 @@ use crate::recipe::{
 };
 use crate::text::{TextAnswer, no_text, put_text};
 use crate::window::{WindowEnds, window_for};
-use dvg_cmd::{Detail, FrameJudge};
+use dvg_cmd::Detail;
 use dvg_recipe_cmd::{Explained, Wanted, judge_text};
 use dvg_verdict::check_on;
 use std::alloc::Global;
@@ -55,7 +55,8 @@ pub extern "C" fn dvgcheck_version() -> u32
 /// most, 1 to 1,000,000, and `window` where strokes may be lit. The answer is 82 for another number of a machine, 83 for another
 /// map, 80 for another window, else the first that applies of 2, 49, 1, 60 to 63, 25 and 40 to 48, or 0; 45 and 47 never come. With
 /// 0 every run is safe, and has just the answered counts; on the board so is every run of its circuit; and no certificate gets the
-/// frame accepted with fewer words or less depth. Takes memory for the certificate and its index, and gives it back.
+/// frame accepted with fewer words or less depth. On the board each run takes at most the answered clocks, unless these are 0. Takes memory
+/// for the certificate, its index, and the clocks of its entries' shapes, and gives it back.
 #[unsafe(no_mangle)]
 pub extern "C" fn dvgcheck_frame_alone(
     alloc: Global,
@@ -67,13 +68,14 @@ pub extern "C" fn dvgcheck_frame_alone(
     window: WindowEnds,
 ) -> Answer
     ensures verdict { TellsAlone machine rom.now (map_of map) frame.now budget (window_of window) result }
+    ensures clocks { ClocksHold machine rom.now (map_of map) frame.now result }
     ensures means { result.number ≡ 0
         → Means Exact (memory_on (machine_of machine) (map_of map) (words_of frame.now) rom.now) (window_of window) result.words result.depth }
 {
     match own_certificates(machine, rom, map, budget, window) {
-        Ok(mut own) => {
-            let (verdict, _) = own.verdict(alloc, frame, Detail::Line);
-            own_answer(&verdict)
+        Ok(own) => {
+            let (verdict, clocks) = own.timed_verdict(alloc, frame);
+            timed_answer(&verdict, &clocks)
         }
         Err(bad) => numbered(bad.number()),
     }
@@ -82,7 +84,7 @@ pub extern "C" fn dvgcheck_frame_alone(
 /// Judges a frame as [`dvgcheck_frame_alone`] does, and writes the account of its answer into a buffer: what
 /// `dvgcheck explain frames` prints for it behind its name, a colon and a space.
 ///
-/// The answer is that of `dvgcheck_frame_alone`. The number is 0 where the whole text stands at the buffer's start, and then its
+/// The answer is that of `dvgcheck_frame_alone`, but without clocks. The number is 0 where the whole text stands at the buffer's start, and then its
 /// length is that of the text. It is 84 where the buffer is too short: then the length is what is needed, and nothing is written.
 /// It is 85 where there was no memory for the account, and 80, 82 or 83 as the answer's; then nothing is written, and the length is
 /// 0. Takes memory for the certificate, its index and the account, and gives it back.
@@ -100,7 +102,7 @@ pub extern "C" fn dvgcheck_explain(
     ensures { IsExplained machine rom.now (map_of map) frame.now budget (window_of window) text.old text.new result }
 {
     match own_certificates(machine, rom, map, budget, window) {
-        Ok(mut own) => {
+        Ok(own) => {
             let (verdict, behind) = own.verdict(alloc, frame, Detail::Account(None));
             let answer = own_answer(&verdict);
             match account_of(alloc, &verdict, &behind) {

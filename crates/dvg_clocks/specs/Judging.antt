@@ -1,12 +1,16 @@
 -- The verdict on a frame by its own certificate, with the clocks that it takes. All of it is this project's own.
-use Rattle.std.specs.Prelude.{Err, List, Ok, Result, ℕ, ◌≡◌, ◌≤◌}
+use Rattle.std.specs.Prelude.{Err, IfErr, IfOk, List, Ok, Result, ℕ, ◌≡◌, ◌≤◌}
 use Rattle.dvg_words.specs.Memory.{Memory, Rom}
 use Rattle.dvg_words.specs.Values.{Window}
+use Rattle.dvg_words.specs.declared.machine.Machine.TheVariants.{Board}
 use Rattle.dvg_cert.specs.declared.entry.Entry.{Entry}
+use Rattle.dvg_check.specs.Means.{Means}
+use Rattle.dvg_check.specs.declared.fault.Mode.TheVariants.{Exact}
 use Rattle.dvg_check.specs.declared.verdict.Yes.{Yes}
 use Rattle.dvg_make.specs.Frames.{FrameMade}
-use Rattle.dvg_make.specs.Judging.{FrameRefused, HasCallCause, VerdictByMade}
+use Rattle.dvg_make.specs.Judging.{AreLeast, FrameRefused, HasCallCause, VerdictByMade}
 use Rattle.dvg_make.specs.declared.judging.FrameRefusal.TheVariants.{NoMemory}
+use Rattle.dvg_clocks.specs.Clocks.{TakenOnCircuit, clocks_of_instr}
 use Rattle.dvg_clocks.specs.Forecasts.{clocks_known}
 use Rattle.dvg_clocks.specs.Sums.{AreGood, IsAcceptedFrame, IsFirstOver, frame_sum}
 use Rattle.dvg_clocks.specs.declared.clocks.ClockRange.{ClockRange}
@@ -54,3 +58,14 @@ TimedRefused rom words w budget (Slow at) = Unit {0}
 abbrev pub IsUntold : Timing → Memory → List Entry → TimedRefusal → Type 0
 IsUntold timing m list (Slow at) = IsFirstOver timing.states m list timing.limit at
 IsUntold timing m list (Judged r) = r ≡ NoMemory
+
+-- each clause of `judge_timed` holds of the answer
+pub record IsTimed
+    (timing : Timing) (rom : Rom) (words : List ℕ) (w : Window) (budget : ℕ) (answer : Result TimedYes TimedRefusal) : Type 0 where
+  pub verdict : TimedVerdict timing rom words w budget answer
+  pub means : IfOk answer (λ timed. Means Exact (record { frame = words; rom = rom }) w timed.yes.words timed.yes.depth)
+  pub least : IfOk answer (λ timed. AreLeast rom words w timed.yes.words timed.yes.depth)
+  pub clocks :
+      rom.machine ≡ Board
+      → IfOk answer (λ timed. TakenOnCircuit (clocks_of_instr timing.states) (record { frame = words; rom = rom }) timed.clocks)
+  pub refused : IfErr answer (TimedRefused rom words w budget)

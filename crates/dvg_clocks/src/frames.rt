@@ -9,7 +9,7 @@ ghost use Rattle.dvg_clocks.specs.Sums.{AreGood, IsAcceptedFrame, IsFirstOver, f
 ghost use Rattle.dvg_clocks.specs.Kept.{AreTold};
 
 use crate::clocks::{ClockRange, States};
-use crate::items::{ScaleCursor, items_clocks};
+use crate::items::{ScaleCursor, SeesItems, Unseen, items_clocks};
 use crate::shapes::ShapeClocks;
 use dvg_cert::{Entries, Key};
 use dvg_items::Kind;
@@ -45,6 +45,32 @@ pub fn frame_clocks<E: Entries>(
     ensures err { IfErr result (IsFirstOver timing.now.states (record { frame = frame.now; rom = rom.now }) (E.list entries.now)
         timing.now.limit) }
 {
+    frame_clocks_seen(timing, rom, entries, shapes, frame, &mut Unseen)
+}
+
+/// The same, with what sees the frame's items up to the last one, or to the first with which the most is over the limit.
+pub fn frame_clocks_seen<E: Entries, S: SeesItems>(
+    timing: &Timing,
+    rom: &RomImage,
+    entries: &E,
+    shapes: &ShapeClocks,
+    frame: &FrameImage,
+    seen: &mut S,
+) -> Result<ClockRange, u16>
+    requires certificate { IsSomeCertificate (E.list entries.now) }
+    requires good { AreGood rom.now (E.list entries.now) }
+    requires told { AreTold timing.now.states rom.now (E.list entries.now) shapes.now }
+    requires frame { (words : ℕ) × IsAcceptedFrame (record { frame = frame.now; rom = rom.now }) (E.list entries.now) words }
+    ensures value { (words : ℕ) → IsAcceptedFrame (record { frame = frame.now; rom = rom.now }) (E.list entries.now) words
+        → IfOk result (λ clocks. clocks ≡ frame_sum (clocks_known timing.now.states) (record { frame = frame.now; rom = rom.now })
+        (E.list entries.now) words) }
+    ensures ordered { IfOk result (λ clocks. clocks.least ≤ clocks.most) }
+    ensures within { IfOk result (λ clocks. clocks.most ≤ timing.now.limit) }
+    ensures circuit { rom.now.machine ≡ Board
+        → IfOk result (TakenOnCircuit (clocks_of_instr timing.now.states) (record { frame = frame.now; rom = rom.now })) }
+    ensures err { IfErr result (IsFirstOver timing.now.states (record { frame = frame.now; rom = rom.now }) (E.list entries.now)
+        timing.now.limit) }
+{
     // Their clauses say that the ROM and the frame are whole.
     let _map = rom.map();
     let _words = frame.words();
@@ -61,5 +87,6 @@ pub fn frame_clocks<E: Entries>(
         shapes,
         &first,
         timing.limit,
+        seen,
     )
 }

@@ -17,6 +17,21 @@ use dvg_cert::{Entries, Entry, Key};
 use dvg_items::{Item, Kind, callee, scale_past, target};
 use dvg_words::{Cell, Fetch, read_cell};
 
+/// What sees the items that are gone over, and what each of them takes.
+pub trait SeesItems {
+    /// Sees an item, and what it takes, with all that it calls.
+    fn see(&mut self, item: &Item, clocks: ClockRange);
+}
+
+/// Nothing sees them.
+#[derive(Clone, Copy)]
+pub struct Unseen;
+
+impl SeesItems for Unseen {
+    #[inline(always)]
+    fn see(&mut self, _item: &Item, _clocks: ClockRange) {}
+}
+
 /// At an item of a shape or of a frame, with the known scale there.
 #[derive(Clone, Copy)]
 pub struct ScaleCursor {
@@ -70,14 +85,15 @@ fn item_clocks(
 }
 
 /// What the items take, from the first one through the last. `Err` has the word address of the first item with which they may take more
-/// than `limit` clocks. Takes no memory.
-pub fn items_clocks<F: Fetch, E: Entries>(
+/// than `limit` clocks. Each item that is gone over is seen once. Takes no memory.
+pub fn items_clocks<F: Fetch, E: Entries, S: SeesItems>(
     states: &States,
     words: &F,
     entries: &E,
     shapes: &ShapeClocks,
     first: &ScaleCursor,
     limit: u64,
+    seen: &mut S,
 ) -> Result<ClockRange, u16>
     requires entries { IsSomeCertificate (E.list entries.now) }
     requires key { IsKey first.now.scale }
@@ -95,7 +111,9 @@ pub fn items_clocks<F: Fetch, E: Entries>(
             instr,
         };
         let called = callee(entries, target(here.kind, &instr), here.scale);
-        sum = item_clocks(states, shapes, &item, here.scale, &called).plus(sum);
+        let clocks = item_clocks(states, shapes, &item, here.scale, &called);
+        seen.see(&item, clocks);
+        sum = clocks.plus(sum);
         if sum.most > limit {
             return Err(here.at);
         }

@@ -6,7 +6,7 @@ ghost use Rattle.dvg_clocks.specs.Sums.{AreGood};
 ghost use Rattle.dvg_clocks.specs.Kept.{AreTold, IsKeptToo, clocks_in};
 
 use crate::clocks::{ClockRange, States};
-use crate::items::{ScaleCursor, items_clocks};
+use crate::items::{ScaleCursor, Unseen, items_clocks};
 use dvg_cert::{Entries, Entry, Key};
 use dvg_items::Kind;
 use dvg_words::RomImage;
@@ -30,7 +30,7 @@ impl Model for ShapeClocks {
 
 impl ShapeClocks {
     /// No shape so far.
-    fn new(alloc: Global) -> ShapeClocks
+    pub fn new(alloc: Global) -> ShapeClocks
         ensures { result ≡ [] }
     {
         ShapeClocks {
@@ -81,7 +81,7 @@ impl ShapeClocks {
                 at: entry.addr,
                 scale: entry.key,
             };
-            match items_clocks(states, rom, entries, &shapes, &first, u64::MAX) {
+            match items_clocks(states, rom, entries, &shapes, &first, u64::MAX, &mut Unseen) {
                 Ok(clocks) => shapes.add(entry, clocks)?,
                 Err(_) => unreachable!(),
             }

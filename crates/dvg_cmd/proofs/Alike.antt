@@ -1,19 +1,23 @@
 -- Judges that say the same.
-use Rattle.dvg_cmd.proofs.Common.{◌≡◌, ℕ, List, Option, None, Some, refl, ◌∙◌, FrameAnswer, Judged, Judging, AnswersFrame, Line, WritesLineOf, WritesLineOfPrefix}
-use Rattle.dvg_cmd.specs.Frames.{AnswerMeans, JudgesAlike, Unread}
+use Rattle.dvg_cmd.proofs.Common.{ℕ, List, Option, None, Some, IfSome, refl, ◌∙◌, FrameAnswer, Judged, Judging, AnswersFrame, Line, WritesLineOf, WritesLineOfPrefix}
+use Rattle.dvg_cmd.specs.Frames.{AnswerMeans, JudgesAlike, Slow, Timed, Unread, refusal_in}
 use Rattle.dvg_cmd.specs.SeveralFrames.{AnswersOpened, IsLineOf}
 use Rattle.dvg_cmd.specs.declared.listing.Listing.{Listing}
 use Rattle.dvg_cmd.specs.declared.several_frames.NamedFrame.{NamedFrame}
 use Rattle.dvg_spelling.specs.declared.tally.Tally.{Tally}
 use Rattle.dvg_cmd.proofs.Common.{FrameOutcome}
 
+if_some : {A : Type 0} (o : Option A) (P Q : A → Type 0) → ((x : A) → P x → Q x) → IfSome o P → IfSome o Q
+if_some None P Q step h = tt
+if_some (Some x) P Q step h = step x h
+
 pub alike_itself : (j : Judging) → JudgesAlike j j
-alike_itself j = record { verdict = λ bytes v h. h; told = λ bytes r h. h; rom = refl; window = refl; mode = refl }
+alike_itself j = record { answer = λ bytes a h. h; told = λ bytes r h. h; rom = refl; window = refl; mode = refl }
 
 pub alike_on : (a b c : Judging) → JudgesAlike a b → JudgesAlike b c → JudgesAlike a c
 alike_on a b c h k =
     record {
-      verdict = λ bytes v said. h.verdict bytes v (k.verdict bytes v said);
+      answer = λ bytes a said. h.answer bytes a (k.answer bytes a said);
       told = λ bytes r said. h.told bytes r (k.told bytes r said);
       rom = k.rom ∙ h.rom;
       window = k.window ∙ h.window;
@@ -25,14 +29,16 @@ module _ (first later : Judging) (alike : JudgesAlike first later) (start : Opti
   answer_alike frame left answer a =
       record {
         bytes = a.bytes;
-        verdict = said answer a.verdict;
-        told = λ r is. alike.told a.bytes r (a.told r is);
-        means = λ yes is. rw (alike.mode, alike.rom, alike.window) at (a.means yes is);
+        answers = said answer a.answers;
+        told = if_some (refusal_in answer) (later.is_told a.bytes) (first.is_told a.bytes) (alike.told a.bytes) a.told;
+        means = rw (alike.mode, alike.rom, alike.window) at a.means;
       }
     where
-      said : (answer : FrameAnswer) → AnswerMeans later.is_verdict start frame left a.bytes answer → AnswerMeans first.is_verdict start frame left a.bytes answer
+      said : (answer : FrameAnswer) → AnswerMeans later.is_answer start frame left a.bytes answer → AnswerMeans first.is_answer start frame left a.bytes answer
       said Unread h = h
-      said (Judged v) h = (h.0, h.1, alike.verdict a.bytes v h.2)
+      said (Judged v) h = (h.0, h.1, alike.answer a.bytes (Judged v) h.2)
+      said (Timed t) h = (h.0, h.1, alike.answer a.bytes (Timed t) h.2)
+      said (Slow at) h = (h.0, h.1, alike.answer a.bytes (Slow at) h.2)
 
   module _ {R : Type 0} (remaining : R → Option (List ℕ)) (failures : R → ℕ) (listing : Listing) (frame : NamedFrame R) where
     line_alike : (line : Line) → IsLineOf remaining failures later listing start frame line → IsLineOf remaining failures first listing start frame line

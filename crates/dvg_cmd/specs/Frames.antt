@@ -1,6 +1,7 @@
 -- The verdict on a frame by its own certificate, or over judged shapes, and what a run writes of it. All of it is this project's own.
-use Rattle.std.specs.Prelude.{◌≡◌, ℕ, Bool, true, false, List, ◌++◌, take, length, Option, IfSome, Result, Ok, Err}
+use Rattle.std.specs.Prelude.{◌≡◌, ℕ, Bool, true, false, List, ◌++◌, ◌≤◌, take, length, Option, Some, None, IfSome, Result, Ok, Err}
 use Rattle.dvg_words.specs.declared.machine.Machine.{Machine}
+use Rattle.dvg_words.specs.declared.machine.Machine.TheVariants.{Board}
 use Rattle.dvg_words.specs.Values.{MemoryMap, Window}
 use Rattle.dvg_words.specs.Memory.{Rom, words_of, rom_on, IsRomLength, IsFrameLength}
 use Rattle.dvg_words.specs.declared.image.ImageFault.TheVariants.{RomLength, FrameLength}
@@ -17,14 +18,23 @@ use Rattle.dvg_check.specs.declared.verdict.Refusal.TheVariants as refusal
 use Rattle.dvg_make.specs.declared.judging.FrameRefusal.{FrameRefusal}
 use Rattle.dvg_make.specs.declared.judging.FrameRefusal.TheVariants.{Check}
 use Rattle.dvg_make.specs.Judging.{AreLeast, FrameRefused, HasCallCause, VerdictByMade}
+use Rattle.dvg_clocks.specs.Clocks.{TakenOnCircuit, clocks_of_instr}
+use Rattle.dvg_clocks.specs.Judging.{AreClocks, IsSlow}
+use Rattle.dvg_clocks.specs.declared.frames.Timing.{Timing}
+use Rattle.dvg_clocks.specs.declared.judging.TimedRefusal.{TimedRefusal}
+use Rattle.dvg_clocks.specs.declared.judging.TimedRefusal.TheVariants as timed
+use Rattle.dvg_clocks.specs.declared.judging.TimedYes.{TimedYes}
 use Rattle.dvg_spelling.specs.Report.{frame_line_text}
 use Rattle.dvg_cmd.specs.Detail.{Detail}
 use Rattle.dvg_cmd.specs.declared.detail.Detail.TheVariants as details
 use Rattle.dvg_cmd.specs.Runs.{MOST_FRAME_READ, IsReadTo}
+use Rattle.dvg_cmd.specs.declared.timed_judge.LineClocks.{LineClocks}
+use Rattle.dvg_cmd.specs.declared.timed_judge.LineClocks.TheVariants as line
+use Rattle.dvg_cmd.specs.declared.timed_judge.ClockOptions.{ClockOptions}
 use Rattle.dvg_cmd.specs.SafeFrames.{MeansFrame}
 use Rattle.dvg_cmd.specs.Start.{started}
 pub use Rattle.dvg_spelling.specs.declared.outcome.FrameAnswer.{FrameAnswer}
-pub use Rattle.dvg_spelling.specs.declared.outcome.FrameAnswer.TheVariants.{Judged, Unread}
+pub use Rattle.dvg_spelling.specs.declared.outcome.FrameAnswer.TheVariants.{Judged, Timed, Slow, Unread}
 pub use Rattle.dvg_spelling.specs.declared.outcome.FrameOutcome.{FrameOutcome}
 pub use Rattle.dvg_spelling.specs.declared.outcome.FrameOutcome.TheVariants as outcome
 pub use Rattle.dvg_spelling.specs.Outcomes.{frame_outcome_of, worse}
@@ -102,34 +112,90 @@ VerdictOver shapes count bytes budget (Err r) = ⊥
 -- the answer is that the frame could not be read
 abbrev pub is_unread : FrameAnswer → Bool
 is_unread Unread = true
-is_unread (Judged v) = false
+is_unread answer = false
+
+-- the yes of an answer
+abbrev pub yes_in : FrameAnswer → Option Yes
+yes_in (Judged (Ok y)) = Some y
+yes_in (Timed t) = Some t.yes
+yes_in answer = None
+
+-- its refusal, but for 58
+abbrev pub refusal_in : FrameAnswer → Option FrameRefusal
+refusal_in (Judged (Err r)) = Some r
+refusal_in answer = None
 
 -- what an answer says of a frame's reader: it was read to its end or to one byte past the limit, and these bytes are judged, with
--- this verdict; `Unread` says nothing of the bytes
+-- this answer; `Unread` says nothing of the bytes
 abbrev pub AnswerMeans :
-    (List ℕ → Result Yes FrameRefusal → Type 0) → Option ℕ → Option (List ℕ) → Option (List ℕ) → List ℕ → FrameAnswer → Type 0
-AnswerMeans IsVerdict start old new bytes Unread = Unit {0}
-AnswerMeans IsVerdict start old new bytes (Judged v) =
-    IsReadTo MOST_FRAME_READ old new × ReadsFrame old start bytes × IsVerdict bytes v
+    (List ℕ → FrameAnswer → Type 0) → Option ℕ → Option (List ℕ) → Option (List ℕ) → List ℕ → FrameAnswer → Type 0
+AnswerMeans IsAnswer start old new bytes Unread = Unit {0}
+AnswerMeans IsAnswer start old new bytes answer = IsReadTo MOST_FRAME_READ old new × ReadsFrame old start bytes × IsAnswer bytes answer
 
 -- the whole line of an answer
 abbrev pub frame_line : List ℕ → FrameAnswer → List ℕ
 frame_line name answer = name ++ frame_line_text answer
 
--- how frames are judged: what is a verdict on the bytes of a frame, and why a refused one is refused; and of which ROM, which window
+-- how frames are judged: what is an answer to the bytes of a frame, and why a refused one is refused; and of which ROM, which window
 -- and which mode of counts it speaks
 pub record Judging : Type 1 where
-  pub is_verdict : List ℕ → Result Yes FrameRefusal → Type 0
+  pub is_answer : List ℕ → FrameAnswer → Type 0
   pub is_told : List ℕ → FrameRefusal → Type 0
   pub rom : Rom
   pub window : Window
   pub mode : Mode
 
+-- an answer is a verdict, without clocks
+abbrev pub IsPlain : (Result Yes FrameRefusal → Type 0) → FrameAnswer → Type 0
+IsPlain IsVerdict (Judged v) = IsVerdict v
+IsPlain IsVerdict answer = ⊥
+
 -- by the frame's own certificate, over a ROM's bytes at this map on a machine: where the maker stops at a call, a cause is known
 abbrev pub judged_by_own : Machine → List ℕ → MemoryMap → ℕ → Window → Judging
 judged_by_own machine rom map budget w =
     record {
-      is_verdict = λ bytes verdict. VerdictOnBytes machine rom map bytes budget w verdict;
+      is_answer = λ bytes answer. IsPlain (VerdictOnBytes machine rom map bytes budget w) answer;
+      is_told = λ bytes refusal. HasCallCause (rom_on machine map rom) (words_of bytes) refusal;
+      rom = rom_on machine map rom;
+      window = w;
+      mode = Exact;
+    }
+
+-- the answer that a verdict with clocks comes to
+abbrev pub timed_answer : Result TimedYes TimedRefusal → FrameAnswer
+timed_answer (Ok t) = Timed t
+timed_answer (Err (timed.Judged r)) = Judged (Err r)
+timed_answer (Err (timed.Slow at)) = Slow at
+
+-- the clocks of an accepted frame: the sum over its items and shapes, within the limit; on the board each run of the circuit takes so many
+pub record HasClocks (timing : Timing) (machine : Machine) (rom : List ℕ) (map : MemoryMap) (bytes : List ℕ) (t : TimedYes) : Type 0 where
+  pub sum : AreClocks timing.states (rom_on machine map rom) (words_of bytes) t.yes.words t.clocks
+  pub within : t.clocks.most ≤ timing.limit
+  pub runs :
+      machine ≡ Board
+      → TakenOnCircuit (clocks_of_instr timing.states) (record { frame = words_of bytes; rom = rom_on machine map rom }) t.clocks
+
+-- the answer with clocks: the verdict by the frame's own certificate, and of an accepted frame its clocks, or its first item with which they
+-- are over the limit
+abbrev pub TimedAnswer : Timing → Machine → List ℕ → MemoryMap → ℕ → Window → List ℕ → FrameAnswer → Type 0
+TimedAnswer timing machine rom map budget w bytes (Judged (Err r)) = VerdictOnBytes machine rom map bytes budget w (Err r)
+TimedAnswer timing machine rom map budget w bytes (Timed t) =
+    VerdictOnBytes machine rom map bytes budget w (Ok t.yes) × HasClocks timing machine rom map bytes t
+TimedAnswer timing machine rom map budget w bytes (Slow at) =
+    InRange bytes budget × IsRomLength map (length rom) × IsSlow timing (rom_on machine map rom) (words_of bytes) w budget at
+TimedAnswer timing machine rom map budget w bytes answer = ⊥
+
+-- what a line tells of an answer with clocks: all, or all but the clocks
+abbrev pub told_with : LineClocks → FrameAnswer → FrameAnswer
+told_with line.LeftOut (Timed t) = Judged (Ok t.yes)
+told_with shown answer = answer
+
+-- by the frame's own certificate, with its clocks, as lines tell them
+abbrev pub judged_timed : ClockOptions → Machine → List ℕ → MemoryMap → ℕ → Window → Judging
+judged_timed asked machine rom map budget w =
+    record {
+      is_answer = λ bytes told. (answer : FrameAnswer) × TimedAnswer asked.timing machine rom map budget w bytes answer
+          × (told ≡ told_with asked.line answer);
       is_told = λ bytes refusal. HasCallCause (rom_on machine map rom) (words_of bytes) refusal;
       rom = rom_on machine map rom;
       window = w;
@@ -140,7 +206,7 @@ judged_by_own machine rom map budget w =
 abbrev pub judged_over : Shapes → ℕ → ℕ → Judging
 judged_over shapes count budget =
     record {
-      is_verdict = λ bytes verdict. VerdictOver shapes count bytes budget verdict;
+      is_answer = λ bytes answer. IsPlain (VerdictOver shapes count bytes budget) answer;
       is_told = λ bytes refusal. Unit {0};
       rom = shapes.rom;
       window = shapes.window;
@@ -149,7 +215,7 @@ judged_over shapes count budget =
 
 -- what is said by the later one is said by the first, of the same ROM, window and mode
 pub record JudgesAlike (first later : Judging) : Type 0 where
-  pub verdict : (bytes : List ℕ) (v : Result Yes FrameRefusal) → later.is_verdict bytes v → first.is_verdict bytes v
+  pub answer : (bytes : List ℕ) (a : FrameAnswer) → later.is_answer bytes a → first.is_answer bytes a
   pub told : (bytes : List ℕ) (r : FrameRefusal) → later.is_told bytes r → first.is_told bytes r
   pub rom : later.rom ≡ first.rom
   pub window : later.window ≡ first.window
@@ -158,8 +224,8 @@ pub record JudgesAlike (first later : Judging) : Type 0 where
 -- the answer to a frame that a reader held, which still holds `left`; `bytes` are any where it was not read
 pub record AnswersFrame (j : Judging) (start : Option ℕ) (frame left : Option (List ℕ)) (answer : FrameAnswer) : Type 0 where
   pub bytes : List ℕ
-  pub verdict : AnswerMeans j.is_verdict start frame left bytes answer
+  pub answers : AnswerMeans j.is_answer start frame left bytes answer
   -- why it is refused
-  pub told : (refusal : FrameRefusal) → answer ≡ Judged (Err refusal) → j.is_told bytes refusal
+  pub told : IfSome (refusal_in answer) (j.is_told bytes)
   -- what a yes means
-  pub means : (yes : Yes) → answer ≡ Judged (Ok yes) → MeansFrame j.mode j.rom j.window start frame yes
+  pub means : IfSome (yes_in answer) (MeansFrame j.mode j.rom j.window start frame)

@@ -9,6 +9,7 @@ pub mod SeveralFrames
 pub mod Making
 pub mod MakingFrames
 pub mod Placing
+pub mod Records
 pub mod Comparing
 pub mod Private
 pub mod Explaining

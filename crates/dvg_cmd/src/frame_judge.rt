@@ -1,52 +1,60 @@
 //! By which certificate a frame is judged: by its own, which is made for it, or by a given one, whose shapes were judged.
 
-ghost use Rattle.std.specs.Prelude.{◌≡◌, length, Err, None, IfOk, IfErr, IfSome};
+ghost use Rattle.std.specs.Prelude.{◌≡◌, false, length, Err, None, IfOk, IfErr, IfSome};
 ghost use Rattle.dvg_words.specs.Memory.{IsFrameLength, rom_on, words_of};
 ghost use Rattle.dvg_words.specs.Values.{Window as Places};
 ghost use Rattle.dvg_check.specs.Means.{Means};
+ghost use Rattle.dvg_check.specs.declared.fault.Mode.TheVariants.{Exact};
 ghost use Rattle.dvg_make.specs.Judging.{HasCallCause};
 ghost use Rattle.dvg_make.specs.declared.judging.FrameRefusal.TheVariants.{Check};
+ghost use Rattle.dvg_words.specs.declared.machine.Machine.TheVariants.{Board};
+ghost use Rattle.dvg_clocks.specs.Clocks.{TakenOnCircuit, clocks_of_instr};
 ghost use Rattle.dvg_cmd.specs.Detail.{IsBehind};
-ghost use Rattle.dvg_cmd.specs.Frames.{JudgesAlike, Judging, MayJudgeOver, VerdictOnBytes, VerdictOver, judged_by_own, judged_over};
+ghost use Rattle.dvg_cmd.specs.Frames.{JudgesAlike, Judging, MayJudgeOver, VerdictOnBytes, VerdictOver, is_unread, judged_by_own, judged_over, judged_timed, refusal_in, timed_answer, told_with, yes_in};
 ghost use Rattle.dvg_cmd.specs.declared.detail.Detail.{Detail};
 ghost use Rattle.dvg_cmd.specs.declared.detail.Detail.TheVariants as details;
-ghost use Rattle.dvg_cmd.specs.Private.Judging.{AreImages, IsKeptFor};
+ghost use Rattle.dvg_cmd.specs.declared.timed_judge.LineClocks.{LineClocks};
+ghost use Rattle.dvg_cmd.specs.Private.Judging.{AreImages, IsAnswerOf, IsKeptFor};
 
 use crate::detail::{Behind, Detail};
-use crate::several_frames::FrameOptions;
-use dvg_account::{Inputs, ShapeStarts, frame_text, own_text};
+use dvg_account::{Inputs, ShapeStarts, frame_text, timed_text};
 use dvg_cert::{Cert, Entries};
 use dvg_check::{JudgedShapes, Mode, Refusal, RomFinding, Yes, frame_of};
+use dvg_clocks::{ClockRange, DVG_STATES, TimedRefusal, TimedYes, Timing, explain_timed};
 use dvg_kept::KeptShapes;
 use dvg_labels::Labels;
 use dvg_make::{EntryCause, FrameRefusal, explain_judging, judge, own_verdict};
+use dvg_spelling::FrameAnswer;
 use dvg_words::{FrameImage, Machine, RomImage, RomMap, Window};
 use std::alloc::{AllocError, Global};
 
 /// A verdict on a frame, and what the detail asks for behind its line.
 pub type ToldVerdict = (Result<Yes, FrameRefusal>, Behind);
 
+/// The answer to a frame, and what the detail asks for behind its line.
+pub type ToldAnswer = (FrameAnswer, Behind);
+
 /// A judge of frames over a vector ROM.
 pub trait FrameJudge {
     /// What must hold of it before it judges with this detail.
     ghost valid: { Self → Detail → Type 0 };
 
-    /// What is a verdict on the bytes of a frame, and what is told of why one is refused; which ROM frames call, which part of the
-    /// screen may be lit, and in which mode counts are judged.
+    /// What is an answer to the bytes of a frame, and what is told of why one is refused; which ROM frames call, which part of the screen may be lit, and in which mode counts are judged.
     ghost judging: { Self → Judging };
 
     /// The machine that accounts name.
     fn machine(&self) -> Machine;
 
-    /// The verdict on the bytes of a frame, and what the detail asks for behind its line. It judges later frames in the same way.
-    fn verdict(&mut self, alloc: Global, frame: &[u8], detail: Detail) -> ToldVerdict
+    /// The answer to the bytes of a frame, and what the detail asks for behind its line. It judges later frames in the same way.
+    fn answer(&mut self, alloc: Global, frame: &[u8], detail: Detail) -> ToldAnswer
         requires { valid self.old detail }
-        ensures verdict { (judging self.old).is_verdict frame.now result.0 }
+        ensures answer { (judging self.old).is_answer frame.now result.0 }
+        ensures judged { is_unread result.0 ≡ false }
         ensures behind { IsBehind detail.entry result.1 }
-        ensures whole { IfOk result.0 (λ yes. IsFrameLength (length frame.now)) }
-        ensures means { IfOk result.0 (λ yes. Means (judging self.old).mode
+        ensures whole { IfSome (yes_in result.0) (λ yes. IsFrameLength (length frame.now)) }
+        ensures means { IfSome (yes_in result.0) (λ yes. Means (judging self.old).mode
             (record { frame = words_of frame.now; rom = (judging self.old).rom }) (judging self.old).window yes.words yes.depth) }
-        ensures told { IfErr result.0 ((judging self.old).is_told frame.now) }
+        ensures told { IfSome (refusal_in result.0) ((judging self.old).is_told frame.now) }
         ensures valid { valid self.new detail.entry }
         ensures same { JudgesAlike (judging self.old) (judging self.new) };
 }
@@ -77,13 +85,14 @@ impl<'a> FrameJudge for OwnCertificates<'a> {
         self.machine
     }
 
-    fn verdict(&mut self, alloc: Global, frame: &[u8], detail: Detail) -> ToldVerdict {
-        told_by_own(alloc, self, frame, detail)
+    fn answer(&mut self, alloc: Global, frame: &[u8], detail: Detail) -> ToldAnswer {
+        let (verdict, behind) = told_by_own(alloc, self, frame, detail);
+        (FrameAnswer::Judged(verdict), behind)
     }
 }
 
 /// The frame and the ROM of these bytes on a machine: answers the first that applies of 2, 49 and 1.
-fn images_for<'a>(
+pub fn images_for<'a>(
     machine: Machine,
     rom: &'a [u8],
     map: RomMap,
@@ -98,6 +107,44 @@ fn images_for<'a>(
 }
 
 impl<'a> OwnCertificates<'a> {
+    /// The verdict on the bytes of a frame: the first that applies of 2, 49 and 1, else that of [`judge`]; and what the detail asks for
+    /// behind its line.
+    pub fn verdict(&self, alloc: Global, frame: &'a [u8], detail: Detail<'a>) -> ToldVerdict
+        ensures verdict { VerdictOnBytes self.now.machine self.now.rom.now self.now.map frame.now self.now.budget self.now.window result.0 }
+        ensures means { IfOk result.0 (λ yes. Means Exact (record {
+          frame = words_of frame.now;
+          rom = rom_on self.now.machine self.now.map self.now.rom.now;
+        }) self.now.window yes.words yes.depth) }
+        ensures told { IfErr result.0 (HasCallCause (rom_on self.now.machine self.now.map self.now.rom.now) (words_of frame.now)) }
+        ensures behind { IsBehind detail.entry result.1 }
+    {
+        told_by_own(alloc, self, frame, detail)
+    }
+
+    /// The verdict on the bytes of a frame, as [`verdict`](OwnCertificates::verdict) answers it, and how many clocks an accepted frame takes on
+    /// the board; `None` on the profile, and where there was no memory to count them.
+    pub fn timed_verdict(
+        &self,
+        alloc: Global,
+        frame: &[u8],
+    ) -> (Result<Yes, FrameRefusal>, Option<ClockRange>)
+        ensures verdict { VerdictOnBytes self.now.machine self.now.rom.now self.now.map frame.now self.now.budget self.now.window result.0 }
+        ensures means { IfOk result.0 (λ yes. Means Exact (record {
+          frame = words_of frame.now;
+          rom = rom_on self.now.machine self.now.map self.now.rom.now;
+        }) self.now.window yes.words yes.depth) }
+        ensures told { IfErr result.0 (HasCallCause (rom_on self.now.machine self.now.map self.now.rom.now) (words_of frame.now)) }
+        ensures clocks { IfSome result.1 (λ clocks. (self.now.machine ≡ Board) × TakenOnCircuit (clocks_of_instr DVG_STATES) (record {
+          frame = words_of frame.now;
+          rom = rom_on self.now.machine self.now.map self.now.rom.now;
+        }) clocks) }
+    {
+        match self.machine {
+            Machine::Profile => (verdict_by_own(alloc, self, frame), None),
+            Machine::Board => timed_by_own(alloc, self, frame),
+        }
+    }
+
     /// Adds where the shapes begin that a frame calls, if a certificate can be made for it. Takes memory as
     /// [`explain_judging`] does; an `Err` says that there was none.
     pub fn add_starts(
@@ -133,17 +180,57 @@ fn verdict_by_own(alloc: Global, own: &OwnCertificates, frame: &[u8]) -> Result<
     }
 }
 
-/// The same verdict, and the account of it.
-#[tactic(auto, using(crate::proofs::Answers::own_verdict, crate::proofs::Answers::own_told))]
-fn explain_by_own<'a>(
+/// The same verdict, and the clocks that the frame takes on the board, if they were counted.
+fn timed_by_own(
     alloc: Global,
-    own: &OwnCertificates<'a>,
-    frame: &'a [u8],
-    labels: Option<&'a Labels>,
-) -> ToldVerdict
+    own: &OwnCertificates,
+    frame: &[u8],
+) -> (Result<Yes, FrameRefusal>, Option<ClockRange>)
+    requires { own.now.machine ≡ Board }
     ensures verdict { VerdictOnBytes own.now.machine own.now.rom.now own.now.map frame.now own.now.budget own.now.window result.0 }
     ensures told { IfErr result.0 (HasCallCause (rom_on own.now.machine own.now.map own.now.rom.now) (words_of frame.now)) }
-    ensures behind { IsBehind (details.Account None) result.1 }
+    ensures clocks { IfSome result.1 (TakenOnCircuit (clocks_of_instr DVG_STATES) (record {
+      frame = words_of frame.now;
+      rom = rom_on own.now.machine own.now.map own.now.rom.now;
+    })) }
+{
+    match images_for(own.machine, own.rom, own.map, frame, own.budget) {
+        Ok((frame, rom)) => {
+            let timed = explain_timed(alloc, &rom, &frame, own.budget, own.window, &UNLIMITED);
+            let clocks = match timed.answer {
+                Ok(timed) => Some(timed.clocks),
+                Err(_) => None,
+            };
+            (own_verdict(&timed.judged), clocks)
+        }
+        Err(refusal) => (Err(FrameRefusal::Check(refusal)), None),
+    }
+}
+
+/// A frame that was judged by its own certificate, with an account.
+#[derive(Drop)]
+pub struct ExplainedFrame {
+    /// The verdict of [`judge`].
+    pub verdict: Result<Yes, FrameRefusal>,
+    /// That of [`judge_timed`](dvg_clocks::judge_timed).
+    pub answer: Result<TimedYes, TimedRefusal>,
+    /// The account, which on the board tells the time that the frame takes.
+    pub behind: Behind,
+}
+
+/// The verdict on the bytes of a frame by its own certificate, without clocks and with them, and the account of it.
+pub fn explain_by_own<'a>(
+    alloc: Global,
+    own: &OwnCertificates<'a>,
+    timing: &Timing,
+    frame: &'a [u8],
+    labels: Option<&'a Labels>,
+) -> ExplainedFrame
+    ensures verdict { VerdictOnBytes own.now.machine own.now.rom.now own.now.map frame.now own.now.budget own.now.window result.verdict }
+    ensures told { IfErr result.verdict (HasCallCause (rom_on own.now.machine own.now.map own.now.rom.now) (words_of frame.now)) }
+    ensures answer { (line : LineClocks) → IsAnswerOf (judged_timed (record { timing = timing.now; line = line }) own.now.machine
+        own.now.rom.now own.now.map own.now.budget own.now.window) frame.now (told_with line (timed_answer result.answer)) }
+    ensures behind { IsBehind (details.Account None) result.behind }
 {
     let inputs = Inputs {
         machine: own.machine,
@@ -159,20 +246,31 @@ fn explain_by_own<'a>(
     };
     match images_for(own.machine, own.rom, own.map, frame, own.budget) {
         Ok((image, rom)) => {
-            let judged = explain_judging(alloc, &rom, &image, own.budget, own.window);
-            let verdict = own_verdict(&judged);
-            let account = own_text(alloc, &inputs, &rom, &image, judged);
-            (verdict, Behind::of(account))
+            let timed = explain_timed(alloc, &rom, &image, own.budget, own.window, timing);
+            ExplainedFrame {
+                verdict: own_verdict(&timed.judged),
+                answer: timed.answer,
+                behind: Behind::of(timed_text(alloc, &inputs, &rom, &image, timed, timing.limit)),
+            }
         }
         Err(refusal) => {
-            let verdict = Err(FrameRefusal::Check(refusal));
-            let account = frame_text(alloc, &inputs, &verdict, None);
-            (verdict, Behind::of(account))
+            let refusal = FrameRefusal::Check(refusal);
+            ExplainedFrame {
+                verdict: Err(refusal),
+                answer: Err(TimedRefusal::Judged(refusal)),
+                behind: Behind::of(frame_text(alloc, &inputs, &Err(refusal), None)),
+            }
         }
     }
 }
 
-/// That verdict, and what the detail asks for behind its line.
+/// How accounts count clocks where there is no limit.
+const UNLIMITED: Timing = Timing {
+    states: DVG_STATES,
+    limit: u64::MAX,
+};
+
+/// The verdict on the bytes of a frame by its own certificate, and what the detail asks for behind its line.
 fn told_by_own<'a>(
     alloc: Global,
     own: &OwnCertificates<'a>,
@@ -185,7 +283,10 @@ fn told_by_own<'a>(
 {
     match detail {
         Detail::Line => (verdict_by_own(alloc, own, frame), Behind::Nothing),
-        Detail::Account(labels) => explain_by_own(alloc, own, frame, labels),
+        Detail::Account(labels) => {
+            let explained = explain_by_own(alloc, own, &UNLIMITED, frame, labels);
+            (explained.verdict, explained.behind)
+        }
     }
 }
 
@@ -198,7 +299,7 @@ pub struct KeptCertificates<'a> {
     kept: Option<KeptShapes<'a>>,
 }
 
-/// Shapes to be kept over a ROM, none so far, if no account is asked for, the ROM's length is right and there is memory for them.
+/// Shapes to be kept over this ROM, none so far, if no account is asked for, the ROM's length is right and there is memory for them.
 fn shapes_over<'a>(
     alloc: Global,
     detail: Detail,
@@ -217,40 +318,28 @@ fn shapes_over<'a>(
 }
 
 impl<'a> KeptCertificates<'a> {
-    /// A judge over the bytes of a ROM at this map, which keeps nothing so far. With an account each frame is judged anew, and so it is
-    /// where there is no memory to keep shapes. The start is the run's, and no part of it.
-    pub fn new(
-        alloc: Global,
-        rom: &'a [u8],
-        map: RomMap,
-        options: &FrameOptions,
-        detail: Detail,
-    ) -> KeptCertificates<'a>
-        ensures own { result.own ≡ record {
-          machine = options.now.machine;
-          rom = rom.entry;
-          map = map;
-          budget = options.now.budget;
-          window = options.now.window;
-          others = None;
-        } }
-        ensures kept { IfSome result.kept (IsKeptFor options.now.machine rom.entry.now map options.now.window) }
+    /// A judge that keeps nothing so far. With an account each frame is judged anew, and so it is where there is no memory to keep shapes.
+    pub fn new(alloc: Global, own: OwnCertificates<'a>, detail: Detail) -> KeptCertificates<'a>
+        ensures own { result.own ≡ own.entry }
+        ensures kept { IfSome result.kept (IsKeptFor own.entry.machine own.entry.rom.now own.entry.map own.entry.window) }
     {
-        let FrameOptions {
+        let OwnCertificates {
             machine,
+            rom,
+            map,
             budget,
             window,
-            ..
-        } = *options;
+            others,
+        } = own;
+        let kept = shapes_over(alloc, detail, machine, rom, map, window);
         let own = OwnCertificates {
             machine,
             rom,
             map,
             budget,
             window,
-            others: None,
+            others,
         };
-        let kept = shapes_over(alloc, detail, machine, rom, map, window);
         KeptCertificates { own, kept }
     }
 }
@@ -283,14 +372,15 @@ impl<'a> FrameJudge for KeptCertificates<'a> {
         self.own.machine
     }
 
-    fn verdict(&mut self, alloc: Global, frame: &[u8], detail: Detail) -> ToldVerdict {
-        match (detail, &mut self.kept) {
+    fn answer(&mut self, alloc: Global, frame: &[u8], detail: Detail) -> ToldAnswer {
+        let (verdict, behind) = match (detail, &mut self.kept) {
             (Detail::Line, Some(kept)) => (
                 verdict_by_kept(alloc, &self.own, kept, frame),
                 Behind::Nothing,
             ),
             _ => told_by_own(alloc, &self.own, frame, detail),
-        }
+        };
+        (FrameAnswer::Judged(verdict), behind)
     }
 }
 
@@ -349,7 +439,7 @@ impl<'a, E: Entries> FrameJudge for GivenCertificate<'a, E> {
         self.machine
     }
 
-    fn verdict(&mut self, alloc: Global, frame: &[u8], detail: Detail) -> ToldVerdict {
+    fn answer(&mut self, alloc: Global, frame: &[u8], detail: Detail) -> ToldAnswer {
         let (verdict, cause) = verdict_over(self.shapes, self.cert, frame, self.budget);
         let behind = match detail {
             Detail::Line => Behind::Nothing,
@@ -357,7 +447,7 @@ impl<'a, E: Entries> FrameJudge for GivenCertificate<'a, E> {
                 account_over(alloc, self, frame, &verdict, cause.as_ref(), labels)
             }
         };
-        (verdict, behind)
+        (FrameAnswer::Judged(verdict), behind)
     }
 }
 

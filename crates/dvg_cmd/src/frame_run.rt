@@ -75,10 +75,7 @@ pub fn answer_of<J: FrameJudge, R: CountedRead>(
     ensures same { JudgesAlike (J.judging judge.old) (J.judging judge.new) }
 {
     match read_started(frame, start) {
-        Ok(bytes) => {
-            let (verdict, behind) = judge.verdict(alloc, bytes.as_slice(), detail);
-            (FrameAnswer::Judged(verdict), behind)
-        }
+        Ok(bytes) => judge.answer(alloc, bytes.as_slice(), detail),
         Err(_) => (
             FrameAnswer::Unread,
             unread_account(judge.machine(), alloc, detail),

@@ -8,3 +8,4 @@ pub mod Keys
 pub mod Verdict
 pub mod Keeping
 pub mod LeafItems
+pub mod Timing

@@ -1,9 +1,12 @@
 -- A frame that is good over kept entries is accepted by its own list.
-use Rattle.std.specs.Prelude.{◌≡◌, ℕ, zero, ◌+◌, List, Option, Some, None, Ok, refl}
+use Rattle.std.specs.Prelude.{◌≡◌, ℕ, zero, ◌+◌, List, ◌∷◌, Option, Some, None, Ok, refl}
 use Rattle.std.proofs.Common.{inr}
 use Rattle.dvg_words.specs.Values.{Window}
 use Rattle.dvg_words.specs.Memory.{frame_word}
 use Rattle.dvg_words.specs.declared.instruction.Cell.{Cell}
+use Rattle.dvg_words.specs.declared.instruction.Format.{Format}
+use Rattle.dvg_words.specs.declared.instruction.Instr.{Instr}
+use Rattle.dvg_words.specs.declared.instruction.Instr.TheVariants.{Halt}
 use Rattle.dvg_words.specs.declared.instruction.Cell.TheVariants.{Missing, Odd}
 use Rattle.dvg_check.specs.Means.{Means}
 use Rattle.dvg_check.specs.Rules.{GoodFrame, FramePlaceKeeps, FrameKeeps, CellKeeps}
@@ -22,6 +25,9 @@ use Rattle.dvg_kept.proofs.Own.{frame_same}
 callee_same : (a b : List Entry) → Extends a b → (o : Option ℕ) (scale : Key) → ((to : ℕ) → o ≡ Some to → HasEntry a to scale) → callee_at b o scale ≡ callee_at a o scale
 callee_same a b ext None scale h = refl
 callee_same a b ext (Some to) scale h = let f = h to refl in exact_named b to scale f.0 (ext to scale f.0 f.1) ∙ sym (exact_named a to scale f.0 f.1)
+
+abbrev pub item_of : ℕ → Format → Instr → Item
+item_of at format instr = record { at = at; format = format; instr = instr }
 
 -- where each call of a frame has its entry, what is seen of its items is the same by a list that has more
 module _ (machine : Machine) (words : List ℕ) (a b : List Entry) (ext : Extends a b) (calls : HasCalls machine words a) where
@@ -54,8 +60,17 @@ module _ (machine : Machine) (words : List ℕ) (a b : List Entry) (ext : Extend
         depth_is = good.depth_is ∙ ap (λ (x : Known). x.depth) (sym same);
       }
 
+  -- a frame that is good so, with the same items
+  pub record GoodOwn (w : Window) (budget n d : ℕ) (good : GoodFrame w machine words b budget n d) : Type 0 where
+    pub own : GoodFrame w machine words a budget n d
+    pub items : item_of own.at own.format Halt ∷ own.items ≡ item_of good.at good.format Halt ∷ good.items
+
+  pub own_items : (w : Window) (budget n d : ℕ) (good : GoodFrame w machine words b budget n d) → GoodOwn w budget n d good
+  unfolding good_own
+  own_items w budget n d good = record { own = good_own w budget n d good; items = refl }
+
 module _ (k : Kept) (words : List ℕ) (n : ℕ) (own : HasOwn k words n) (budget count depth : ℕ) (good : GoodFrame k.window k.rom.machine words k.list budget count depth) (means : Means Exact (record { frame = words; rom = k.rom }) k.window count depth) where
-  calls : HasCalls k.rom.machine words own.list
+  pub calls : HasCalls k.rom.machine words own.list
   calls to scale c = own.made.rooted to scale (inr (words, (zero, omega arith, refl), c))
 
   mine : GoodFrame k.window k.rom.machine words own.list budget count depth

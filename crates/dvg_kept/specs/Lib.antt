@@ -1,2 +1,3 @@
 pub mod Kept
+pub mod Timed
 pub mod Private

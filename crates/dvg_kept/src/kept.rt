@@ -1,6 +1,6 @@
 //! Frames over kept shapes.
 
-ghost use Rattle.std.specs.Prelude.{◌≡◌, ◌≤◌, [], Ok, length, IfOk, IfErr, IfSome};
+ghost use Rattle.std.specs.Prelude.{◌≡◌, ◌≤◌, [], Ok, length, IfOk, IfErr, IfSome, OnErr};
 ghost use Rattle.dvg_words.specs.Memory.{rom_word};
 ghost use Rattle.dvg_cert.specs.Entry.{IsKey};
 ghost use Rattle.dvg_cert.specs.declared.limits.TheConstants.{MOST_WORDS};
@@ -10,7 +10,9 @@ ghost use Rattle.dvg_check.specs.declared.fault.Mode.TheVariants.{Exact};
 ghost use Rattle.dvg_make.specs.Judging.{AreLeast, FrameRefused, HasCallCause, VerdictByMade};
 ghost use Rattle.dvg_make.specs.Private.Judged.{IsJudged};
 ghost use Rattle.dvg_items.specs.Bounds.{IsSomeCertificate};
+ghost use Rattle.dvg_clocks.specs.Kept.{AreTold};
 ghost use Rattle.dvg_kept.specs.Kept.{IsKept};
+ghost use Rattle.dvg_kept.specs.declared.kept.Keeping.TheVariants.{Full};
 ghost use Rattle.dvg_kept.specs.Private.Marks.{AllAskedMarked, Asks, IsMarking, MarksMore, context_of, shape_start};
 ghost use Rattle.dvg_kept.specs.Private.Own.{HasOwn, IsMerged};
 
@@ -18,6 +20,7 @@ use crate::leaves::Leaves;
 use crate::marks::{MarkedEntries, Place};
 use dvg_cert::{Entry, Key, MOST_ENTRIES};
 use dvg_check::{Accepted, JudgedShapes, Mode, Yes};
+use dvg_clocks::{ShapeClocks, States};
 use dvg_items::Kind;
 use dvg_make::{FrameRefusal, MadeEntries, explain_judging, own_verdict};
 use dvg_words::{FrameImage, FrameOn, RomImage, Window};
@@ -104,6 +107,15 @@ fn accepted_over(
     }
 }
 
+/// What came of keeping entries.
+#[derive(Clone, Copy, PartialEq, Eq)]
+pub enum Keeping {
+    /// Other entries are kept than before.
+    Changed,
+    /// They were too many: the same are kept.
+    Full,
+}
+
 impl<'a> KeptShapes<'a> {
     /// Nothing so far. Takes memory for which shapes call nothing; an `Err` says that there was none.
     pub fn new(
@@ -155,9 +167,13 @@ impl<'a> KeptShapes<'a> {
     }
 
     /// The verdict on a frame that is accepted over the kept entries; `None` if it isn't, or one of its entries isn't kept.
-    fn kept_verdict(&self, alloc: Global, frame: &FrameImage, budget: u32) -> Option<Yes>
+    pub(crate) fn kept_verdict(&self, alloc: Global, frame: &FrameImage, budget: u32) -> Option<Yes>
         requires { budget ≤ MOST_WORDS }
-        ensures { IfSome result (λ yes. IsJudged self.now.rom frame.now self.now.window budget (Ok yes)) }
+        ensures judged { IfSome result (λ yes. IsJudged self.now.rom frame.now self.now.window budget (Ok yes)) }
+        ensures own { IfSome result (λ yes. HasOwn self.now frame.now yes.shapes) }
+        ensures good { IfSome result (λ yes. GoodFrame self.now.window self.now.rom.machine frame.now self.now.list budget
+            yes.words yes.depth) }
+        ensures kept { IfSome result (λ _. IsKept self.now) }
     {
         let own = self.own_entries(alloc, frame)?;
         let accepted = accepted_over(&self.rom, &self.entries, frame, budget, self.window)?;
@@ -169,19 +185,57 @@ impl<'a> KeptShapes<'a> {
     }
 
     /// Keeps the entries of a certificate that was made for a frame, if they are not too many; without memory for them nothing is kept.
-    fn keep(&mut self, alloc: Global, made: &[Entry])
+    pub(crate) fn keep(&mut self, alloc: Global, made: &[Entry]) -> Keeping
         requires { IsKept (record { rom = self.old.rom; window = self.old.window; list = made.now }) }
         ensures rom { self.new.rom ≡ self.old.rom }
         ensures window { self.new.window ≡ self.old.window }
+        ensures full { result ≡ Full → self.new ≡ self.old }
     {
         if self.entries.len() + made.len() > MOST_ENTRIES {
-            return;
+            return Keeping::Full;
         }
         self.leaves.add(&self.rom, made);
         let entries = mem::replace(&mut self.entries, MadeEntries::new(alloc));
         if let Ok(merged) = merged(entries, made) {
             self.entries = merged;
         }
+        Keeping::Changed
+    }
+
+    /// The ROM.
+    pub(crate) fn rom(&self) -> &RomImage<'a>
+        ensures { result.now ≡ self.now.rom }
+    {
+        &self.rom
+    }
+
+    /// The window.
+    pub(crate) fn window(&self) -> Window
+        ensures { result ≡ self.now.window }
+    {
+        self.window
+    }
+
+    /// The entries that are kept.
+    pub(crate) fn entries(&self) -> &MadeEntries
+        ensures { result.now ≡ self.now.list }
+    {
+        &self.entries
+    }
+
+    /// What each of the kept shapes takes, in clocks. Takes memory as [`ShapeClocks::of_all`] does.
+    pub(crate) fn clocks(&self, alloc: Global, states: &States) -> Result<ShapeClocks, AllocError>
+        ensures { IfOk result (AreTold states.now self.now.rom self.now.list) }
+    {
+        let list = self.entries.entries(alloc)?;
+        ShapeClocks::of_all(alloc, states, &self.rom, &self.entries, &list)
+    }
+
+    /// Keeps nothing any more.
+    pub(crate) fn forget(&mut self, alloc: Global)
+        ensures { self.new ≡ record { rom = self.old.rom; window = self.old.window; list = [] } }
+    {
+        self.entries = MadeEntries::new(alloc);
     }
 
     /// Judges a frame as [`judge`](dvg_make::judge) does, over the ROM and the window. The shapes that an accepted frame calls are kept, up
@@ -201,6 +255,7 @@ impl<'a> KeptShapes<'a> {
         ensures told { IfErr result (HasCallCause self.old.rom frame.now) }
         ensures rom { self.new.rom ≡ self.old.rom }
         ensures window { self.new.window ≡ self.old.window }
+        ensures same { OnErr result (self.new ≡ self.old) }
     {
         if let Some(yes) = self.kept_verdict(alloc, frame, budget) {
             return Ok(yes);

@@ -6,5 +6,7 @@
 mod kept;
 mod leaves;
 mod marks;
+mod timed;
 
 pub use kept::KeptShapes;
+pub use timed::TimedShapes;

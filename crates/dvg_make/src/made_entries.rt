@@ -1,6 +1,6 @@
 //! The entries that are made so far.
 
-ghost use Rattle.std.specs.Prelude.{◌≡◌, ◌++◌, List, [], ◌∷◌, length, slice_get, ℕ, IfOk, IfSome, OnOk, OnErr, Some, None};
+ghost use Rattle.std.specs.Prelude.{◌≡◌, ◌++◌, List, [], ◌∷◌, length, slice_get, ℕ, IfOk, IfSome, IfNone, OnOk, OnErr, Some, None};
 ghost use Rattle.std.specs.Map.{values_of};
 ghost use Rattle.dvg_cert.specs.declared.entry.Entry.{Entry as EntryValue};
 ghost use Rattle.dvg_cert.specs.declared.entry.Key.{Key as KeyValue};
@@ -49,6 +49,7 @@ impl MadeEntries {
     pub fn find_full(&self, addr: u16, key: Key) -> Option<(usize, Entry)>
         ensures found { IfSome result (λ full. entry_at self.now addr key ≡ Some full.1) }
         ensures stands { IfSome result (λ full. slice_get self.now full.0 ≡ Some full.1) }
+        ensures none { IfNone result (entry_at self.now addr key ≡ None) }
     {
         let (position, _, entry) = self.found.get_full(&(addr, key))?;
         Some((position, *entry))

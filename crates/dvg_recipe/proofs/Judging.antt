@@ -11,7 +11,7 @@ use Rattle.dvg_check.specs.declared.fault.FrameWhy.TheVariants as frame
 use Rattle.dvg_check.specs.declared.fault.FrameWhy.{FrameWhy}
 use Rattle.dvg_items.specs.declared.seen.Seen.{Seen}
 use Rattle.dvg_words.specs.declared.machine.Machine.TheVariants.{Board}
-use Rattle.dvg_recipe.specs.Recipes.{PieceKind, PlaceSpan, Place, Call, Draw, Fixed, Takes, TakesDraw, NamesMade, Names, ComesTo, IsEndIn, Arrives, Part, Row, Then', Either', Repeat', Piece, Jump, AddsPiece, AddsRow, AddsJump, Spells, SpellsJumps, Times}
+use Rattle.dvg_recipe.specs.Recipes.{PieceKind, PlaceSpan, Place, Call, Draw, Fixed, Takes, TakesDraw, NamesMade, Names, ComesTo, IsEndIn, Arrives, Part, Row, Then', Either', Repeat', Piece, Jump, AddsPiece, AddsRow, Spells, SpellsJumps, Times}
 use Rattle.dvg_recipe.specs.Private.Hulls.{Hull, AreUnder, KeepsOthers, IsKeyed, LeadOn}
 use Rattle.dvg_recipe.specs.Private.Judging.{Adds, AddsJumpTo, Both, TimesOver, Turns, LeadsIn, IsTaken, IsJump, IsFront, Extends, IsGoodFront, Carries}
 use Rattle.dvg_recipe.proofs.Past.{format_there}
@@ -73,6 +73,24 @@ extends_jumps (jump ∷ jumps) = record {
   front = λ rom words before after s f.
       (extends_jump jump.area.first).front rom words before s.0 s.2 ((extends_part jump.body).front rom words s.0 s.1 s.3 ((extends_jumps jumps).front rom words s.1 after s.4 f));
 }
+
+-- ---- the last of some
+
+pub row_split : (row : List Piece) (piece : Piece) (rom : Rom) (before after : List Item) → AddsRow (row ++ piece ∷ []) rom before after → Both (AddsRow row) (AddsPiece piece) rom before after
+row_split [] piece rom before after (k, adds, same) = (before, refl, subst (λ l. AddsPiece piece rom before l) (sym same) adds)
+row_split (first ∷ row) piece rom before after (m, adds, rest) = let r = row_split row piece rom m after rest in (r.0, (m, adds, r.1), r.2)
+
+abbrev pub JumpPart : Jump → Adds
+JumpPart jump = Both (AddsJumpTo jump.area.first) (Spells jump.body)
+
+pub jumps_split : (jumps : List Jump) (jump : Jump) (rom : Rom) (before after : List Item) → SpellsJumps (jumps ++ jump ∷ []) rom before after → Both (SpellsJumps jumps) (JumpPart jump) rom before after
+jumps_split [] jump rom before after (there, between, adds, spelled, same) = (before, refl, (there, adds, subst (λ l. Spells jump.body rom there l) (sym same) spelled))
+jumps_split (first ∷ jumps) jump rom before after (there, between, adds, spelled, rest) = let r = jumps_split jumps jump rom between after rest in (r.0, (there, between, adds, spelled, r.1), r.2)
+
+module _ (R : Adds) where
+  pub times_last : (n : ℕ) (rom : Rom) (before after : List Item) → TimesOver (suc n) R rom before after → Both (TimesOver n R) R rom before after
+  times_last zero rom before after (k, first, same) = (before, refl, subst (λ l. R rom before l) (sym same) first)
+  times_last (suc n) rom before after (k, first, rest) = let r = times_last n rom k after rest in (r.0, (k, first, r.1), r.2)
 
 module _ (w : Window) (list : List Entry) (budget : ℕ) where
   -- ---- one item
@@ -162,10 +180,6 @@ module _ (w : Window) (list : List Entry) (budget : ℕ) where
   pub carries_jump : (to : ℕ) (xs ys : List Hull) → LeadOn w list budget IsJump xs ys → Carries w list budget (AddsJumpTo to) xs ys
   carries_jump to xs ys on = record { each = λ rom made words before after a f good. subst (IsGoodFront w list budget ys words) (sym a.one_more) (good_item IsJump xs ys words before a.item on (to, a.jumps) (subst (IsFront words) a.one_more f) good) }
 
-  row_split : (row : List Piece) (piece : Piece) (rom : Rom) (before after : List Item) → AddsRow (row ++ piece ∷ []) rom before after → Both (AddsRow row) (AddsPiece piece) rom before after
-  row_split [] piece rom before after (k, adds, same) = (before, refl, subst (λ l. AddsPiece piece rom before l) (sym same) adds)
-  row_split (first ∷ row) piece rom before after (m, adds, rest) = let r = row_split row piece rom m after rest in (r.0, (m, adds, r.1), r.2)
-
   pub carries_row_next : (row : List Piece) (i n : ℕ) (d : Piece) (xs ys zs : List Hull) → n ≡ suc i → i < length row → Carries w list budget (AddsRow (take i row)) xs ys → Carries w list budget (AddsPiece (get_or row i d)) ys zs → Carries w list budget (AddsRow (take n row)) xs zs
   carries_row_next row i n d xs ys zs is lt h k =
       let more = carries_as (Both (AddsRow (take i row)) (AddsPiece (get_or row i d))) (AddsRow (take i row ++ get_or row i d ∷ [])) xs zs (row_split (take i row) (get_or row i d)) (carries_both _ _ xs ys zs (extends_piece (get_or row i d)) h k) in
@@ -175,13 +189,6 @@ module _ (w : Window) (list : List Entry) (budget : ℕ) where
   carries_row_whole row xs ys i le h = subst (λ (l : List Piece). Carries w list budget (AddsRow l) xs ys) (take_all i row le) h
 
   -- ---- jumps
-
-  abbrev pub JumpPart : Jump → Adds
-  JumpPart jump = Both (AddsJumpTo jump.area.first) (Spells jump.body)
-
-  jumps_split : (jumps : List Jump) (jump : Jump) (rom : Rom) (before after : List Item) → SpellsJumps (jumps ++ jump ∷ []) rom before after → Both (SpellsJumps jumps) (JumpPart jump) rom before after
-  jumps_split [] jump rom before after (there, between, adds, spelled, same) = (before, refl, (there, adds, subst (λ l. Spells jump.body rom there l) (sym same) spelled))
-  jumps_split (first ∷ jumps) jump rom before after (there, between, adds, spelled, rest) = let r = jumps_split jumps jump rom between after rest in (r.0, (there, between, adds, spelled, r.1), r.2)
 
   pub carries_jumps_next : (jumps : List Jump) (i n : ℕ) (d : Jump) (xs ys zs all : List Hull) → n ≡ suc i → i < length jumps → Carries w list budget (SpellsJumps (take i jumps)) xs ys → Carries w list budget (AddsJumpTo (get_or jumps i d).area.first) ys zs → Carries w list budget (Spells (get_or jumps i d).body) zs all → Carries w list budget (SpellsJumps (take n jumps)) xs all
   carries_jumps_next jumps i n d xs ys zs all is lt h k l =
@@ -196,12 +203,8 @@ module _ (w : Window) (list : List Entry) (budget : ℕ) where
   -- ---- turns
 
   module _ (R : Adds) where
-    times_last : (n : ℕ) (rom : Rom) (before after : List Item) → TimesOver (suc n) R rom before after → Both (TimesOver n R) R rom before after
-    times_last zero rom before after (k, first, same) = (before, refl, subst (λ l. R rom before l) (sym same) first)
-    times_last (suc n) rom before after (k, first, rest) = let r = times_last n rom k after rest in (r.0, (k, first, r.1), r.2)
-
     pub turn_next : (n m : ℕ) (xs ys zs : List Hull) → m ≡ suc n → Extends R → Carries w list budget (TimesOver n R) xs ys → Carries w list budget R ys zs → Carries w list budget (TimesOver m R) xs zs
-    turn_next n m xs ys zs is e h k = subst (λ l. Carries w list budget (TimesOver l R) xs zs) (sym is) (carries_as (Both (TimesOver n R) R) (TimesOver (suc n) R) xs zs (times_last n) (carries_both (TimesOver n R) R xs ys zs e h k))
+    turn_next n m xs ys zs is e h k = subst (λ l. Carries w list budget (TimesOver l R) xs zs) (sym is) (carries_as (Both (TimesOver n R) R) (TimesOver (suc n) R) xs zs (times_last R n) (carries_both (TimesOver n R) R xs ys zs e h k))
 
     pub turns_none : (least : ℕ) (xs ys : List Hull) → 0 < least → Carries w list budget (Turns least 0 R) xs ys
     turns_none least xs ys lt = record { each = λ rom made words before after t f good. absurd (omega (arith, lt, t.1, t.2)) }

@@ -13,6 +13,9 @@ pub mod Doing
 pub mod Members
 pub mod Leads
 pub mod Onward
+pub mod MostClocks
+pub mod Spending
+pub mod Taking
 pub mod Longest
 pub mod MemberExample
 pub mod ColumnExample

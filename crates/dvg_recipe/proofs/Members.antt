@@ -19,7 +19,9 @@ use Rattle.dvg_recipe.specs.Recipes.{Recipe, Belongs, Spells, SpellsJumps}
 use Rattle.dvg_recipe.specs.Means.{AllMean}
 use Rattle.dvg_recipe.specs.Private.Hulls.{Hull}
 use Rattle.dvg_make.specs.Made.{AllMade}
-use Rattle.dvg_recipe.specs.Private.Judging.{Carries, AreListStarts, AreGoodMembers, IsCounted}
+use Rattle.dvg_recipe.specs.Private.Judging.{Carries, AreListStarts, AreGoodMembers, IsCounted, AreGoodFrames}
+use Rattle.dvg_check.specs.Rules.{Good}
+use Rattle.dvg_items.specs.Bounds.{IsSomeCertificate}
 use Rattle.dvg_recipe.proofs.Past.{format_there}
 use Rattle.dvg_recipe.proofs.Judging.{extends_part, extends_jumps}
 
@@ -47,8 +49,13 @@ module _ (w : Window) (list : List Entry) (budget : ℕ) (recipe : Recipe) (word
     pub shallow : d ≤ depth
     pub good : GoodFrame w Board words_of list budget n d
 
-  pub every_good : (rom : Rom) → AllMade rom list → (ends : List Hull) → AreGoodMembers w list budget recipe ends → ((h : Hull) → Contains ends h → IsCounted words depth h) → words ≤ budget → (frame : List ℕ) → Belongs rom recipe frame → IsGoodMember frame
-  every_good rom made ends members last within frame b =
+  -- a frame of the recipe keeps all rules, with all that is known of its items
+  pub record IsCountedList (frame : List ℕ) (items : List Item) : Type 0 where
+    pub member : IsGoodMember frame
+    pub are : member.good.items ≡ items
+
+  pub every_list : (rom : Rom) → AllMade rom list → (ends : List Hull) → AreGoodMembers w list budget recipe ends → ((h : Hull) → Contains ends h → IsCounted words depth h) → words ≤ budget → (frame : List ℕ) → (b : Belongs rom recipe frame) → IsCountedList frame b.items
+  every_list rom made ends members last within frame b =
       let c : Context = frame_context Board list in
       let source : Source = frame_word Board frame in
       let g2 = members.each rom made frame b.items b.spelled (b.at, b.leads) in
@@ -60,21 +67,36 @@ module _ (w : Window) (list : List Entry) (budget : ℕ) (recipe : Recipe) (word
       let rules = halt_keeps w budget list frame b.items b.at (omega (arith, inside.words, end.count, within)) in
       let kept : (why : FrameWhy) → FramePlaceKeeps w Board frame list budget b.items b.at why = λ why. subst (λ (cell : Cell). CellKeeps rule.Unmapped rule.Odd (λ j. FrameKeeps w budget (seen_at c b.items j)) b.at cell why) (sym halts) (rules why) in
       record {
-        n = 1 + (known_before c b.items).words;
-        d = (known_before c b.items).depth;
-        few = omega (arith, inside.words, end.count);
-        shallow = omega (arith, inside.depth, end.shallow);
-        good = record {
-          keeps = everywhere Frame source 0 (λ earlier p. (why : FrameWhy) → FramePlaceKeeps w Board frame list budget earlier p why) b.items i b.leads halts refl (g2.kept, kept);
-          items = b.items;
-          at = b.at;
-          format = Short;
-          leads = b.leads;
-          halts = halts;
-          count_is = omega arith;
-          depth_is = refl;
+        member = record {
+          n = 1 + (known_before c b.items).words;
+          d = (known_before c b.items).depth;
+          few = omega (arith, inside.words, end.count);
+          shallow = omega (arith, inside.depth, end.shallow);
+          good = record {
+            keeps = everywhere Frame source 0 (λ earlier p. (why : FrameWhy) → FramePlaceKeeps w Board frame list budget earlier p why) b.items i b.leads halts refl (g2.kept, kept);
+            items = b.items;
+            at = b.at;
+            format = Short;
+            leads = b.leads;
+            halts = halts;
+            count_is = omega arith;
+            depth_is = refl;
+          };
         };
+        are = refl;
       }
+
+  pub every_good : (rom : Rom) → AllMade rom list → (ends : List Hull) → AreGoodMembers w list budget recipe ends → ((h : Hull) → Contains ends h → IsCounted words depth h) → words ≤ budget → (frame : List ℕ) → Belongs rom recipe frame → IsGoodMember frame
+  every_good rom made ends members last within frame b = (every_list rom made ends members last within frame b).member
+
+-- so the frames of a recipe are good over good shapes
+pub good_frames : (rom : Rom) (list : List Entry) (w : Window) (budget : ℕ) (recipe : Recipe) (words depth : ℕ) → IsSomeCertificate list → Good Exact w rom list
+    → ((frame : List ℕ) (b : Belongs rom recipe frame) → IsCountedList w list budget recipe words depth frame b.items) → AreGoodFrames rom recipe w list budget
+good_frames rom list w budget recipe words depth certificate shapes each = record {
+  certificate = certificate;
+  shapes = shapes;
+  frames = λ frame b. let t = each frame b in record { words = t.member.n; depth = t.member.d; good = t.member.good; are = t.are };
+}
 
 -- so each of them is all that a yes means
 pub every_means : (rom : Rom) (list : List Entry) (w : Window) (budget : ℕ) (recipe : Recipe) (words depth : ℕ) → IsJudged (record { rom = rom; list = list; window = w; mode = Exact }) → IsWindowOrZone w → rom.machine ≡ Board

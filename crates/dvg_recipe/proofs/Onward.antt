@@ -68,15 +68,15 @@ module _ (w : Window) (list : List Entry) (budget : ℕ) where
 
 -- ---- where lists begin
 
-begins_here : (n : ℕ) (items : List Item) → n ≡ 0 → BeginsAt n items → items ≡ []
+pub begins_here : (n : ℕ) (items : List Item) → n ≡ 0 → BeginsAt n items → items ≡ []
 begins_here zero items is h = h
 begins_here (suc n) items is h = absurd (omega (arith, is))
 
-begins_there : (n : ℕ) (items : List Item) → n ≢ 0 → BeginsAt n items → AddsJump n [] items
+pub begins_there : (n : ℕ) (items : List Item) → n ≢ 0 → BeginsAt n items → AddsJump n [] items
 begins_there zero items not h = absurd (not refl)
 begins_there (suc n) items not h = h
 
-only_area : (a b : Area) → Contains (a ∷ []) b → a ≡ b
+pub only_area : (a b : Area) → Contains (a ∷ []) b → a ≡ b
 only_area a b (zero, lt, is) = is
 only_area a b (suc k, lt, is) = absurd (omega (arith, lt))
 

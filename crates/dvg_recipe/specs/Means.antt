@@ -4,6 +4,9 @@ use Rattle.dvg_words.specs.Memory.{Rom}
 use Rattle.dvg_words.specs.Values.{Window}
 use Rattle.dvg_check.specs.declared.fault.Mode.TheVariants.{Exact}
 use Rattle.dvg_check.specs.Means.{Means}
+use Rattle.dvg_clocks.specs.Clocks.{TakenOnCircuit, clocks_of_instr}
+use Rattle.dvg_clocks.specs.declared.clocks.ClockRange.{ClockRange}
+use Rattle.dvg_clocks.specs.declared.clocks.States.{States}
 use Rattle.dvg_recipe.specs.Recipes.{Recipe, Belongs}
 
 -- each frame of the recipe over this ROM is all that a yes means, with counts of its own that are no greater than these (profile)
@@ -11,3 +14,11 @@ abbrev pub AllMean : Rom → Recipe → Window → ℕ → ℕ → Type 0
 AllMean rom recipe w words depth =
     (frame : List ℕ) → Belongs rom recipe frame
     → (n d : ℕ) × (n ≤ words) × (d ≤ depth) × Means Exact (record { frame = frame; rom = rom }) w n d
+
+-- each frame of the recipe over this ROM takes so much on the circuit, by the table of states: what a range of its own says, of which
+-- neither end is past that of this one (profile)
+abbrev pub AllTake : States → Rom → Recipe → ClockRange → Type 0
+AllTake t rom recipe clocks =
+    (frame : List ℕ) → Belongs rom recipe frame
+    → (own : ClockRange) × (own.least ≤ clocks.least) × (own.most ≤ clocks.most)
+    × TakenOnCircuit (clocks_of_instr t) (record { frame = frame; rom = rom }) own

@@ -4,4 +4,5 @@ pub mod FrameItems
 pub mod Belonging
 pub mod Hulls
 pub mod Judging
+pub mod Clocks
 pub mod KnownPlaces

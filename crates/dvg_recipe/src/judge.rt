@@ -11,7 +11,7 @@ ghost use Rattle.dvg_check.specs.declared.fault.Mode.TheVariants.{Exact};
 ghost use Rattle.dvg_recipe.specs.Limits.{PieceFits, RowFits};
 ghost use Rattle.dvg_recipe.specs.Means.{AllMean};
 ghost use Rattle.dvg_recipe.specs.Recipes.{Place, TakesCall, AddsRow, Spells, SpellsJumps};
-ghost use Rattle.dvg_recipe.specs.Private.Judging.{IsJump, IsTaken, Carries, IfFine, IsWithin, AreWithin, Turns, IsFirst, AreListStarts, AreGoodMembers, IsCounted};
+ghost use Rattle.dvg_recipe.specs.Private.Judging.{IsJump, IsTaken, Carries, IfFine, IsWithin, AreWithin, Turns, IsFirst, AreListStarts, AreGoodMembers, AreGoodFrames, IsCounted};
 ghost use Rattle.dvg_recipe.specs.Private.Hulls.{AreUnder, AreSoundHulls, IsSoundHull, IsSoundChange, HullKeeps, LightsIn, IsNearLight, AreNearPlaces, IsAct, ActFits, PlaceAct, LeadOn, hull_past, places_of};
 
 use crate::changes::{act_change, draws_act, places_of, still, words_act};
@@ -686,7 +686,8 @@ pub fn judge_over<E: Entries>(
     requires made { AllMade rom.now (E.list entries.now) }
     requires good { Good Exact asked.now.window rom.now (E.list entries.now) }
     requires board { rom.now.machine ≡ Board }
-    ensures { IfOk result (λ yes. AllMean rom.now recipe.now asked.now.window yes.words yes.depth) }
+    ensures means { IfOk result (λ yes. AllMean rom.now recipe.now asked.now.window yes.words yes.depth) }
+    ensures good { IfOk result (λ yes. AreGoodFrames rom.now recipe.now asked.now.window (E.list entries.now) asked.now.budget) }
 {
     // Their clauses say that the ROM is whole, and that the window is a part of the screen, or the zone.
     let _map = rom.map();

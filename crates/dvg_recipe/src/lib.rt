@@ -2,12 +2,14 @@
 //!
 //! A [`Recipe`] says where a frame's list may begin, and of which instructions it is made up to its HALT: pieces ([`Piece`]) in rows,
 //! alternatives and repeats ([`Part`]). [`belongs`] says whether a frame is one of the recipe's, and if not, where it leaves it.
-//! [`judge_recipe`] judges all of them at once, and [`find_refused`] shows a frame for which it refuses.
+//! [`judge_recipe`] judges all of them at once, [`judge_recipe_timed`] with how long they take to draw, and [`find_refused`] shows a frame
+//! for which it refuses.
 #![tactic(auto)]
 
 mod belonging;
 mod changes;
 mod choices;
+mod clocks;
 mod confirmed;
 mod frame_items;
 mod goal;
@@ -19,6 +21,7 @@ mod known_places;
 pub mod laws;
 mod lengths;
 mod limits;
+mod most_clocks;
 mod notes;
 mod options;
 mod piece;
@@ -27,6 +30,7 @@ mod rectangles;
 mod roots;
 mod sizes;
 mod takes;
+mod timed;
 mod trail;
 mod tried;
 mod verdict;
@@ -43,4 +47,5 @@ pub use options::{MOST_OPTIONS, piece_options, turns_within};
 pub use piece::{DrawRange, Piece, PieceKind, PlaceRange, PlaceSpan, Span};
 pub use recipe::{Area, Jump, Part, Recipe};
 pub use roots::Unmade;
+pub use timed::{TimedRecipeRefusal, TimedRecipeYes, judge_recipe_timed};
 pub use verdict::{RecipeRefusal, RecipeYes, SurveyedRecipe, judge_recipe, survey_recipe};

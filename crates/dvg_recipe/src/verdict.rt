@@ -8,6 +8,7 @@ ghost use Rattle.dvg_make.specs.Made.{AllMade};
 ghost use Rattle.dvg_recipe.specs.Means.{AllMean};
 ghost use Rattle.dvg_recipe.specs.Members.{recipe_number};
 ghost use Rattle.dvg_recipe.specs.Lengths.{FitsAreas};
+ghost use Rattle.dvg_recipe.specs.Private.Judging.{AreGoodFrames};
 
 use crate::judge::{Asked, judge_over, past_recipe};
 use crate::lengths::too_long;
@@ -109,7 +110,8 @@ fn judge_by(
     requires map { rom.now.map ≡ cert.now.map }
     requires made { AllMade rom.now cert.now.entries }
     requires board { rom.now.machine ≡ Board }
-    ensures { IfOk result (λ yes. AllMean rom.now recipe.now asked.now.window yes.words yes.depth) }
+    ensures means { IfOk result (λ yes. AllMean rom.now recipe.now asked.now.window yes.words yes.depth) }
+    ensures good { IfOk result (λ yes. AreGoodFrames rom.now recipe.now asked.now.window cert.now.entries asked.now.budget) }
 {
     // Its clause says that the list is that of a certificate.
     let _entries = cert.entries();
@@ -120,18 +122,26 @@ fn judge_by(
     judge_over(alloc, rom, &entries, asked, recipe, notes)
 }
 
-/// The verdict on all frames of a recipe, as [`judge_recipe`] answers it, and what is noted.
-fn judge_noting(
+/// The verdict on a recipe that is accepted, and the certificate that is made for all that it calls.
+#[derive(Drop)]
+pub struct AcceptedRecipe {
+    pub yes: RecipeYes,
+    pub cert: Cert,
+}
+
+/// The verdict on all frames of a recipe, by which certificate it is accepted, and what is noted.
+pub fn judge_noting(
     alloc: Global,
     rom: &RomImage,
     recipe: &Recipe,
     asked: &Asked,
     notes: &mut Notes,
-) -> Result<RecipeYes, RecipeRefusal>
+) -> Result<AcceptedRecipe, RecipeRefusal>
     requires budget { asked.now.budget ≤ MOST_WORDS }
     requires board { rom.now.machine ≡ Board }
-    ensures means { IfOk result (λ yes. AllMean rom.now recipe.now asked.now.window yes.words yes.depth) }
-    ensures fits { IfOk result (λ yes. FitsAreas recipe.now) }
+    ensures means { IfOk result (λ accepted. AllMean rom.now recipe.now asked.now.window accepted.yes.words accepted.yes.depth) }
+    ensures fits { IfOk result (λ accepted. FitsAreas recipe.now) }
+    ensures good { IfOk result (λ accepted. AreGoodFrames rom.now recipe.now asked.now.window accepted.cert.entries asked.now.budget) }
 {
     if let Some(piece) = too_long(recipe) {
         return Err(RecipeRefusal::TooLong { piece });
@@ -146,12 +156,30 @@ fn judge_noting(
         // Each of these entries was made before.
         return Err(RecipeRefusal::Memory);
     };
-    let yes = judge_by(alloc, rom, &cert, asked, recipe, notes)?;
-    Ok(RecipeYes {
+    let counts = judge_by(alloc, rom, &cert, asked, recipe, notes)?;
+    let yes = RecipeYes {
         shapes: cert.entries().len() as u32,
-        words: yes.words,
-        depth: yes.depth,
-    })
+        words: counts.words,
+        depth: counts.depth,
+    };
+    Ok(AcceptedRecipe { yes, cert })
+}
+
+/// The verdict on all frames of a recipe, as [`judge_recipe`] answers it, and what is noted.
+fn verdict_noting(
+    alloc: Global,
+    rom: &RomImage,
+    recipe: &Recipe,
+    asked: &Asked,
+    notes: &mut Notes,
+) -> Result<RecipeYes, RecipeRefusal>
+    requires budget { asked.now.budget ≤ MOST_WORDS }
+    requires board { rom.now.machine ≡ Board }
+    ensures means { IfOk result (λ yes. AllMean rom.now recipe.now asked.now.window yes.words yes.depth) }
+    ensures fits { IfOk result (λ yes. FitsAreas recipe.now) }
+{
+    let accepted = judge_noting(alloc, rom, recipe, asked, notes)?;
+    Ok(accepted.yes)
 }
 
 /// Judges all frames of a recipe over a vector ROM on the board, by the certificate that is made for all that they call.
@@ -176,7 +204,7 @@ pub fn judge_recipe(
     ensures fits { IfOk result (λ yes. FitsAreas recipe.now) }
 {
     let asked = Asked { budget, window };
-    judge_noting(alloc, rom, recipe, &asked, &mut Notes::new(alloc))
+    verdict_noting(alloc, rom, recipe, &asked, &mut Notes::new(alloc))
 }
 
 /// The verdict on a recipe, and what is seen of each of its pieces, by their numbers, the HALT the last; of none where a piece can't be
@@ -203,7 +231,7 @@ pub fn survey_recipe(
 {
     let mut notes = Notes::seeing(alloc, usize::from(recipe.halt()) + 1)?;
     let asked = Asked { budget, window };
-    let verdict = judge_noting(alloc, rom, recipe, &asked, &mut notes);
+    let verdict = verdict_noting(alloc, rom, recipe, &asked, &mut notes);
     Ok(SurveyedRecipe {
         verdict,
         seen: notes.into_seen(),

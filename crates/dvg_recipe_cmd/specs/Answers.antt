@@ -8,7 +8,7 @@ use Rattle.dvg_recipe.specs.declared.verdict.RecipeYes.{RecipeYes}
 use Rattle.dvg_recipe_text.specs.Faults.{text_number}
 use Rattle.dvg_recipe_text.specs.declared.fault.RecipeTextWhy.{RecipeTextWhy}
 use Rattle.dvg_recipe_text.specs.declared.fault.RecipeTextWhy.TheVariants as why
-use Rattle.dvg_spelling.specs.Report.{hex_address, shape_fault_text}
+use Rattle.dvg_spelling.specs.Report.{clocks_text, hex_address, shape_fault_text}
 use Rattle.dvg_spelling.specs.Status.{frames_exit_status}
 use Rattle.dvg_spelling.specs.declared.outcome.FrameOutcome.{FrameOutcome}
 use Rattle.dvg_spelling.specs.declared.outcome.FrameOutcome.TheVariants as outcome
@@ -58,6 +58,8 @@ recipe_no_text no.NoMemory = codes "out of memory"
 abbrev pub recipe_answer_text : RecipeAnswer → List ℕ
 recipe_answer_text (answer.Judged (Ok y)) = recipe_yes_text y
 recipe_answer_text (answer.Judged (Err n)) = recipe_no_text n
+recipe_answer_text (answer.Timed t) = recipe_yes_text t.yes ++ clocks_text t.clocks
+recipe_answer_text (answer.Slow line) = at_line_text 58 line
 recipe_answer_text answer.NoMemory = codes "out of memory"
 recipe_answer_text answer.Unread = codes "cannot read"
 
@@ -81,6 +83,8 @@ no_outcome n = outcome.Refused
 abbrev pub recipe_outcome : RecipeAnswer → FrameOutcome
 recipe_outcome (answer.Judged (Ok y)) = outcome.Accepted
 recipe_outcome (answer.Judged (Err n)) = no_outcome n
+recipe_outcome (answer.Timed t) = outcome.Accepted
+recipe_outcome (answer.Slow line) = outcome.Refused
 recipe_outcome answer.NoMemory = outcome.NoMemory
 recipe_outcome answer.Unread = outcome.Unread
 

@@ -5,20 +5,27 @@ use Rattle.dvg_words.specs.declared.machine.Machine.TheVariants.{Board}
 use Rattle.dvg_words.specs.Memory.{IsRomLength, rom_on}
 use Rattle.dvg_cert.specs.declared.limits.TheConstants.{MOST_WORDS}
 use Rattle.dvg_text.specs.Devices.{count_after}
+use Rattle.dvg_clocks.specs.declared.frames.Timing.{Timing}
+use Rattle.dvg_recipe.specs.declared.timed.TimedRecipeYes.{TimedRecipeYes}
 use Rattle.dvg_recipe.specs.declared.verdict.RecipeYes.{RecipeYes}
 use Rattle.dvg_recipe.specs.Recipes.{Recipe}
 use Rattle.dvg_recipe.specs.Lengths.{FitsAreas}
-use Rattle.dvg_recipe.specs.Means.{AllMean}
+use Rattle.dvg_recipe.specs.Means.{AllMean, AllTake}
 use Rattle.dvg_cmd.specs.Detail.{IsBehind, behind_text, frame_outcome_behind}
 use Rattle.dvg_cmd.specs.declared.detail.Detail.{Detail}
+use Rattle.dvg_cmd.specs.declared.detail.Detail.TheVariants as details
+use Rattle.dvg_cmd.specs.declared.timed_judge.ClockOptions.{ClockOptions}
+use Rattle.dvg_cmd.specs.declared.timed_judge.LineClocks.{LineClocks}
+use Rattle.dvg_cmd.specs.declared.timed_judge.LineClocks.TheVariants as line_clocks
 use Rattle.dvg_cmd.specs.declared.detail.Behind.{Behind}
 use Rattle.dvg_cmd.specs.declared.listing.Lines.TheVariants as which
 use Rattle.dvg_recipe_cmd.specs.declared.answer.RecipeNo.{RecipeNo}
 use Rattle.dvg_recipe_cmd.specs.declared.answer.RecipeNo.TheVariants as no
 use Rattle.dvg_recipe_cmd.specs.declared.answer.RecipeAnswer.{RecipeAnswer}
-use Rattle.dvg_recipe_cmd.specs.declared.answer.RecipeAnswer.TheVariants.{Judged, NoMemory, Unread}
+use Rattle.dvg_recipe_cmd.specs.declared.answer.RecipeAnswer.TheVariants.{Judged, Timed, Slow, NoMemory, Unread}
 use Rattle.dvg_recipe_cmd.specs.declared.judging.RecipeOptions.{RecipeOptions}
 use Rattle.dvg_recipe_cmd.specs.declared.recipes.NamedRecipe.{NamedRecipe}
+use Rattle.dvg_recipe_cmd.specs.declared.recipes.RecipeAsked.{RecipeAsked}
 use Rattle.dvg_recipe_cmd.specs.Answers.{recipe_line_text, recipe_outcome}
 use Rattle.dvg_recipe_cmd.specs.Runs.{Line, Telling}
 
@@ -49,29 +56,66 @@ IsVerdict rom options (Err no.RomLength) = IsRomLength options.map (length rom) 
 IsVerdict rom options (Err no.BudgetRange) = (0 < options.budget) × (options.budget ≤ MOST_WORDS) → ⊥
 IsVerdict rom options (Err refusal) = Unit {0}
 
+-- the answer to an accepted recipe, as its line tells it
+abbrev pub told_yes : LineClocks → TimedRecipeYes → RecipeAnswer
+told_yes line_clocks.Told timed = Timed timed
+told_yes line_clocks.LeftOut timed = Judged (Ok timed.yes)
+
+-- the yes is about some recipe, and so are the clocks: each of its frames takes no more on the circuit, and that is within the limit
+pub record IsTimedYes (rom : List ℕ) (options : RecipeOptions) (timing : Timing) (timed : TimedRecipeYes) : Type 0 where
+  pub accepted : IsAcceptedRecipe rom options timed.yes
+  pub take : AllTake timing.states (rom_on Board options.map rom) accepted.recipe timed.clocks
+  pub within : timed.clocks.most ≤ timing.limit
+
+-- what is said where clocks are asked: of a yes, the clocks as the line tells them; 58 of no other
+abbrev pub IsTimedAnswer : List ℕ → RecipeOptions → ClockOptions → RecipeAnswer → Type 0
+IsTimedAnswer rom options clocks (Judged (Ok counts)) =
+    (timed : TimedRecipeYes) × (Judged (Ok counts) ≡ told_yes clocks.line timed) × IsTimedYes rom options clocks.timing timed
+IsTimedAnswer rom options clocks (Judged (Err refusal)) = IsVerdict rom options (Err refusal)
+IsTimedAnswer rom options clocks (Timed timed) = (clocks.line ≡ line_clocks.Told) × IsTimedYes rom options clocks.timing timed
+IsTimedAnswer rom options clocks (Slow at) = Unit {0}
+IsTimedAnswer rom options clocks NoMemory = ⊥
+IsTimedAnswer rom options clocks Unread = ⊥
+
+-- what is said where none are asked: the verdict
+abbrev pub IsPlainAnswer : List ℕ → RecipeOptions → RecipeAnswer → Type 0
+IsPlainAnswer rom options (Judged verdict) = IsVerdict rom options verdict
+IsPlainAnswer rom options answer = ⊥
+
+-- what is said of the text of a recipe
+abbrev pub IsAnswer : List ℕ → RecipeOptions → Option ClockOptions → RecipeAnswer → Type 0
+IsAnswer rom options None answer = IsPlainAnswer rom options answer
+IsAnswer rom options (Some clocks) answer = IsTimedAnswer rom options clocks answer
+
 -- the answer is that the recipe could not be read
 abbrev pub is_unread : RecipeAnswer → Bool
 is_unread Unread = true
 is_unread answer = false
 
--- what an answer says of what a reader held
-abbrev pub SaysOf : List ℕ → RecipeOptions → Option (List ℕ) → Option (List ℕ) → RecipeAnswer → Type 0
-SaysOf rom options old new (Judged verdict) = ((text : List ℕ) × ReadsRecipe old new text) × IsVerdict rom options verdict
-SaysOf rom options old new answer = Unit {0}
+-- of a recipe that is explained no clocks are asked
+abbrev pub clocks_with : Detail → Option ClockOptions → Option ClockOptions
+clocks_with details.Line clocks = clocks
+clocks_with (details.Account labels) clocks = None
+
+-- what an answer says of what a reader held: that there was no memory for it, or what is said of its text
+abbrev pub SaysOf : List ℕ → RecipeOptions → Option ClockOptions → Option (List ℕ) → Option (List ℕ) → RecipeAnswer → Type 0
+SaysOf rom options clocks old new NoMemory = Unit {0}
+SaysOf rom options clocks old new Unread = Unit {0}
+SaysOf rom options clocks old new answer = ((text : List ℕ) × ReadsRecipe old new text) × IsAnswer rom options clocks answer
 
 -- `remaining` is what a reader still holds, and `failures` its count of failed reads
-module _ {R : Type 0} (remaining : R → Option (List ℕ)) (failures : R → ℕ) (rom : List ℕ) (options : RecipeOptions) where
+module _ {R : Type 0} (remaining : R → Option (List ℕ)) (failures : R → ℕ) (rom : List ℕ) (question : RecipeAsked) where
   -- the answer to a recipe: `Unread` if it can't be opened; else what is said of what its reader held, `Unread` exactly where a read failed
-  abbrev pub AnswersRecipe : Option R → RecipeAnswer → Type 0
-  AnswersRecipe None answer = answer ≡ Unread
-  AnswersRecipe (Some reader) answer =
-      (left : R) × SaysOf rom options (remaining reader) (remaining left) answer
+  abbrev pub AnswersRecipe : Detail → Option R → RecipeAnswer → Type 0
+  AnswersRecipe detail None answer = answer ≡ Unread
+  AnswersRecipe detail (Some reader) answer =
+      (left : R) × SaysOf rom question.options (clocks_with detail question.clocks) (remaining reader) (remaining left) answer
       × (failures left ≡ count_after (is_unread answer) (failures reader))
 
   -- the line of a recipe: its name, the answer to it, and behind the line what the detail asks for
   pub record IsLineOfRecipe (detail : Detail) (recipe : NamedRecipe R) (line : Line (RecipeAnswer × Behind)) : Type 0 where
     pub name_is : line.name ≡ string_bytes recipe.name
-    pub answers : AnswersRecipe recipe.reader line.answer.0
+    pub answers : AnswersRecipe detail recipe.reader line.answer.0
     pub asked : IsBehind detail line.answer.1
 
 -- how it is told of recipes: each has its line

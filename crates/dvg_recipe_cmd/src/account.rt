@@ -10,7 +10,7 @@ use crate::judging::{RecipeOptions, line_of_piece};
 use crate::text_lines::repeats_around;
 use dvg_account::{KnownBefore, RecipeLine, recipe_text};
 use dvg_cert::LitBox;
-use dvg_cmd::{Behind, Detail, FrameJudge, OwnCertificates, PlainWhy, plain_account};
+use dvg_cmd::{Behind, Detail, OwnCertificates, PlainWhy, plain_account};
 use dvg_labels::Labels;
 use dvg_make::FrameRefusal;
 use dvg_recipe::{
@@ -222,7 +222,7 @@ fn shown_text(
         words: shown.frame.len() / 2,
     })?;
     let mut text = recipe_text(alloc, &lines)?;
-    let mut judge = OwnCertificates {
+    let judge = OwnCertificates {
         machine: Machine::Board,
         rom: explained.rom,
         map: explained.options.map,

@@ -1,14 +1,17 @@
 //! What is said of a recipe, and its line.
 
 ghost use Rattle.std.specs.Prelude.{◌≡◌, ◌+◌, ◌≤◌, ◌++◌, length, codes};
+ghost use Rattle.dvg_spelling.specs.Report.{clocks_text};
 ghost use Rattle.dvg_recipe_cmd.specs.Answers.{recipe_no_text, recipe_yes_text, recipe_line_text, unmade_text, for_line_text, at_line_text, no_outcome, recipe_outcome};
 
 use crate::line::Line;
 use dvg_check::{FrameWhy, ShapeFault};
+use dvg_clocks::ClockRange;
 use dvg_make::{EntryFault, MakeFault};
-use dvg_recipe::RecipeYes;
+use dvg_recipe::{RecipeYes, TimedRecipeYes};
 use dvg_recipe_text::{RecipeTextFault, RecipeTextWhy};
 use dvg_spelling::FrameOutcome;
+use itoa::Buffer;
 
 /// Why a recipe is not accepted, by the lines of its text.
 #[derive(Clone, Copy, Debug)]
@@ -39,6 +42,10 @@ pub enum RecipeNo {
 pub enum RecipeAnswer {
     /// The verdict on it.
     Judged(Result<RecipeYes, RecipeNo>),
+    /// It is accepted, and so are its clocks.
+    Timed(TimedRecipeYes),
+    /// 58: with this line some frame may take more clocks than the limit.
+    Slow { line: u32 },
     /// There was no memory for its text.
     NoMemory,
     /// It could not be opened or read.
@@ -89,8 +96,9 @@ pub fn recipe_outcome_of(answer: &RecipeAnswer) -> FrameOutcome
     ensures { result ≡ recipe_outcome answer.now }
 {
     match answer {
-        RecipeAnswer::Judged(Ok(_)) => FrameOutcome::Accepted,
+        RecipeAnswer::Judged(Ok(_)) | RecipeAnswer::Timed(_) => FrameOutcome::Accepted,
         RecipeAnswer::Judged(Err(no)) => refusal_outcome_of(no),
+        RecipeAnswer::Slow { .. } => FrameOutcome::Refused,
         RecipeAnswer::NoMemory => FrameOutcome::NoMemory,
         RecipeAnswer::Unread => FrameOutcome::Unread,
     }
@@ -100,11 +108,25 @@ pub fn recipe_outcome_of(answer: &RecipeAnswer) -> FrameOutcome
 fn push_yes(line: &mut Line, yes: &RecipeYes)
     requires { length line.old ≤ 2 }
     ensures text { line.new ≡ line.old ++ recipe_yes_text yes.now }
-    ensures short { length line.new ≤ 127 }
+    ensures short { length line.new ≤ 64 }
 {
     line.push_count(b"accepted shapes=", yes.shapes);
     line.push_count(b" words=", yes.words);
     line.push_count(b" depth=", u32::from(yes.depth));
+}
+
+/// Puts the clocks of what is accepted behind a line: just so many, or so many at most.
+fn push_clocks(line: &mut Line, clocks: &ClockRange)
+    requires { length line.old ≤ 64 }
+    ensures text { line.new ≡ line.old ++ clocks_text clocks.now }
+    ensures short { length line.new ≤ 127 }
+{
+    line.push(if clocks.least == clocks.most {
+        b" clocks="
+    } else {
+        b" clocks<="
+    });
+    line.push(Buffer::new().format(clocks.most).as_bytes());
 }
 
 /// Puts a number and a line of the recipe behind a line.
@@ -195,6 +217,11 @@ pub fn recipe_line_of(answer: &RecipeAnswer) -> Line
     match answer {
         RecipeAnswer::Judged(Ok(yes)) => push_yes(&mut line, yes),
         RecipeAnswer::Judged(Err(no)) => push_no(&mut line, no),
+        RecipeAnswer::Timed(timed) => {
+            push_yes(&mut line, &timed.yes);
+            push_clocks(&mut line, &timed.clocks);
+        }
+        RecipeAnswer::Slow { line: at } => push_at_line(&mut line, 58, *at),
         RecipeAnswer::NoMemory => line.push(b"out of memory"),
         RecipeAnswer::Unread => line.push(b"cannot read"),
     }

@@ -1,26 +1,29 @@
 //! The answer to the text of a recipe, and a frame that shows why it is refused.
 
-ghost use Rattle.std.specs.Prelude.{◌≡◌, ◌≤◌, ◌<◌, length, None, IfOk, IfErr, Ok, Err};
+ghost use Rattle.std.specs.Prelude.{◌≡◌, ◌≤◌, ◌<◌, length, None, Some, IfOk, IfErr, Ok, Err};
 ghost use Rattle.dvg_words.specs.declared.machine.Machine.TheVariants.{Board};
 ghost use Rattle.dvg_words.specs.Memory.{IsRomLength, rom_on};
 ghost use Rattle.dvg_cert.specs.declared.limits.TheConstants.{MOST_WORDS};
 ghost use Rattle.dvg_recipe.specs.Means.{AllMean};
 ghost use Rattle.dvg_recipe.specs.Lengths.{FitsAreas};
-ghost use Rattle.dvg_recipe_cmd.specs.Recipes.{IsVerdict};
+ghost use Rattle.dvg_recipe_cmd.specs.Recipes.{IsAnswer, IsVerdict, told_yes};
 ghost use Rattle.dvg_cmd.specs.Detail.{IsBehind};
 ghost use Rattle.dvg_cmd.specs.declared.detail.Detail.TheVariants as details;
 ghost use Rattle.dvg_cmd.specs.declared.detail.Behind.TheVariants as behinds;
-ghost use Rattle.dvg_recipe_cmd.specs.Private.Judging.{IsOfFrames, wanted_detail};
+ghost use Rattle.dvg_recipe_cmd.specs.Private.Judging.{IsOfFrames, IsTimedRead, wanted_detail};
 ghost use Rattle.dvg_recipe_cmd.specs.declared.judging.Witness.TheVariants as witnesses;
 ghost use Rattle.dvg_recipe_cmd.specs.declared.answer.RecipeNo.TheVariants.{Text};
 
 use crate::account::{Explained, account_of};
-use crate::answer::RecipeNo;
+use crate::answer::{RecipeAnswer, RecipeNo};
 use crate::text_lines::line_of_list;
 use dvg_cert::MOST_WORDS;
-use dvg_cmd::{Behind, Detail, PlainWhy, plain_account};
+use dvg_cmd::{Behind, ClockOptions, Detail, LineClocks, PlainWhy, plain_account};
 use dvg_labels::Labels;
-use dvg_recipe::{RecipeRefusal, RecipeYes, find_refused, judge_recipe, survey_recipe};
+use dvg_recipe::{
+    RecipeRefusal, RecipeYes, TimedRecipeRefusal, TimedRecipeYes, find_refused, judge_recipe,
+    judge_recipe_timed, survey_recipe,
+};
 use dvg_recipe_text::{ReadRecipe, RecipeTextFault, read_recipe};
 use dvg_words::{Machine, RomImage, RomMap, Window};
 use std::alloc::Global;
@@ -118,6 +121,14 @@ pub fn line_of_piece(read: &ReadRecipe, piece: u16) -> u32 {
     }
 }
 
+/// The line of a piece, or, without one, of the jump to a list.
+fn line_at(text: &[u8], read: &ReadRecipe, piece: Option<u16>) -> u32 {
+    match piece {
+        Some(piece) => line_of_piece(read, piece),
+        None => line_of_list(text),
+    }
+}
+
 /// Why a recipe is not accepted, by the lines of its text.
 fn told(text: &[u8], read: &ReadRecipe, refusal: &RecipeRefusal) -> RecipeNo
     ensures { IsOfFrames result }
@@ -136,10 +147,7 @@ fn told(text: &[u8], read: &ReadRecipe, refusal: &RecipeRefusal) -> RecipeNo
         RecipeRefusal::Shape(fault) => RecipeNo::Shape(fault),
         RecipeRefusal::Frame(fault) => RecipeNo::Frame {
             why: fault.why,
-            line: match fault.piece {
-                Some(piece) => line_of_piece(read, piece),
-                None => line_of_list(text),
-            },
+            line: line_at(text, read, fault.piece),
         },
         RecipeRefusal::Memory => RecipeNo::NoMemory,
     }
@@ -336,5 +344,65 @@ pub fn judge_text(
     match ready(alloc, explained, labels) {
         Ok((read, image)) => judge_ready(alloc, explained, &image, &read, wanted),
         Err(no) => refused(alloc, explained, no, wanted),
+    }
+}
+
+/// The answer that an accepted recipe comes to, as its line tells it.
+fn told_yes(timed: TimedRecipeYes, line: LineClocks) -> RecipeAnswer
+    ensures { result ≡ told_yes line timed }
+{
+    match line {
+        LineClocks::Told => RecipeAnswer::Timed(timed),
+        LineClocks::LeftOut => RecipeAnswer::Judged(Ok(timed.yes)),
+    }
+}
+
+/// The answer to a recipe that was read, with its clocks, over the image of a ROM, and what shows why it is refused, if that is wanted. No
+/// frame is looked for that takes too long.
+fn time_read(
+    alloc: Global,
+    explained: &Explained,
+    image: &RomImage,
+    read: &ReadRecipe,
+    clocks: &ClockOptions,
+    wanted: Wanted,
+) -> (RecipeAnswer, Witness)
+    requires budget { explained.now.options.budget ≤ MOST_WORDS }
+    requires board { image.now.machine ≡ Board }
+    ensures { IsTimedRead image.now read.now.recipe explained.now.options clocks.now result.0 }
+{
+    let RecipeOptions { budget, window, .. } = explained.options;
+    match judge_recipe_timed(alloc, image, &read.recipe, budget, window, &clocks.timing) {
+        Ok(timed) => (told_yes(timed, clocks.line), Witness::Nothing),
+        Err(TimedRecipeRefusal::Slow { piece }) => (
+            RecipeAnswer::Slow {
+                line: line_at(explained.text, read, piece),
+            },
+            Witness::Nothing,
+        ),
+        Err(TimedRecipeRefusal::Judged(refusal)) => (
+            RecipeAnswer::Judged(Err(told(explained.text, read, &refusal))),
+            match wanted {
+                Wanted::Witness => witness_of(alloc, image, read, &explained.options, &refusal),
+                Wanted::Verdict | Wanted::Account(_) => Witness::Nothing,
+            },
+        ),
+    }
+}
+
+/// The answer to the recipe of this text over the bytes of a ROM on the board, with its clocks: the first that applies of 51 to 56, 49 and
+/// 1, else that of `judge_recipe_timed`; and a frame that shows why it is refused, if that is wanted. It tells no accounts.
+pub fn time_text(
+    alloc: Global,
+    explained: &Explained,
+    labels: Option<&Labels>,
+    clocks: &ClockOptions,
+    wanted: Wanted,
+) -> (RecipeAnswer, Witness)
+    ensures { IsAnswer explained.now.rom.now explained.now.options (Some clocks.now) result.0 }
+{
+    match ready(alloc, explained, labels) {
+        Ok((read, image)) => time_read(alloc, explained, &image, &read, clocks, wanted),
+        Err(no) => (RecipeAnswer::Judged(Err(no)), Witness::Nothing),
     }
 }

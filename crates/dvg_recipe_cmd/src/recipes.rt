@@ -1,13 +1,13 @@
 //! Judging recipes, one after another.
 
-ghost use Rattle.std.specs.Prelude.{◌≡◌, ◌∷◌, [], false, IfOk, IfErr, OnOk, OnErr, is_err};
+ghost use Rattle.std.specs.Prelude.{None, ◌≡◌, ◌∷◌, [], false, IfOk, IfErr, OnOk, OnErr, is_err};
 ghost use Rattle.std.specs.Io.KnownBytes.{Appends};
 ghost use Rattle.std.specs.Iterator.{IsFinite};
 ghost use Rattle.dvg_text.specs.Devices.{AppendsPrefix, count_after};
 ghost use Rattle.dvg_cmd.specs.SeveralFrames.{joined, TakeOneWriteEach};
 ghost use Rattle.dvg_recipe_cmd.specs.Answers.{recipe_outcome};
 ghost use Rattle.dvg_recipe_cmd.specs.Runs.{HoldsOfAll, HoldsOfTaken, Reports, ReportsPrefix, line_texts};
-ghost use Rattle.dvg_recipe_cmd.specs.Recipes.{SaysOf, AnswersRecipe, IsLineOfRecipe, is_unread, of_recipes};
+ghost use Rattle.dvg_recipe_cmd.specs.Recipes.{SaysOf, IsAnswer, AnswersRecipe, IsLineOfRecipe, clocks_with, is_unread, of_recipes};
 ghost use Rattle.dvg_recipe_cmd.specs.Private.SoFar.{WritesLine, WritesLinePrefix};
 ghost use Rattle.dvg_recipe_cmd.specs.Private.Judging.{wanted_detail};
 ghost use Rattle.dvg_recipe_cmd.specs.declared.answer.RecipeAnswer.{RecipeAnswer};
@@ -17,14 +17,22 @@ ghost use Rattle.dvg_cmd.specs.declared.detail.Detail.TheVariants as details;
 
 use crate::account::Explained;
 use crate::answer::{RecipeAnswer, recipe_line_of, recipe_outcome_of};
-use crate::judging::{RecipeOptions, Wanted, Witness, judge_text};
+use crate::judging::{RecipeOptions, Wanted, Witness, judge_text, time_text};
 use crate::reading::{Untaken, read_text};
-use dvg_cmd::{Behind, Detail, unread_account};
+use dvg_cmd::{Behind, ClockOptions, Detail, unread_account};
 use dvg_labels::Labels;
 use dvg_spelling::{FrameOutcome, RunFault};
 use dvg_text::{CountedRead, CountedWrite, write_bytes, write_lines};
 use dvg_words::Machine;
 use std::alloc::Global;
+
+/// What is asked of recipes.
+#[derive(Clone, Copy)]
+pub struct RecipeAsked {
+    pub options: RecipeOptions,
+    /// What is asked of their frames' clocks, if anything is: not of recipes that are explained.
+    pub clocks: Option<ClockOptions>,
+}
 
 /// A recipe whose turn it is.
 #[derive(Drop)]
@@ -77,16 +85,78 @@ fn no_memory(wanted: Wanted) -> Answered
     }
 }
 
+/// The verdict on the text of a recipe, and what is wanted beside it.
+fn plain_answer(
+    alloc: Global,
+    explained: &Explained,
+    labels: Option<&Labels>,
+    wanted: Wanted,
+) -> Answered
+    ensures answer { IsAnswer explained.now.rom.now explained.now.options None result.answer }
+    ensures behind { IsBehind (wanted_detail wanted.entry) result.behind }
+{
+    let judged = judge_text(alloc, explained, labels, wanted);
+    Answered {
+        answer: RecipeAnswer::Judged(judged.verdict),
+        witness: judged.witness,
+        behind: judged.behind,
+    }
+}
+
+/// The answer to the text of a recipe of which no account is wanted, with its clocks if these are asked for, and a frame that shows why it
+/// is refused, if that is wanted.
+fn line_answer(
+    alloc: Global,
+    explained: &Explained,
+    labels: Option<&Labels>,
+    clocks: &Option<ClockOptions>,
+    wanted: Wanted,
+) -> Answered
+    requires { wanted_detail wanted ≡ details.Line }
+    ensures answer { IsAnswer explained.now.rom.now explained.now.options clocks.now result.answer }
+    ensures behind { IsBehind details.Line result.behind }
+{
+    match clocks {
+        Some(clocks) => {
+            let (answer, witness) = time_text(alloc, explained, labels, clocks, wanted);
+            Answered {
+                answer,
+                witness,
+                behind: Behind::Nothing,
+            }
+        }
+        None => plain_answer(alloc, explained, labels, wanted),
+    }
+}
+
+/// The answer to the text of a recipe, with its clocks if these are asked for and no account is wanted, and what is wanted beside it.
+fn answer_text(
+    alloc: Global,
+    explained: &Explained,
+    labels: Option<&Labels>,
+    clocks: &Option<ClockOptions>,
+    wanted: Wanted,
+) -> Answered
+    ensures answer { IsAnswer explained.now.rom.now explained.now.options (clocks_with (wanted_detail wanted.entry) clocks.now) result.answer }
+    ensures behind { IsBehind (wanted_detail wanted.entry) result.behind }
+{
+    match wanted {
+        Wanted::Account(_) => plain_answer(alloc, explained, labels, wanted),
+        Wanted::Verdict | Wanted::Witness => line_answer(alloc, explained, labels, clocks, wanted),
+    }
+}
+
 /// The answer to the recipe whose text a reader holds, and what is wanted beside it.
 fn answer_read<R: CountedRead>(
     alloc: Global,
     rom: &[u8],
     reader: &mut R,
-    options: &RecipeOptions,
+    asked: &RecipeAsked,
     labels: Option<&Labels>,
     wanted: Wanted,
 ) -> Answered
-    ensures says { SaysOf rom.now options.now (R.remaining reader.old) (R.remaining reader.new) result.answer }
+    ensures says { SaysOf rom.now asked.now.options (clocks_with (wanted_detail wanted.entry) asked.now.clocks) (R.remaining reader.old)
+        (R.remaining reader.new) result.answer }
     ensures count { R.failures reader.new ≡ count_after (is_unread result.answer) (R.failures reader.old) }
     ensures behind { IsBehind (wanted_detail wanted.entry) result.behind }
 {
@@ -98,14 +168,9 @@ fn answer_read<R: CountedRead>(
     let explained = Explained {
         rom,
         text: &text,
-        options: *options,
+        options: asked.options,
     };
-    let judged = judge_text(alloc, &explained, labels, wanted);
-    Answered {
-        answer: RecipeAnswer::Judged(judged.verdict),
-        witness: judged.witness,
-        behind: judged.behind,
-    }
+    answer_text(alloc, &explained, labels, &asked.clocks, wanted)
 }
 
 /// The answer to a recipe whose turn it is, and what is wanted beside it.
@@ -113,15 +178,15 @@ fn answer_opened<R: CountedRead + Drop>(
     alloc: Global,
     rom: &[u8],
     reader: Option<R>,
-    options: &RecipeOptions,
+    asked: &RecipeAsked,
     labels: Option<&Labels>,
     wanted: Wanted,
 ) -> Answered
-    ensures answers { AnswersRecipe R.remaining R.failures rom.now options.now reader result.answer }
+    ensures answers { AnswersRecipe R.remaining R.failures rom.now asked.now (wanted_detail wanted.entry) reader result.answer }
     ensures behind { IsBehind (wanted_detail wanted.entry) result.behind }
 {
     match reader {
-        Some(mut reader) => answer_read(alloc, rom, &mut reader, options, labels, wanted),
+        Some(mut reader) => answer_read(alloc, rom, &mut reader, asked, labels, wanted),
         None => unread(alloc, wanted),
     }
 }
@@ -157,22 +222,22 @@ fn write_answer<W: CountedWrite>(
 fn run_named<R: CountedRead + Drop, W: CountedWrite>(
     alloc: Global,
     rom: &[u8],
-    options: &RecipeOptions,
+    asked: &RecipeAsked,
     labels: Option<&Labels>,
     recipe: NamedRecipe<R>,
     wanted: Wanted,
     out: &mut W,
 ) -> Result<(FrameOutcome, Witness), RunFault>
     ensures ok { IfOk result (λ end. (answer : RecipeAnswer × Behind)
-        × WritesLine (IsLineOfRecipe R.remaining R.failures rom.now options.now (wanted_detail wanted.entry)) of_recipes recipe
+        × WritesLine (IsLineOfRecipe R.remaining R.failures rom.now asked.now (wanted_detail wanted.entry)) of_recipes recipe
         (W.contents out.old) (W.contents out.new) (W.whole_writes out.old) (W.whole_writes out.new) answer end.0) }
-    ensures prefix { OnErr result (WritesLinePrefix (IsLineOfRecipe R.remaining R.failures rom.now options.now (wanted_detail wanted.entry)) of_recipes recipe
+    ensures prefix { OnErr result (WritesLinePrefix (IsLineOfRecipe R.remaining R.failures rom.now asked.now (wanted_detail wanted.entry)) of_recipes recipe
         (W.contents out.old) (W.contents out.new)) }
     ensures fault { IfErr result (λ fault. fault ≡ RunFault.Write) }
     ensures count { W.failures out.new ≡ count_after (is_err result) (W.failures out.old) }
 {
     let NamedRecipe { name, reader } = recipe;
-    let answered = answer_opened(alloc, rom, reader, options, labels, wanted);
+    let answered = answer_opened(alloc, rom, reader, asked, labels, wanted);
     let outcome = write_answer(name.as_str(), &answered.answer, &answered.behind, out)?;
     Ok((outcome, answered.witness))
 }
@@ -190,7 +255,7 @@ pub fn run_recipes<
 >(
     alloc: Global,
     rom: &[u8],
-    options: &RecipeOptions,
+    asked: &RecipeAsked,
     labels: Option<&Labels>,
     detail: Detail,
     recipes: I,
@@ -202,12 +267,12 @@ pub fn run_recipes<
     // A line is written for each recipe, in their order, each by one write if it fits one. What a yes means is said of some recipe
     // (`IsAcceptedRecipe`).
     ensures report { IfOk result (λ end. HoldsOfAll I.next_gives recipes (λ taken.
-        Reports (IsLineOfRecipe R.remaining R.failures rom.now options.now detail.entry) of_recipes taken
+        Reports (IsLineOfRecipe R.remaining R.failures rom.now asked.now detail.entry) of_recipes taken
         (W.contents out.old) (W.contents out.new) (W.whole_writes out.old) (W.whole_writes out.new) end)) }
 
     // Where the writer failed, a prefix of them.
     ensures prefix { OnErr result (HoldsOfTaken I.next_gives recipes (λ taken.
-        ReportsPrefix (IsLineOfRecipe R.remaining R.failures rom.now options.now detail.entry) of_recipes taken
+        ReportsPrefix (IsLineOfRecipe R.remaining R.failures rom.now asked.now detail.entry) of_recipes taken
         (W.contents out.old) (W.contents out.new))) }
     ensures fault { IfErr result (λ fault. fault ≡ RunFault.Write) }
     ensures count { W.failures out.new ≡ count_after (is_err result) (W.failures out.old) }
@@ -215,7 +280,7 @@ pub fn run_recipes<
     let mut worst = FrameOutcome::Accepted;
     for recipe in recipes {
         let wanted = Wanted::of(detail);
-        let (outcome, _) = run_named(alloc, rom, options, labels, recipe, wanted, out)?;
+        let (outcome, _) = run_named(alloc, rom, asked, labels, recipe, wanted, out)?;
         worst = worst.or_worse(outcome);
     }
     Ok(worst)
@@ -228,19 +293,19 @@ pub fn run_recipes<
 pub fn run_recipe_for_witness<R: CountedRead + Drop, W: CountedWrite, F: CountedWrite>(
     alloc: Global,
     rom: &[u8],
-    options: &RecipeOptions,
+    asked: &RecipeAsked,
     labels: Option<&Labels>,
     recipe: NamedRecipe<R>,
     out: &mut W,
     file: &mut F,
 ) -> Result<WitnessEnd, RunFault>
     // The recipe's line is written, by one write if it fits one.
-    ensures report { IfOk result (λ end. Reports (IsLineOfRecipe R.remaining R.failures rom.now options.now details.Line) of_recipes (recipe ∷ [])
+    ensures report { IfOk result (λ end. Reports (IsLineOfRecipe R.remaining R.failures rom.now asked.now details.Line) of_recipes (recipe ∷ [])
         (W.contents out.old) (W.contents out.new) (W.whole_writes out.old) (W.whole_writes out.new) end.outcome) }
     // Nothing is written to the file where it is not said that a frame is.
     ensures kept { IfOk result (λ end. end.is_written ≡ false → file.new ≡ file.old) }
 {
-    let (outcome, witness) = run_named(alloc, rom, options, labels, recipe, Wanted::Witness, out)?;
+    let (outcome, witness) = run_named(alloc, rom, asked, labels, recipe, Wanted::Witness, out)?;
     let is_written = match witness {
         Witness::Nothing => false,
         Witness::Frame(frame) => {

@@ -3,3 +3,4 @@ pub mod Lines
 pub mod Tables
 pub mod Tallies
 pub mod Windows
+pub mod Withins

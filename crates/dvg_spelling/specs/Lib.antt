@@ -1,4 +1,5 @@
 pub mod Arguments
+pub mod Within
 pub mod Each
 pub mod Faults
 pub mod Messages

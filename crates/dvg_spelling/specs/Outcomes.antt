@@ -11,7 +11,7 @@ use Rattle.dvg_make.specs.declared.judging.FrameRefusal.TheVariants as frame
 use Rattle.dvg_spelling.specs.declared.outcome.Outcome.{Outcome}
 use Rattle.dvg_spelling.specs.declared.outcome.Outcome.TheVariants.{Accepted, Refused, NoMemory}
 use Rattle.dvg_spelling.specs.declared.outcome.FrameAnswer.{FrameAnswer}
-use Rattle.dvg_spelling.specs.declared.outcome.FrameAnswer.TheVariants.{Judged, Unread}
+use Rattle.dvg_spelling.specs.declared.outcome.FrameAnswer.TheVariants.{Judged, Timed, Slow, Unread}
 use Rattle.dvg_spelling.specs.declared.outcome.FrameOutcome.{FrameOutcome}
 use Rattle.dvg_spelling.specs.declared.outcome.FrameOutcome.TheVariants as outcome
 
@@ -38,6 +38,8 @@ refusal_outcome_of r = outcome.Refused
 abbrev pub frame_outcome_of : FrameAnswer → FrameOutcome
 frame_outcome_of (Judged (Ok y)) = outcome.Accepted
 frame_outcome_of (Judged (Err r)) = refusal_outcome_of r
+frame_outcome_of (Timed t) = outcome.Accepted
+frame_outcome_of (Slow at) = outcome.Refused
 frame_outcome_of Unread = outcome.Unread
 
 -- the outcome of a line that no frame was needed for

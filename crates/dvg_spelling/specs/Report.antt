@@ -1,5 +1,5 @@
 -- The report: the line that is written for a verdict. All of it is this project's own.
-use Rattle.std.specs.Prelude.{◌^◌, ℕ, ◌/◌, ◌%◌, nat_lt, true, List, [], ◌∷◌, ◌++◌, codes, decimal, Result, Ok, Err, if◌then◌else◌}
+use Rattle.std.specs.Prelude.{◌^◌, ℕ, ◌/◌, ◌%◌, ◌==◌, nat_lt, true, List, [], ◌∷◌, ◌++◌, codes, decimal, Result, Ok, Err, if◌then◌else◌}
 use Rattle.std.specs.Fmt.{digit_glyph}
 use Rattle.dvg_words.specs.declared.image.ImageFault.TheVariants.{RomLength, FrameLength}
 use Rattle.dvg_check.specs.declared.verdict.Yes.{Yes}
@@ -17,7 +17,8 @@ use Rattle.dvg_make.specs.declared.judging.FrameRefusal.TheVariants.{Make, NoMem
 use Rattle.dvg_make.specs.declared.fault.EntryFault.{EntryFault}
 use Rattle.dvg_make.specs.declared.fault.EntryFault.TheVariants as entry
 use Rattle.dvg_spelling.specs.declared.outcome.FrameAnswer.{FrameAnswer}
-use Rattle.dvg_spelling.specs.declared.outcome.FrameAnswer.TheVariants.{Judged, Unread}
+use Rattle.dvg_clocks.specs.declared.clocks.ClockRange.{ClockRange}
+use Rattle.dvg_spelling.specs.declared.outcome.FrameAnswer.TheVariants.{Judged, Timed, Slow, Unread}
 
 -- a word: four hexadecimal digits in capitals
 abbrev pub hex_word : ℕ → List ℕ
@@ -88,10 +89,16 @@ frame_refusal_text NoMemory = codes "out of memory"
 frame_refusal_text (Check refusal.IndexMemory) = codes "out of memory"
 frame_refusal_text (Check r) = codes "refused " ++ refusal_text r
 
+-- the clocks of what is accepted: just so many, or so many at most
+abbrev pub clocks_text : ClockRange → List ℕ
+clocks_text c = (if c.least == c.most then codes " clocks=" else codes " clocks<=") ++ decimal c.most
+
 -- what is said of a frame behind its name
 abbrev pub answer_text : FrameAnswer → List ℕ
 answer_text (Judged (Ok y)) = accepted_text y
 answer_text (Judged (Err r)) = frame_refusal_text r
+answer_text (Timed t) = accepted_text t.yes ++ clocks_text t.clocks
+answer_text (Slow at) = codes "refused 58 frame at " ++ hex_address at
 answer_text Unread = codes "cannot read"
 
 -- the line from behind the frame's name on

@@ -28,7 +28,7 @@ is_within first last n = nat_le first n && nat_le n last
 -- the numbers of which something is told
 abbrev pub is_rule_number : ℕ → Bool
 is_rule_number n =
-    is_within 1 2 n || is_within 10 17 n || is_within 20 33 n || is_within 40 57 n || is_within 59 63 n || is_within 70 74 n
+    is_within 1 2 n || is_within 10 17 n || is_within 20 33 n || is_within 40 58 n || is_within 59 63 n || is_within 70 74 n
 
 -- those below a number, in their order
 abbrev pub numbers_below : ℕ → List ℕ

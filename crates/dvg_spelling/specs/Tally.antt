@@ -5,7 +5,7 @@ use Rattle.dvg_check.specs.Numbers.{refusal_number}
 use Rattle.dvg_make.specs.Refusals.{fault_number, make_fault_of}
 use Rattle.dvg_make.specs.declared.judging.FrameRefusal.TheVariants.{Make, Check}
 use Rattle.dvg_spelling.specs.declared.outcome.FrameAnswer.{FrameAnswer}
-use Rattle.dvg_spelling.specs.declared.outcome.FrameAnswer.TheVariants.{Judged}
+use Rattle.dvg_spelling.specs.declared.outcome.FrameAnswer.TheVariants.{Judged, Slow}
 use Rattle.dvg_spelling.specs.declared.outcome.FrameOutcome.{FrameOutcome}
 use Rattle.dvg_spelling.specs.declared.outcome.FrameOutcome.TheVariants.{Accepted, Refused, NoMemory, Unread}
 use Rattle.dvg_spelling.specs.Outcomes.{frame_outcome_of}
@@ -15,6 +15,7 @@ pub use Rattle.dvg_spelling.specs.declared.tally.Tally.{Tally}
 abbrev pub answer_number : FrameAnswer → ℕ
 answer_number (Judged (Err (Make at why))) = fault_number (make_fault_of why)
 answer_number (Judged (Err (Check r))) = refusal_number r
+answer_number (Slow at) = 58
 answer_number answer = 0
 
 -- no line

@@ -17,6 +17,7 @@ mod status;
 mod tally;
 mod touched;
 mod window;
+mod within;
 
 pub use arguments::{map_of, root_of, start_of};
 pub use entry_line::EntryLine;
@@ -32,3 +33,4 @@ pub use status::{frames_status_of, make_frames_status_of, make_status_of, messag
 pub use tally::{Summary, Tally, summary_of};
 pub use touched::touched_line_of;
 pub use window::window_of;
+pub use within::limit_of;

@@ -5,6 +5,7 @@ ghost use Rattle.dvg_spelling.specs.Outcomes.{outcome_of, plain_outcome, refusal
 
 use dvg_cert::CertWhy;
 use dvg_check::{Refusal, Yes};
+use dvg_clocks::TimedYes;
 use dvg_make::{EntryFault, FrameRefusal};
 
 /// What was reported.
@@ -35,6 +36,10 @@ pub fn outcome_of(verdict: &Result<Yes, Refusal>) -> Outcome
 pub enum FrameAnswer {
     /// Its verdict.
     Judged(Result<Yes, FrameRefusal>),
+    /// It is accepted, and takes so many clocks.
+    Timed(TimedYes),
+    /// 58: it keeps all rules, but with the item at this word it may take more clocks than the limit.
+    Slow { at: u16 },
     /// It could not be opened or read.
     Unread,
 }
@@ -93,8 +98,9 @@ pub fn frame_outcome_of(answer: &FrameAnswer) -> FrameOutcome
     ensures { result ≡ frame_outcome_of answer.now }
 {
     match answer {
-        FrameAnswer::Judged(Ok(_)) => FrameOutcome::Accepted,
+        FrameAnswer::Judged(Ok(_)) | FrameAnswer::Timed(_) => FrameOutcome::Accepted,
         FrameAnswer::Judged(Err(refusal)) => refusal_outcome_of(refusal),
+        FrameAnswer::Slow { .. } => FrameOutcome::Refused,
         FrameAnswer::Unread => FrameOutcome::Unread,
     }
 }

@@ -2,7 +2,7 @@
 
 ghost use Rattle.std.specs.Prelude.{◌≡◌, ◌+◌, ◌≤◌, ◌<◌, ◌++◌, [], length, codes, decimal};
 ghost use Rattle.dvg_spelling.specs.Messages.{fault_message, make_message, frames_message, make_line_text};
-ghost use Rattle.dvg_spelling.specs.Report.{report_text, accepted_text, refusal_text, entry_text, hex_word, hex_address, call_fault_text, frame_refusal_text, answer_text, frame_line_text};
+ghost use Rattle.dvg_spelling.specs.Report.{report_text, accepted_text, refusal_text, entry_text, hex_word, hex_address, call_fault_text, frame_refusal_text, answer_text, clocks_text, frame_line_text};
 
 use crate::fault::{FramesRunFault, MakeRunFault, RunFault};
 use crate::outcome::FrameAnswer;
@@ -10,16 +10,17 @@ use crate::status::message_of;
 use arrayvec::ArrayVec;
 use dvg_cert::Key;
 use dvg_check::{Refusal, Yes};
+use dvg_clocks::ClockRange;
 use dvg_make::{EntryFault, FrameRefusal, MakeFault};
 use dvg_text::{address_digits, push_bytes};
 use dvg_words::{ADDRESS_END, ImageFault};
 use itoa::Buffer;
 use std::marker::Model;
 
-/// A line of at most 64 bytes, its LF included.
+/// A line of at most 96 bytes, its LF included: 64 where it tells no clocks.
 #[derive(Drop)]
 pub struct Report {
-    line: ArrayVec<u8, 64>,
+    line: ArrayVec<u8, 96>,
 }
 
 impl Model for Report {
@@ -29,7 +30,7 @@ impl Model for Report {
 
     ghost view = { λ r. r.line.items };
 
-    ghost invariant = { λ r. length r.line.items ≤ 64 };
+    ghost invariant = { λ r. length r.line.items ≤ 96 };
 }
 
 impl Report {
@@ -41,16 +42,16 @@ impl Report {
         }
     }
 
-    /// The bytes of the line, 64 at most.
+    /// The bytes of the line, 96 at most.
     pub fn as_bytes(&self) -> &[u8]
         ensures bytes { result.now ≡ self.now }
-        ensures short { length result.now ≤ 64 }
+        ensures short { length result.now ≤ 96 }
     {
         self.line.as_slice()
     }
 
     fn push(&mut self, text: &[u8])
-        requires { length self.old + length text.now ≤ 64 }
+        requires { length self.old + length text.now ≤ 96 }
         ensures { self.new ≡ self.old ++ text.now }
     {
         push_bytes(&mut self.line, text);
@@ -100,7 +101,7 @@ impl Report {
 
     /// With its LF.
     fn ended(self) -> Report
-        requires { length self ≤ 63 }
+        requires { length self ≤ 95 }
         ensures { result ≡ self ++ codes "\n" }
     {
         let mut line = self;
@@ -137,7 +138,8 @@ pub fn hex_address(word: u16) -> ArrayVec<u8, 4>
 
 /// The name of an entry: its address, a slash and its key. Takes no memory.
 pub fn entry_name(addr: u16, key: Key) -> Report
-    ensures { result ≡ entry_text addr key }
+    ensures text { result ≡ entry_text addr key }
+    ensures short { length result ≤ 64 }
 {
     let mut name = Report::new();
     name.push_entry_name(b"", addr, key);
@@ -165,10 +167,10 @@ pub fn make_report_of(fault: &MakeRunFault) -> Report
     make_frames_report_of(&(*fault).into())
 }
 
-/// The line of an answer to a frame, from behind the frame's name on, with its LF: 64 bytes at most. Takes no memory.
+/// The line of an answer to a frame, from behind the frame's name on, with its LF: 96 bytes at most. Takes no memory.
 pub fn frame_report_of(answer: &FrameAnswer) -> Report
     ensures text { result ≡ frame_line_text answer.now }
-    ensures short { length result ≤ 64 }
+    ensures short { length result ≤ 96 }
 {
     let mut report = Report::new();
     report.push(b": ");
@@ -232,11 +234,16 @@ fn push_make_fault(report: &mut Report, fault: &MakeRunFault)
 fn push_answer(report: &mut Report, answer: &FrameAnswer)
     requires { length report.old ≤ 2 }
     ensures text { report.new ≡ report.old ++ answer_text answer.now }
-    ensures short { length report.new ≤ 63 }
+    ensures short { length report.new ≤ 95 }
 {
     match answer {
         FrameAnswer::Judged(Ok(yes)) => push_accepted(report, yes),
         FrameAnswer::Judged(Err(refusal)) => push_frame_refusal(report, refusal),
+        FrameAnswer::Timed(timed) => {
+            push_accepted(report, &timed.yes);
+            push_clocks(report, &timed.clocks);
+        }
+        FrameAnswer::Slow { at } => report.push_address(b"refused 58 frame at ", *at),
         FrameAnswer::Unread => report.push(b"cannot read"),
     }
 }
@@ -286,6 +293,20 @@ fn push_accepted(report: &mut Report, yes: &Yes)
     report.push_count(b"accepted shapes=", yes.shapes);
     report.push_count(b" words=", yes.words);
     report.push_count(b" depth=", u32::from(yes.depth));
+}
+
+/// The clocks of what is accepted: just so many, or so many at most.
+fn push_clocks(report: &mut Report, clocks: &ClockRange)
+    requires { length report.old ≤ 63 }
+    ensures text { report.new ≡ report.old ++ clocks_text clocks.now }
+    ensures short { length report.new ≤ 95 }
+{
+    report.push(if clocks.least == clocks.most {
+        b" clocks="
+    } else {
+        b" clocks<="
+    });
+    report.push(Buffer::new().format(clocks.most).as_bytes());
 }
 
 /// The number of a refusal, and where it stands.

@@ -380,6 +380,15 @@ pub const RECIPE_AREA: Rule = Rule {
     cure: "let the area reach further, where the program leaves room there; or allow fewer turns: one `repeat` of an `either` where objects share slots",
 };
 
+pub const FRAME_SLOW: Rule = Rule {
+    number: 58,
+    meaning: "the frame keeps all rules, but the clocks counted up to and with this item, and what it calls, are more than `--within` allows",
+    line: "refused 58 frame at 000",
+    heading: "Shortest frame",
+    input: "`B000` with `--board --within 0.001`",
+    cure: "draw in less time: use greater sizes at a smaller scale, and go to a place by LABS, not by a dark draw; or allow more; put a LABS before dark draws at unknown scale, for each of which 1,024 clocks are counted besides its states",
+};
+
 pub const RECIPE_STUCK: Rule = Rule {
     number: 59,
     meaning: "from some place that may be known before this line, no size that it allows leads into the rectangle behind `to`; or the place is lost there, or the scale unknown",

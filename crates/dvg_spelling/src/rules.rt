@@ -108,10 +108,10 @@ fn shape_rule(number: u8) -> Option<Rule>
     }
 }
 
-/// Of frames: 40 to 48, and 49 and 50; of recipes: 51 to 57.
+/// Of frames: 40 to 48, and 49 and 50; of recipes: 51 to 57; of frames again: 58.
 fn frame_rule(number: u8) -> Option<Rule>
     ensures some { IfSome result (λ rule. rule.number ≡ number) }
-    ensures known { is_some result ≡ is_within 40 57 number }
+    ensures known { is_some result ≡ is_within 40 58 number }
 {
     match number {
         40 => Some(table::FRAME_MISSING),
@@ -132,6 +132,7 @@ fn frame_rule(number: u8) -> Option<Rule>
         55 => Some(table::RECIPE_TOO_LONG),
         56 => Some(table::RECIPE_MEMORY),
         57 => Some(table::RECIPE_AREA),
+        58 => Some(table::FRAME_SLOW),
         _ => None,
     }
 }

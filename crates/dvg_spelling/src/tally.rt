@@ -33,7 +33,10 @@ fn answer_number(answer: &FrameAnswer) -> u8
     match answer {
         FrameAnswer::Judged(Err(FrameRefusal::Make { why, .. })) => MakeFault::from(*why).number(),
         FrameAnswer::Judged(Err(FrameRefusal::Check(refusal))) => refusal.number(),
-        FrameAnswer::Judged(Err(FrameRefusal::NoMemory) | Ok(_)) | FrameAnswer::Unread => 0,
+        FrameAnswer::Slow { .. } => 58,
+        FrameAnswer::Judged(Err(FrameRefusal::NoMemory) | Ok(_))
+        | FrameAnswer::Timed(_)
+        | FrameAnswer::Unread => 0,
     }
 }
 

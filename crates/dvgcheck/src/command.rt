@@ -6,8 +6,8 @@ use crate::input::Input;
 use crate::labels::{LabelsFault, load_labels};
 use crate::options::{
     BELONGS_LIST_OPTIONS, BELONGS_OPTIONS, CHECK_OPTIONS, FRAMES_OPTIONS, LABELS_OPTIONS,
-    LIST_OPTIONS, MAKER_OPTIONS, OUTPUT_OPTIONS, RECIPE_OPTIONS, RECIPE_OUTPUT_OPTIONS, Told,
-    WINDOW_OPTIONS,
+    LIST_OPTIONS, MAKER_OPTIONS, OUTPUT_OPTIONS, RECIPE_CLOCKS_OPTIONS, RECIPE_OPTIONS,
+    RECIPE_OUTPUT_OPTIONS, RECORDS_OPTIONS, Told, WINDOW_OPTIONS,
 };
 use crate::recipe_arguments::{
     BelongsArgs, RecipeArgs, belongs_args, belongs_command, explain_belongs_command,
@@ -16,9 +16,10 @@ use crate::recipe_arguments::{
 use clap::error::ErrorKind;
 use clap::{Arg, ArgMatches, Command, value_parser};
 use dvg_cmd::{
-    ASTEROIDS, CLIPPED, CheckOptions, Detail, FrameOptions, Key, Labels, Lines, Listing, Machine,
-    Mode, NameEnd, RAM_WORDS, RomMap, RootFault, Rule, SCREEN, Unnamed, Window, map_of, root_by,
-    rule_of, start_of, window_of,
+    ASTEROIDS, CLIPPED, CheckOptions, ClockOptions, DVG_STATES, Detail, FrameOptions, Key, Labels,
+    LineClocks, Lines, Listing, Machine, Mode, NameEnd, RAM_WORDS, RecordLength, RomMap, RootFault,
+    Rule, SCREEN, Timing, Unnamed, Window, limit_of, map_of, record_length_of, root_by, rule_of,
+    start_of, window_of,
 };
 use std::alloc::{AllocError, AllocFailed, Global};
 use std::{env, io};
@@ -166,6 +167,7 @@ impl Task {
         match self {
             Task::Frames => {
                 let command = told.with(alloc, command, &FRAMES_OPTIONS)?;
+                let command = told.with(alloc, command, &RECORDS_OPTIONS)?;
                 told.with(alloc, command, &LIST_OPTIONS)
             }
             Task::Check => told.with(alloc, command, &CHECK_OPTIONS),
@@ -180,10 +182,12 @@ impl Task {
             Task::Diff => told.with(alloc, command, &MAKER_OPTIONS),
             Task::Recipe => {
                 let command = told.with(alloc, command, &RECIPE_OPTIONS)?;
+                let command = told.with(alloc, command, &RECIPE_CLOCKS_OPTIONS)?;
                 told.with(alloc, command, &RECIPE_OUTPUT_OPTIONS)
             }
             Task::Belongs => {
                 let command = told.with(alloc, command, &BELONGS_OPTIONS)?;
+                let command = told.with(alloc, command, &RECORDS_OPTIONS)?;
                 told.with(alloc, command, &BELONGS_LIST_OPTIONS)
             }
             Task::Explain | Task::Rules => Ok(command),
@@ -216,8 +220,8 @@ pub struct Named<'a> {
 /// The certificates by which frames are judged.
 #[derive(Drop)]
 pub enum Certificates<'a> {
-    /// One made for each frame, over a ROM that lies there.
-    Made(RomMap),
+    /// One made for each frame, over a ROM that lies there; and what is asked of the frames' clocks, if anything is.
+    Made(RomMap, Option<ClockOptions>),
     /// The certificate in this file, for all frames.
     Given(Input<'a>),
 }
@@ -229,6 +233,8 @@ pub enum FrameNames<'a> {
     Given(Vec<Named<'a>>),
     /// Those that the list in this file names.
     Listed(Input<'a>, NameEnd),
+    /// Those that are the records of this length in the files of the command line.
+    Records(Vec<Named<'a>>, RecordLength),
 }
 
 /// What is asked of frames, whatever frames they are, and what is written of them.
@@ -365,7 +371,8 @@ fn explain_frames_command<'a>(alloc: Global) -> Result<Command<'a>, AllocError> 
     );
     let frames = needed(alloc, "FRAME", FRAME_HELP).num_args(1..);
     let command = with_rom(alloc, command)?.arg(frames)?;
-    Told::All.with(alloc, command, &FRAMES_OPTIONS)
+    let command = Told::All.with(alloc, command, &FRAMES_OPTIONS)?;
+    Told::All.with(alloc, command, &RECORDS_OPTIONS)
 }
 
 fn explain_check_command<'a>(alloc: Global) -> Result<Command<'a>, AllocError> {
@@ -392,7 +399,7 @@ fn explain_command<'a>(alloc: Global) -> Result<Command<'a>, AllocError> {
         .subcommand(explain_frames_command(alloc)?)?
         .subcommand(explain_check_command(alloc)?)?
         .subcommand(explain_make_command(alloc)?)?
-        .subcommand(Told::All.with(alloc, explain_belongs_command(alloc)?, &BELONGS_OPTIONS)?)?
+        .subcommand(explain_belongs_command(alloc)?)?
         .subcommand(Told::All.with(alloc, explain_recipe_command(alloc)?, &RECIPE_OPTIONS)?)
 }
 
@@ -507,6 +514,11 @@ pub fn files_of<'a>(
     Ok(files)
 }
 
+/// The name of a line behind an account, with the blank line that sets them apart.
+pub fn behind_blank(alloc: Global, name: &str) -> Result<String, AllocError> {
+    format!(in alloc; "\n{name}")
+}
+
 /// The same files, where accounts follow their lines: before each line but the first comes a blank one.
 fn set_apart<'a>(rt: &HostRuntime, named: Vec<Named<'a>>) -> Result<Vec<Named<'a>>, Usage<'a>> {
     let mut files = Vec::new(rt.alloc());
@@ -514,7 +526,7 @@ fn set_apart<'a>(rt: &HostRuntime, named: Vec<Named<'a>>) -> Result<Vec<Named<'a
         let name = if files.is_empty() {
             name
         } else {
-            format!(in rt.alloc(); "\n{}", name.as_str())?
+            behind_blank(rt.alloc(), name.as_str())?
         };
         files.push(Named { input, name })?;
     }
@@ -577,12 +589,51 @@ fn frame_options<'a>(
     ))
 }
 
+/// What is asked of the clocks of frames, if anything is.
+pub fn clocks_of_args<'a>(
+    args: &ArgMatches<'a>,
+) -> Result<Option<ClockOptions>, ArgumentFault<'a>> {
+    let told = args.get_flag("clocks");
+    let limit = match args.get_str("within") {
+        Some(word) => limit_of(word).ok_or(ArgumentFault::Word(Form::Within, word))?,
+        None if told => u64::MAX,
+        None => return Ok(None),
+    };
+    Ok(Some(ClockOptions {
+        timing: Timing {
+            states: DVG_STATES,
+            limit,
+        },
+        line: if told {
+            LineClocks::Told
+        } else {
+            LineClocks::LeftOut
+        },
+    }))
+}
+
+/// How long the records are that frames are, if they are records.
+fn record_length_of_args<'a>(
+    args: &ArgMatches<'a>,
+) -> Result<Option<RecordLength>, ArgumentFault<'a>> {
+    match args.get_str("records") {
+        Some(word) => match record_length_of(word) {
+            Some(length) => Ok(Some(length)),
+            None => Err(ArgumentFault::Word(Form::Records, word)),
+        },
+        None => Ok(None),
+    }
+}
+
 /// The frames that the arguments name.
 pub fn frame_names<'a>(
     rt: &HostRuntime,
     args: &ArgMatches<'a>,
     detail: Detail,
 ) -> Result<FrameNames<'a>, Usage<'a>> {
+    if let Some(length) = record_length_of_args(args)? {
+        return Ok(FrameNames::Records(files_of(rt, args, "FRAME")?, length));
+    }
     let Some(list) = args.get_str("list") else {
         return Ok(FrameNames::Given(files_told(rt, args, "FRAME", detail)?));
     };
@@ -625,7 +676,7 @@ fn frames_args<'a>(
     let (map, options) = frame_options(args, labels)?;
     let certificates = match args.get_str("cert") {
         Some(cert) => Certificates::Given(Input::named(rt, cert)),
-        None => Certificates::Made(map),
+        None => Certificates::Made(map, clocks_of_args(args)?),
     };
     Ok(FramesArgs {
         frames: frame_names(rt, args, listing.detail)?,

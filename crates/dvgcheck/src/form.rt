@@ -1,7 +1,7 @@
 //! Forms of words on the command line, and what is said of a word that has another.
 
 use crate::escaping::shown;
-use dvg_cmd::{RomMap, Unnamed, map_of, root_of, start_of, window_of};
+use dvg_cmd::{RomMap, Unnamed, limit_of, map_of, record_length_of, root_of, start_of, window_of};
 use std::alloc::{AllocError, Global};
 
 /// What a word of the command line is to spell.
@@ -11,6 +11,8 @@ pub enum Form {
     Window,
     Root,
     Start,
+    Within,
+    Records,
 }
 
 impl Form {
@@ -20,6 +22,8 @@ impl Form {
             Form::Window => "window",
             Form::Root => "root",
             Form::Start => "start",
+            Form::Within => "limit",
+            Form::Records => "record length",
         }
     }
 
@@ -30,6 +34,8 @@ impl Form {
             Form::Window => "X0,X1,Y0,Y1",
             Form::Root => "AAA/SCALE",
             Form::Start => "AAA",
+            Form::Within => "MS",
+            Form::Records => "N",
         }
     }
 
@@ -46,6 +52,10 @@ impl Form {
                 "a word address of three hexadecimal digits in capitals, and a scale of 0 to 15 or any"
             }
             Form::Start => "a word address of three hexadecimal digits in capitals",
+            Form::Within => {
+                "milliseconds of 0.001 to 10000 without leading zeros, with at most three digits behind the point"
+            }
+            Form::Records => "an even number of bytes from 2 to 2048 without leading zeros",
         }
     }
 
@@ -55,6 +65,8 @@ impl Form {
             Form::Window => window_of(word).is_some(),
             Form::Root => root_of(word).is_some(),
             Form::Start => start_of(word).is_some(),
+            Form::Within => limit_of(word).is_some(),
+            Form::Records => record_length_of(word).is_some(),
         }
     }
 

@@ -1,7 +1,8 @@
 //! The files that a run reads.
 
+use dvg_cmd::{Counted, NamedFrame};
 use std::fs::File;
-use std::io::{Read, Stdin};
+use std::io::{Cursor, Read, Stdin};
 use std::os::fd::AsFd;
 use std::{fs, io};
 
@@ -57,36 +58,11 @@ impl From<io::Error> for InputFault {
     }
 }
 
-/// An open file that is read, or what was read of one.
+/// An open file that is read.
 #[derive(Drop)]
 pub enum Source {
     File(File),
     Standard(Stdin),
-    Kept(KeptBytes),
-}
-
-/// The bytes that were read of a file, of which the first ones were taken.
-#[derive(Drop)]
-pub struct KeptBytes {
-    bytes: Vec<u8>,
-    taken: usize,
-}
-
-impl KeptBytes {
-    /// These bytes, none of them taken.
-    pub fn new(bytes: Vec<u8>) -> KeptBytes {
-        KeptBytes { bytes, taken: 0 }
-    }
-}
-
-impl Read for KeptBytes {
-    fn read(&mut self, buf: &mut [u8]) -> io::Result<usize> {
-        let rest = self.bytes.get(self.taken..).unwrap_or(&[]);
-        let count = rest.len().min(buf.len());
-        buf[..count].copy_from_slice(&rest[..count]);
-        self.taken = self.taken.saturating_add(count);
-        Ok(count)
-    }
 }
 
 impl Read for Source {
@@ -94,7 +70,17 @@ impl Read for Source {
         match self {
             Source::File(file) => file.read(buf),
             Source::Standard(stdin) => stdin.read(buf),
-            Source::Kept(kept) => kept.read(buf),
         }
+    }
+}
+
+/// A reader of bytes that were read before.
+pub type Kept = Counted<Cursor<Vec<u8>>>;
+
+/// The frame with this name of which these bytes were read, or which can't be opened or read.
+pub fn kept_frame(name: String, bytes: Option<Vec<u8>>) -> NamedFrame<Kept> {
+    NamedFrame {
+        name,
+        reader: bytes.map(|bytes| Counted::new(Cursor::new(bytes))),
     }
 }

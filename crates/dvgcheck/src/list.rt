@@ -1,54 +1,15 @@
 //! A list of frames that a file or standard input holds, read as a stream.
 
 use crate::escaping::shown;
-use crate::input::{Input, InputFault, Source};
-use dvg_cmd::{Counted, FrameOutcome, NameBytes, NameEnd, NamedFrame, read_name};
+use crate::frames_fault::FramesFault;
+use crate::input::{Input, Source};
+use dvg_cmd::{Counted, NameBytes, NameEnd, NamedFrame, read_name};
 use std::alloc::AllocError;
 use std::io::BufReader;
-use std::{io, str};
+use std::str;
 
 /// How many bytes a name may have.
 const LONGEST_NAME: usize = 4096;
-
-/// Why a list gives no name, or none any more.
-#[derive(Clone, Copy)]
-pub enum ListFault {
-    /// It has no name.
-    Empty,
-    Input(InputFault),
-}
-
-impl ListFault {
-    /// The line on standard error, without its LF.
-    pub fn message(self) -> &'static str {
-        match self {
-            ListFault::Empty => "dvgcheck: the list is empty",
-            ListFault::Input(InputFault::Unreadable) => "dvgcheck: cannot read the list",
-            ListFault::Input(InputFault::OutOfMemory) => "dvgcheck: out of memory",
-        }
-    }
-
-    /// What a run comes to whose list ended with this fault, beside the worst of its frames.
-    pub fn outcome(self) -> FrameOutcome {
-        match self {
-            ListFault::Empty => FrameOutcome::Accepted,
-            ListFault::Input(InputFault::Unreadable) => FrameOutcome::Unread,
-            ListFault::Input(InputFault::OutOfMemory) => FrameOutcome::NoMemory,
-        }
-    }
-}
-
-impl From<io::Error> for ListFault {
-    fn from(error: io::Error) -> ListFault {
-        ListFault::Input(error.into())
-    }
-}
-
-impl From<AllocError> for ListFault {
-    fn from(_error: AllocError) -> ListFault {
-        ListFault::Input(InputFault::OutOfMemory)
-    }
-}
 
 /// A list that is read name by name.
 #[derive(Drop)]
@@ -57,16 +18,16 @@ pub struct List {
     end: NameEnd,
     /// The first name, until its turn.
     first: Option<NameBytes>,
-    fault: Option<ListFault>,
+    fault: Option<FramesFault>,
 }
 
 impl List {
     /// Opens a list and reads its first name.
-    pub fn open(rt: &HostRuntime, input: Input, end: NameEnd) -> Result<List, ListFault> {
+    pub fn open(rt: &HostRuntime, input: Input, end: NameEnd) -> Result<List, FramesFault> {
         let mut source = Counted::new(BufReader::new(rt.alloc(), input.open(rt)?)?);
         let first = read_name(&mut source, end)?;
         if first.is_none() {
-            return Err(ListFault::Empty);
+            return Err(FramesFault::EmptyList);
         }
         Ok(List {
             source,
@@ -91,14 +52,14 @@ impl List {
     }
 
     /// The fault behind which the list gave no name.
-    pub fn fault(&self) -> Option<ListFault> {
+    pub fn fault(&self) -> Option<FramesFault> {
         self.fault
     }
 
     fn read_frame(
         &mut self,
         rt: &HostRuntime,
-    ) -> Result<Option<NamedFrame<Counted<Source>>>, ListFault> {
+    ) -> Result<Option<NamedFrame<Counted<Source>>>, FramesFault> {
         let name = match self.first.take() {
             Some(first) => first,
             None => match read_name(&mut self.source, self.end)? {

@@ -9,6 +9,7 @@ ghost use Rattle.std.specs.Iterator.{IsFinite};
 mod command;
 mod escaping;
 mod form;
+mod frames_fault;
 mod input;
 mod labels;
 mod list;
@@ -16,23 +17,27 @@ mod options;
 mod output;
 mod recipe_arguments;
 mod recipes;
+mod records;
 mod together;
 
 use command::{
     Asked, Certificates, CheckArgs, FrameNames, FramesArgs, MakeArgs, Named, Parsed, Request, Usage,
 };
 use dvg_cmd::{
-    Counted, CountedWrite, Detail, FrameOutcome, FramesRunFault, KeptCertificates, Labels,
-    MakeAnswer, MakeFault, MakeRunFault, NamedFrame, Outcome, OwnCertificates, RomMap, Rule,
-    RunFault, ShapeStarts, TextWatch, Window, all_rules, frames_status_of, load_cert, load_rom,
-    make_frames_status_of, message_of, run_check_in, run_comparison, run_explain_make, run_frames,
-    run_frames_given, run_make_frames, run_places, run_rule, run_rules, status_of,
-    write_make_answer, write_make_fault, write_message, write_text,
+    ClockOptions, Counted, CountedRead, CountedWrite, Detail, FrameOutcome, FramesRunFault,
+    KeptCertificates, Labels, Listing, MakeAnswer, MakeFault, MakeRunFault, NamedFrame, Outcome,
+    OwnCertificates, RomMap, Rule, RunFault, ShapeStarts, TextWatch, TimedCertificates, Window,
+    all_rules, frames_status_of, load_cert, load_rom, make_frames_status_of, message_of,
+    run_check_in, run_comparison, run_explain_make, run_frames, run_frames_given, run_make_frames,
+    run_places, run_rule, run_rules, status_of, write_make_answer, write_make_fault, write_message,
+    write_text,
 };
+use frames_fault::FramesFault;
 use input::{Input, Source};
-use list::{List, ListFault};
+use list::List;
 use output::Output;
 use recipes::{run_belonging, run_print_of, run_recipe};
+use records::Records;
 use std::alloc::AllocError;
 use std::io;
 use std::process::ExitCode;
@@ -43,6 +48,7 @@ fn open<F: Drop>(rt: &HostRuntime, input: Input, fault: F) -> Result<Source, F> 
 }
 
 /// Opens the files in the order ROM, frame, certificate, before any is read, and runs the check.
+#[inline(never)]
 fn check(rt: &HostRuntime, args: &CheckArgs, detail: Detail) -> Result<Outcome, RunFault> {
     let rom = open(rt, args.rom, RunFault::ReadRom)?;
     let frame = open(rt, args.frame, RunFault::ReadFrame)?;
@@ -60,36 +66,69 @@ fn check(rt: &HostRuntime, args: &CheckArgs, detail: Detail) -> Result<Outcome, 
 
 /// Reads the ROM, and the certificate if one is given, and then judges frame after frame: each file is opened when the one before it
 /// is closed. Accounts of several frames by certificates of their own come when all frames are read.
+#[inline(never)]
 fn frames(rt: &HostRuntime, named: Vec<Named>, asked: &Asked) -> Result<FrameOutcome, RunFault> {
     match asked.certificates {
-        Certificates::Made(map) if asked.listing.detail.has_account() && named.len() > 1 => {
-            explain_together(rt, asked, map, named)
-        }
+        Certificates::Made(map, clocks) if asked.listing.detail.has_account() && named.len() > 1 =>
+            { explain_together(rt, asked, map, clocks, named) }
         _ => judge_frames(rt, asked, named.into_iter().map(|frame| opened(rt, frame))),
     }
 }
 
 /// Reads the ROM and then all frames, and judges these with accounts, each of which knows where the shapes of the other frames begin.
+#[inline(never)]
 fn explain_together(
     rt: &HostRuntime,
     asked: &Asked,
     map: RomMap,
+    clocks: Option<ClockOptions>,
     named: Vec<Named>,
 ) -> Result<FrameOutcome, RunFault> {
     let rom = load_rom(&mut Counted::new(open(rt, asked.rom, RunFault::ReadRom)?))?;
-    let start = asked.options.start;
-    let frames = read_frames(rt, named, start).map_err(|_| RunFault::Memory)?;
+    let frames = read_frames(rt, named, asked.options.start).map_err(|_| RunFault::Memory)?;
     let alone = own_certificates(asked, rom.as_slice(), map, None);
     let starts = starts_of(rt.alloc(), &alone, frames.as_slice()).map_err(|_| RunFault::Memory)?;
-    let mut judge = own_certificates(asked, rom.as_slice(), map, Some(&starts));
-    run_frames(
-        rt.alloc(),
-        &mut judge,
-        start,
-        frames.into_iter().map(ReadFrame::reopened),
-        asked.listing,
-        &mut Counted::new(io::writer(rt)),
+    let frames = frames.into_iter().map(ReadFrame::reopened);
+    judge_by_own(
+        rt,
+        asked,
+        rom.as_slice(),
+        map,
+        Some(&starts),
+        clocks,
+        frames,
     )
+}
+
+/// Judges frames by certificates of their own over this ROM, with their clocks, if these are asked for.
+#[inline(never)]
+fn judge_by_own<R: CountedRead + Drop, I: Iterator<Item = NamedFrame<R>> + Drop>(
+    rt: &HostRuntime,
+    asked: &Asked,
+    rom: &[u8],
+    map: RomMap,
+    others: Option<&ShapeStarts>,
+    clocks: Option<ClockOptions>,
+    frames: I,
+) -> Result<FrameOutcome, RunFault>
+    requires can { I.can_next frames }
+    requires ends { IsFinite (I.remaining frames) }
+{
+    let mut out = Counted::new(io::writer(rt));
+    let start = asked.options.start;
+    let listing = asked.listing;
+    match clocks {
+        Some(clocks) => {
+            let own = own_certificates(asked, rom, map, others);
+            let mut judge = TimedCertificates::new(rt.alloc(), own, clocks, listing.detail);
+            run_frames(rt.alloc(), &mut judge, start, frames, listing, &mut out)
+        }
+        None => {
+            let own = own_certificates(asked, rom, map, others);
+            let mut judge = KeptCertificates::new(rt.alloc(), own, listing.detail);
+            run_frames(rt.alloc(), &mut judge, start, frames, listing, &mut out)
+        }
+    }
 }
 
 /// The judge by certificates that are made over this ROM, beside other frames whose shapes begin here.
@@ -110,6 +149,7 @@ fn own_certificates<'a>(
 }
 
 /// Does the same with the frames that a list names, which is read name by name, beginning before the ROM is opened.
+#[inline(never)]
 fn listed_frames(
     rt: &HostRuntime,
     list: &mut List,
@@ -117,6 +157,18 @@ fn listed_frames(
 ) -> Result<FrameOutcome, RunFault> {
     // No list has so many names.
     let frames = (0..u64::MAX).map_while(|_| list.next_frame(rt));
+    judge_frames(rt, asked, frames)
+}
+
+/// Does the same with the records of files, each of which is judged as soon as it is read.
+#[inline(never)]
+fn recorded_frames(
+    rt: &HostRuntime,
+    records: &mut Records,
+    asked: &Asked,
+) -> Result<FrameOutcome, RunFault> {
+    // No files have so many records.
+    let frames = (0..u64::MAX).map_while(|_| records.step(rt)).flatten();
     judge_frames(rt, asked, frames)
 }
 
@@ -130,7 +182,8 @@ fn opened(rt: &HostRuntime, frame: Named) -> NamedFrame<Counted<Source>> {
 }
 
 /// Reads the ROM, and the certificate if one is given, and judges frames.
-fn judge_frames<I: Iterator<Item = NamedFrame<Counted<Source>>> + Drop>(
+#[inline(never)]
+fn judge_frames<R: CountedRead + Drop, I: Iterator<Item = NamedFrame<R>> + Drop>(
     rt: &HostRuntime,
     asked: &Asked,
     frames: I,
@@ -138,21 +191,10 @@ fn judge_frames<I: Iterator<Item = NamedFrame<Counted<Source>>> + Drop>(
     requires can { I.can_next frames }
     requires ends { IsFinite (I.remaining frames) }
 {
-    let mut out = Counted::new(io::writer(rt));
     let rom = load_rom(&mut Counted::new(open(rt, asked.rom, RunFault::ReadRom)?))?;
     match asked.certificates {
-        Certificates::Made(map) => {
-            let options = &asked.options;
-            let detail = asked.listing.detail;
-            let mut judge = KeptCertificates::new(rt.alloc(), rom.as_slice(), map, options, detail);
-            run_frames(
-                rt.alloc(),
-                &mut judge,
-                options.start,
-                frames,
-                asked.listing,
-                &mut out,
-            )
+        Certificates::Made(map, clocks) => {
+            judge_by_own(rt, asked, rom.as_slice(), map, None, clocks, frames)
         }
         Certificates::Given(cert) => {
             let file = open(rt, cert, RunFault::ReadCert)?;
@@ -166,7 +208,7 @@ fn judge_frames<I: Iterator<Item = NamedFrame<Counted<Source>>> + Drop>(
                 &asked.options,
                 frames,
                 asked.listing,
-                &mut out,
+                &mut Counted::new(io::writer(rt)),
             )
         }
     }
@@ -187,6 +229,7 @@ fn open_all(
 }
 
 /// Opens the ROM and the frames, and then the file for the certificate, if one was named, and runs the maker.
+#[inline(never)]
 fn make(rt: &HostRuntime, args: &MakeArgs) -> Result<(), FramesRunFault> {
     let (mut rom, mut frames) = open_all(rt, args)?;
     match args.output {
@@ -199,6 +242,7 @@ fn make(rt: &HostRuntime, args: &MakeArgs) -> Result<(), FramesRunFault> {
 }
 
 /// Opens the ROM and the frames, and tells at which places calls of the shapes break no rule on this window.
+#[inline(never)]
 fn places(rt: &HostRuntime, args: &MakeArgs, window: Window) -> Result<(), FramesRunFault> {
     let (mut rom, mut frames) = open_all(rt, args)?;
     run_places(
@@ -223,6 +267,7 @@ fn names_of(rt: &HostRuntime, frames: &[Named]) -> Result<Vec<String>, FramesRun
 }
 
 /// Opens both ROMs and the frames, and tells what the change from the one ROM to the other touches.
+#[inline(never)]
 fn diff(rt: &HostRuntime, args: &MakeArgs, other: Input) -> Result<bool, FramesRunFault> {
     let (mut rom, mut frames) = open_all(rt, args)?;
     let other = open(rt, other, MakeRunFault::ReadRom)?;
@@ -255,6 +300,7 @@ fn make_answer(rt: &HostRuntime, args: &MakeArgs) -> Result<MakeAnswer, FramesRu
 }
 
 /// Writes what the maker comes to, with an account of it, and answers the exit status.
+#[inline(never)]
 fn explain_make(rt: &HostRuntime, args: &MakeArgs) -> u8 {
     match make_answer(rt, args) {
         Ok(answer) => {
@@ -314,6 +360,7 @@ fn run_maker<W: CountedWrite>(
 }
 
 /// Writes what is told of this rule, the table of all if none.
+#[inline(never)]
 fn rules(rt: &HostRuntime, rule: Option<Rule>) -> Result<(), RunFault> {
     let mut out = Counted::new(io::writer(rt));
     match rule {
@@ -357,33 +404,32 @@ fn run_over(rt: &HostRuntime, args: FramesArgs) -> u8 {
         FrameNames::Listed(input, end) => match List::open(rt, input, end) {
             Ok(mut list) => {
                 let end = listed_frames(rt, &mut list, &asked);
-                tell_listed(rt, end, list.fault())
+                tell_frames_until(rt, end, list.fault())
             }
-            Err(fault) => tell_list(rt, fault),
+            Err(fault) => tell_fault(rt, fault, FrameOutcome::Accepted),
         },
+        FrameNames::Records(files, length) => {
+            let mut records = Records::new(files, length, asked.listing.detail);
+            let end = recorded_frames(rt, &mut records, &asked);
+            tell_frames_until(rt, end, records.fault())
+        }
     }
 }
 
-/// Tells why a list gives no name, and answers the exit status.
-fn tell_list(rt: &HostRuntime, fault: ListFault) -> u8 {
+/// Tells why there are no frames, or none any more behind frames that came to this, and answers the exit status.
+fn tell_fault(rt: &HostRuntime, fault: FramesFault, frames: FrameOutcome) -> u8 {
     say(rt, fault.message());
-    match fault {
-        ListFault::Empty => 2,
-        ListFault::Input(_) => frames_status_of(&Ok(fault.outcome())),
-    }
+    fault.status(frames)
 }
 
-/// Tells how a run over the frames of a list ended, which gave no name behind this fault.
-fn tell_listed(
+/// Tells how a run over frames ended, which met this fault.
+fn tell_frames_until(
     rt: &HostRuntime,
     end: Result<FrameOutcome, RunFault>,
-    fault: Option<ListFault>,
+    fault: Option<FramesFault>,
 ) -> u8 {
     match (end, fault) {
-        (Ok(outcome), Some(fault)) => {
-            say(rt, fault.message());
-            frames_status_of(&Ok(outcome.or_worse(fault.outcome())))
-        }
+        (Ok(outcome), Some(fault)) => tell_fault(rt, fault, outcome),
         (end, _) => tell_frames(rt, &end),
     }
 }
@@ -437,6 +483,7 @@ fn tell_message(rt: &HostRuntime, message: Result<String, AllocError>, status: u
 }
 
 /// Tells why no run was asked for, and answers the exit status.
+#[inline(never)]
 fn tell_usage(rt: &HostRuntime, usage: &Usage) -> u8 {
     match usage {
         Usage::Argument(fault) => tell_message(rt, fault.message(rt.alloc()), 2),

@@ -17,6 +17,7 @@ pub enum CommandOption {
     Clip,
     /// `--clip` of a command that always takes the board.
     ClipAlready,
+    Clocks,
     Exact,
     Frame,
     Labels,
@@ -27,17 +28,23 @@ pub enum CommandOption {
     OnlyRefused,
     Output,
     Print,
+    Records,
+    /// `--clocks` of `recipe`, which always takes the board.
+    RecipeClocks,
     /// `--labels` of a command whose recipes may have names from them.
     RecipeLabels,
+    /// `--within` of `recipe`.
+    RecipeWithin,
     Start,
     Summary,
     Window,
+    Within,
     /// `--output` of `recipe`.
     Witness,
 }
 
 /// The options of `frames` and of `explain frames`.
-pub const FRAMES_OPTIONS: [CommandOption; 8] = [
+pub const FRAMES_OPTIONS: [CommandOption; 10] = [
     CommandOption::Board,
     CommandOption::Map,
     CommandOption::Cert,
@@ -46,7 +53,12 @@ pub const FRAMES_OPTIONS: [CommandOption; 8] = [
     CommandOption::Clip,
     CommandOption::Start,
     CommandOption::Labels,
+    CommandOption::Clocks,
+    CommandOption::Within,
 ];
+
+/// The option of `frames` and of `belongs`, and of their accounts, that says that a file has many frames.
+pub const RECORDS_OPTIONS: [CommandOption; 1] = [CommandOption::Records];
 
 /// The options of `frames` that are about many frames.
 pub const LIST_OPTIONS: [CommandOption; 4] = [
@@ -98,6 +110,12 @@ pub const RECIPE_OUTPUT_OPTIONS: [CommandOption; 2] = [
     CommandOption::Print,
 ];
 
+/// The options of `recipe` that are about clocks.
+pub const RECIPE_CLOCKS_OPTIONS: [CommandOption; 2] = [
+    CommandOption::RecipeClocks,
+    CommandOption::RecipeWithin,
+];
+
 /// The options of `belongs` and of `explain belongs`.
 pub const BELONGS_OPTIONS: [CommandOption; 3] = [
     CommandOption::BoardAlready,
@@ -121,6 +139,7 @@ impl CommandOption {
             CommandOption::Budget => "budget",
             CommandOption::Cert => "cert",
             CommandOption::Clip | CommandOption::ClipAlready => "clip",
+            CommandOption::Clocks | CommandOption::RecipeClocks => "clocks",
             CommandOption::Exact => "exact",
             CommandOption::Frame => "frame",
             CommandOption::Labels | CommandOption::RecipeLabels => "labels",
@@ -131,9 +150,11 @@ impl CommandOption {
             CommandOption::OnlyRefused => "only-refused",
             CommandOption::Output | CommandOption::Witness => "output",
             CommandOption::Print => "print",
+            CommandOption::Records => "records",
             CommandOption::Start => "start",
             CommandOption::Summary => "summary",
             CommandOption::Window => "window",
+            CommandOption::Within | CommandOption::RecipeWithin => "within",
         }
     }
 
@@ -148,10 +169,12 @@ impl CommandOption {
             | CommandOption::RecipeLabels
             | CommandOption::Output => Some("FILE"),
             CommandOption::Print => Some("RECIPE"),
+            CommandOption::Records => Some(Form::Records.pattern()),
             CommandOption::Witness => Some("FRAME"),
             CommandOption::Map => Some(Form::Map.pattern()),
             CommandOption::Start => Some(Form::Start.pattern()),
             CommandOption::Window => Some(Form::Window.pattern()),
+            CommandOption::Within | CommandOption::RecipeWithin => Some(Form::Within.pattern()),
             _ => None,
         }
     }
@@ -168,6 +191,8 @@ impl CommandOption {
                 "Judges all frames by this certificate of the ROM's shapes, which says where the ROM lies",
             CommandOption::Clip | CommandOption::ClipAlready =>
                 "Lets lit strokes reach from -1024 to 2047, where the board blanks what is off the screen",
+            CommandOption::Clocks =>
+                "Tells of each accepted frame how many clocks the board takes to draw it, 1512 a millisecond",
             CommandOption::Exact =>
                 "Takes the certificate's words and depths as exact, not as bounds",
             CommandOption::Frame => "A frame; its calls become roots, too",
@@ -177,6 +202,10 @@ impl CommandOption {
                 "Judges the frames that this file names, one a line, in place of FRAME",
             CommandOption::Map =>
                 "The word addresses of the ROM's first and last word, within 400 to BFF [default: 800/BFF]",
+            CommandOption::RecipeClocks =>
+                "Tells of each accepted recipe how many clocks the board takes at most to draw a frame, 1512 a millisecond",
+            CommandOption::RecipeWithin =>
+                "Refuses recipes of which some frame may take the board more than so many milliseconds to draw",
             CommandOption::RecipeLabels =>
                 "The labels of the program, which name addresses in recipes",
             CommandOption::Null => "Names in the list end with NUL, not LF",
@@ -186,12 +215,16 @@ impl CommandOption {
                 "Writes the certificate to this file, which keeps what it holds until the new one is whole",
             CommandOption::Print =>
                 "Prints the one spelling of this recipe, in place of judging any",
+            CommandOption::Records =>
+                "Takes each FRAME as records of so many bytes, one behind another, each of which is a frame",
             CommandOption::Start =>
                 "Judges each frame as though its word 000 were the jump to this word address, or to this label of --labels",
             CommandOption::Summary =>
                 "Ends with a line that counts the frames by what is said of them",
             CommandOption::Window =>
                 "Where the screen may be lit: from X0 to X1 across, from Y0 to Y1 up [default: 0,1023,0,1023]",
+            CommandOption::Within =>
+                "Refuses frames that may take the board more than so many milliseconds to draw",
             CommandOption::Witness =>
                 "Writes a frame that shows why the recipe is refused to this file, which keeps what it holds if there is none",
         }
@@ -215,9 +248,13 @@ impl CommandOption {
             CommandOption::Cert => arg.conflicts_with("rom"),
             CommandOption::Clip => arg.conflicts_with("window")?.requires_arg("board"),
             CommandOption::ClipAlready => arg.conflicts_with("window"),
+            CommandOption::Clocks | CommandOption::Within => {
+                arg.requires_arg("board")?.conflicts_with("cert")
+            }
             CommandOption::Frame => Ok(arg.action(ArgAction::Append)),
             CommandOption::Null => arg.requires_arg("list")?.conflicts_with("FRAME"),
             CommandOption::Output | CommandOption::Witness => Ok(arg.short('o')),
+            CommandOption::Records => arg.conflicts_with("list"),
             CommandOption::Print => {
                 arg.conflicts_with("ROM")?
                     .conflicts_with("RECIPE")?
@@ -227,12 +264,16 @@ impl CommandOption {
         }
     }
 
-    /// The option that requires it.
-    fn required_by(self) -> Option<CommandOption> {
+    /// The options that require it.
+    fn required_by(self) -> &'static [CommandOption] {
         match self {
-            CommandOption::Board => Some(CommandOption::Clip),
-            CommandOption::List => Some(CommandOption::Null),
-            _ => None,
+            CommandOption::Board => &[
+                CommandOption::Clip,
+                CommandOption::Clocks,
+                CommandOption::Within,
+            ],
+            CommandOption::List => &[CommandOption::Null],
+            _ => &[],
         }
     }
 
@@ -244,13 +285,11 @@ impl CommandOption {
         }
     }
 
-    /// Whether one of these words may name it or the option that requires it.
+    /// Whether one of these words may name it or an option that requires it.
     fn matters_in(self, words: &[String]) -> bool {
+        let options = self.required_by();
         words.iter().any(|word| {
-            self.may_be(word.as_str())
-                || self
-                    .required_by()
-                    .is_some_and(|option| option.may_be(word.as_str()))
+            self.may_be(word.as_str()) || options.iter().any(|option| option.may_be(word.as_str()))
         })
     }
 }

@@ -2,13 +2,14 @@
 
 use crate::command::{
     ArgumentFault, FRAME_HELP, FrameNames, INPUT_HELP, Named, ROM_HELP, Usage, budget_of_args,
-    file_of, files_told, frame_names, frames_argument, map_of_args, needed, one_standard_input,
-    window_of_args, with_rom,
+    clocks_of_args, file_of, files_told, frame_names, frames_argument, map_of_args, needed,
+    one_standard_input, window_of_args, with_rom,
 };
 use crate::input::Input;
+use crate::options::{BELONGS_OPTIONS, RECORDS_OPTIONS, Told};
 use clap::{Arg, ArgMatches, Command};
 use dvg_cmd::{Detail, Labels, Listing, RomMap};
-use dvg_recipe_cmd::RecipeOptions;
+use dvg_recipe_cmd::{RecipeAsked, RecipeOptions};
 use std::alloc::{AllocError, Global};
 
 /// The arguments of `recipe`, where recipes are judged.
@@ -16,7 +17,7 @@ use std::alloc::{AllocError, Global};
 pub struct RecipeArgs<'a> {
     pub rom: Input<'a>,
     pub recipes: Vec<Named<'a>>,
-    pub options: RecipeOptions,
+    pub asked: RecipeAsked,
     /// What names of recipes may stand for, besides those that they define.
     pub labels: Option<&'a Labels>,
     /// What is written of each recipe.
@@ -76,14 +77,16 @@ pub fn belongs_command<'a>(alloc: Global) -> Result<Command<'a>, AllocError> {
         .arg(frames_argument(alloc)?)
 }
 
-/// The command of `explain belongs`, without its options.
+/// The command of `explain belongs`.
 pub fn explain_belongs_command<'a>(alloc: Global) -> Result<Command<'a>, AllocError> {
     let command = Command::new(alloc, "belongs").about(
         "Tells which frames are among those that a recipe allows, and of another where it leaves the recipe, and which lines could stand there",
     );
-    with_rom(alloc, command)?
+    let command = with_rom(alloc, command)?
         .arg(needed(alloc, "RECIPE", RECIPE_HELP))?
-        .arg(needed(alloc, "FRAME", FRAME_HELP).num_args(1..))
+        .arg(needed(alloc, "FRAME", FRAME_HELP).num_args(1..))?;
+    let command = Told::All.with(alloc, command, &BELONGS_OPTIONS)?;
+    Told::All.with(alloc, command, &RECORDS_OPTIONS)
 }
 
 /// The path of the file for the frame of these recipes, if one is given.
@@ -107,17 +110,20 @@ pub fn recipe_args<'a>(
     labels: Option<&'a Labels>,
 ) -> Result<RecipeArgs<'a>, Usage<'a>> {
     one_standard_input(args, &["ROM", "RECIPE", "labels"])?;
-    let options = RecipeOptions {
-        map: map_of_args(args)?,
-        budget: budget_of_args(args),
-        window: window_of_args(args)?,
+    let asked = RecipeAsked {
+        options: RecipeOptions {
+            map: map_of_args(args)?,
+            budget: budget_of_args(args),
+            window: window_of_args(args)?,
+        },
+        clocks: clocks_of_args(args)?,
     };
     let recipes = files_told(rt, args, "RECIPE", detail)?;
     let output = witness_path(output, &recipes)?;
     Ok(RecipeArgs {
         rom: file_of(rt, args, "ROM"),
         recipes,
-        options,
+        asked,
         labels,
         detail,
         output,

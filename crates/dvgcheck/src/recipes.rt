@@ -3,16 +3,17 @@
 ghost use Rattle.std.specs.Iterator.{IsFinite};
 
 use crate::command::{FrameNames, Named};
+use crate::frames_fault::FramesFault;
 use crate::input::{Input, Source};
-use crate::list::{List, ListFault};
+use crate::list::List;
 use crate::output::Output;
 use crate::recipe_arguments::{BelongsArgs, BelongsAsked, RecipeArgs};
-use crate::{open, opened, say, tell_frames, tell_list};
-use dvg_cmd::{Counted, FrameOutcome, Labels, NamedFrame, RunFault, load_rom};
+use crate::records::Records;
+use crate::{open, opened, say, tell_fault, tell_frames};
+use dvg_cmd::{Counted, CountedRead, FrameOutcome, Labels, NamedFrame, RunFault, load_rom};
 use dvg_recipe_cmd::{
-    NamedRecipe, RecipeOptions, RecipeRunFault, Recorded, WitnessEnd, load_recipe,
-    recipe_message_of, recipe_status_of, run_belongs, run_print, run_recipe_for_witness,
-    run_recipes,
+    NamedRecipe, RecipeAsked, RecipeRunFault, Recorded, WitnessEnd, load_recipe, recipe_message_of,
+    recipe_status_of, run_belongs, run_print, run_recipe_for_witness, run_recipes,
 };
 use std::io;
 
@@ -36,22 +37,23 @@ pub fn run_recipe(rt: &HostRuntime, args: RecipeArgs) -> u8 {
 }
 
 /// Reads the ROM, and then judges recipe after recipe: each file is opened when the one before it is closed.
+#[inline(never)]
 fn judge(rt: &HostRuntime, args: RecipeArgs) -> Result<FrameOutcome, RunFault> {
     let RecipeArgs {
         rom,
         recipes,
-        options,
+        asked,
         labels,
         detail,
         output,
     } = args;
     let rom = load_rom(&mut Counted::new(open(rt, rom, RunFault::ReadRom)?))?;
     match output {
-        Some(path) => judge_for_witness(rt, rom.as_slice(), &options, labels, recipes, path),
+        Some(path) => judge_for_witness(rt, rom.as_slice(), &asked, labels, recipes, path),
         None => run_recipes(
             rt.alloc(),
             rom.as_slice(),
-            &options,
+            &asked,
             labels,
             detail,
             recipes.into_iter().map(|recipe| opened_recipe(rt, recipe)),
@@ -61,10 +63,11 @@ fn judge(rt: &HostRuntime, args: RecipeArgs) -> Result<FrameOutcome, RunFault> {
 }
 
 /// Judges the one recipe, and has the frame that shows why it is refused at this path in the end, or, if there is none, what was there.
+#[inline(never)]
 fn judge_for_witness(
     rt: &HostRuntime,
     rom: &[u8],
-    options: &RecipeOptions,
+    asked: &RecipeAsked,
     labels: Option<&Labels>,
     recipes: Vec<Named>,
     path: &str,
@@ -77,7 +80,7 @@ fn judge_for_witness(
     let judged = run_recipe_for_witness(
         rt.alloc(),
         rom,
-        options,
+        asked,
         labels,
         opened_recipe(rt, recipe),
         &mut Counted::new(io::writer(rt)),
@@ -109,6 +112,7 @@ pub fn run_print_of(rt: &HostRuntime, recipe: &Named, labels: Option<&Labels>) -
     tell(rt, &print(rt, recipe, labels))
 }
 
+#[inline(never)]
 fn print(
     rt: &HostRuntime,
     recipe: &Named,
@@ -138,15 +142,23 @@ pub fn run_belonging(rt: &HostRuntime, args: BelongsArgs) -> u8 {
                 // No list has so many names.
                 let frames = (0..u64::MAX).map_while(|_| list.next_frame(rt));
                 let end = belong(rt, &asked, frames);
-                tell_listed(rt, end, list.fault())
+                tell_until(rt, end, list.fault())
             }
-            Err(fault) => tell_list(rt, fault),
+            Err(fault) => tell_fault(rt, fault, FrameOutcome::Accepted),
         },
+        FrameNames::Records(files, length) => {
+            let mut records = Records::new(files, length, asked.listing.detail);
+            // No files have so many records.
+            let frames = (0..u64::MAX).map_while(|_| records.step(rt)).flatten();
+            let end = belong(rt, &asked, frames);
+            tell_until(rt, end, records.fault())
+        }
     }
 }
 
 /// Reads the ROM and the recipe, and then frame after frame.
-fn belong<I: Iterator<Item = NamedFrame<Counted<Source>>> + Drop>(
+#[inline(never)]
+fn belong<R: CountedRead + Drop, I: Iterator<Item = NamedFrame<R>> + Drop>(
     rt: &HostRuntime,
     asked: &BelongsAsked,
     frames: I,
@@ -166,17 +178,14 @@ fn belong<I: Iterator<Item = NamedFrame<Counted<Source>>> + Drop>(
     Ok(run_belongs(rt.alloc(), &given, frames, asked.listing, &mut out)?)
 }
 
-/// Tells how a run over the frames of a list ended, which gave no name behind this fault.
-fn tell_listed(
+/// Tells how a run over frames ended, which met this fault.
+fn tell_until(
     rt: &HostRuntime,
     end: Result<FrameOutcome, RecipeRunFault>,
-    fault: Option<ListFault>,
+    fault: Option<FramesFault>,
 ) -> u8 {
     match (end, fault) {
-        (Ok(outcome), Some(fault)) => {
-            say(rt, fault.message());
-            recipe_status_of(&Ok(outcome.or_worse(fault.outcome())))
-        }
+        (Ok(outcome), Some(fault)) => tell_fault(rt, fault, outcome),
         (end, _) => tell(rt, &end),
     }
 }

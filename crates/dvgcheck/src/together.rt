@@ -1,7 +1,7 @@
 //! Frames that are explained together: what the one calls is known to the account of the other.
 
 use crate::command::Named;
-use crate::input::{KeptBytes, Source};
+use crate::input::{Kept, kept_frame};
 use dvg_cmd::{Counted, NamedFrame, OwnCertificates, ShapeStarts, read_started};
 use std::alloc::{AllocError, Global};
 
@@ -32,12 +32,9 @@ impl ReadFrame {
     }
 
     /// The frame, to be read from what is kept of it.
-    pub fn reopened(self) -> NamedFrame<Counted<Source>> {
+    pub fn reopened(self) -> NamedFrame<Kept> {
         let ReadFrame { name, bytes } = self;
-        NamedFrame {
-            name,
-            reader: bytes.map(|bytes| Counted::new(Source::Kept(KeptBytes::new(bytes)))),
-        }
+        kept_frame(name, bytes)
     }
 }
 

@@ -1,7 +1,7 @@
 -- A frame and a ROM that are judged, by the frame's own certificate or by a given one.
-use Rattle.std.specs.Prelude.{◌≡◌, ℕ, List, length, Result, IfOk}
+use Rattle.std.specs.Prelude.{◌≡◌, ℕ, false, List, length, Result, IfOk, IfSome}
 use Rattle.dvg_words.specs.declared.machine.Machine.{Machine}
-use Rattle.dvg_words.specs.Memory.{Rom, words_of, rom_on, IsRomLength}
+use Rattle.dvg_words.specs.Memory.{Rom, words_of, rom_on, IsFrameLength, IsRomLength}
 use Rattle.dvg_words.specs.Values.{MemoryMap, Window}
 use Rattle.dvg_cert.specs.Order.{Certificate}
 use Rattle.dvg_check.specs.Means.{Means}
@@ -9,7 +9,10 @@ use Rattle.dvg_check.specs.Verdict.{InRange, RomVerdict}
 use Rattle.dvg_check.specs.declared.fault.Mode.{Mode}
 use Rattle.dvg_check.specs.declared.verdict.Refusal.{Refusal}
 use Rattle.dvg_check.specs.declared.verdict.Yes.{Yes}
+use Rattle.dvg_clocks.specs.declared.frames.Timing.{Timing}
 use Rattle.dvg_kept.specs.Kept.{Kept}
+use Rattle.dvg_kept.specs.Timed.{TimedKept}
+use Rattle.dvg_cmd.specs.Frames.{FrameAnswer, Judging, is_unread, refusal_in, yes_in}
 
 -- these are the frame's words and the ROM of bytes that can be judged
 pub record AreImages
@@ -31,3 +34,17 @@ pub record IsKeptFor (machine : Machine) (rom : List ℕ) (map : MemoryMap) (w :
   pub rom_length : IsRomLength map (length rom)
   pub rom_is : kept.rom ≡ rom_on machine map rom
   pub window_is : kept.window ≡ w
+
+-- so it is, with the states of instructions by which clocks are counted
+pub record IsTimedFor
+    (timing : Timing) (machine : Machine) (rom : List ℕ) (map : MemoryMap) (w : Window) (timed : TimedKept) : Type 0 where
+  pub kept : IsKeptFor machine rom map w timed.kept
+  pub states : timed.states ≡ timing.states
+
+-- each clause of a judge holds of its answer to these bytes
+pub record IsAnswerOf (j : Judging) (bytes : List ℕ) (a : FrameAnswer) : Type 0 where
+  pub answer : j.is_answer bytes a
+  pub judged : is_unread a ≡ false
+  pub whole : IfSome (yes_in a) (λ yes. IsFrameLength (length bytes))
+  pub means : IfSome (yes_in a) (λ yes. Means j.mode (record { frame = words_of bytes; rom = j.rom }) j.window yes.words yes.depth)
+  pub told : IfSome (refusal_in a) (j.is_told bytes)

@@ -12,9 +12,11 @@ use Rattle.dvg_items.specs.declared.known.Known.{Known}
 use Rattle.dvg_items.specs.Known.{frame_context, known_before, known_past}
 use Rattle.dvg_make.specs.Made.{AllMade}
 use Rattle.dvg_check.specs.declared.fault.FrameWhy.{FrameWhy}
-use Rattle.dvg_check.specs.Rules.{FramePlaceKeeps}
+use Rattle.dvg_check.specs.Rules.{FramePlaceKeeps, Good, GoodFrame}
+use Rattle.dvg_check.specs.declared.fault.Mode.TheVariants.{Exact}
+use Rattle.dvg_items.specs.Bounds.{IsSomeCertificate}
 use Rattle.dvg_recipe.specs.Limits.{PartFits}
-use Rattle.dvg_recipe.specs.Recipes.{PieceKind, Place, Call, Draw, Fixed, Takes, ComesTo, IsEndIn, Times, Area, BeginsAt, AddsJump, Part, Jump, Recipe, SpellsList}
+use Rattle.dvg_recipe.specs.Recipes.{PieceKind, Place, Call, Draw, Fixed, Takes, ComesTo, IsEndIn, Times, Area, BeginsAt, AddsJump, Part, Jump, Recipe, SpellsList, Belongs}
 use Rattle.dvg_recipe.specs.Private.Hulls.{Hull, Covers}
 
 -- what adds items to those before, over a ROM
@@ -106,3 +108,16 @@ pub record AreGoodMembers (w : Window) (list : List Entry) (budget : ℕ) (recip
 pub record IsCounted (words depth : ℕ) (h : Hull) : Type 0 where
   pub count : 1 + h.words ≤ words
   pub shallow : h.depth ≤ depth
+
+-- the frame keeps all rules, and these are its items up to its HALT
+pub record IsGoodList (w : Window) (list : List Entry) (budget : ℕ) (frame : List ℕ) (items : List Item) : Type 0 where
+  pub words : ℕ
+  pub depth : ℕ
+  pub good : GoodFrame w Board frame list budget words depth
+  pub are : good.items ≡ items
+
+-- the shapes of these entries are good, and over them so is each frame of the recipe
+pub record AreGoodFrames (rom : Rom) (recipe : Recipe) (w : Window) (list : List Entry) (budget : ℕ) : Type 0 where
+  pub certificate : IsSomeCertificate list
+  pub shapes : Good Exact w rom list
+  pub frames : (frame : List ℕ) (b : Belongs rom recipe frame) → IsGoodList w list budget frame b.items

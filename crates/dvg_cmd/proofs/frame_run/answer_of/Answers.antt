@@ -1,7 +1,11 @@
+use Rattle.dvg_cmd.proofs.Common.{◌≡◌, count_after, subst, sym}
 use Rattle.dvg_cmd.proofs.Answers.{answers_judged}
 use Rattle.dvg_cmd.proofs.frame_run.answer_of.Goals as goal
 
 pub returns-in-Ok-clause-answers : goal.returns-in-Ok-clause-answers
 returns-in-Ok-clause-answers g c =
-    answers_judged _ c.args.start _ _ c.verdict-verdict.result.0 c.in-Ok.bytes.items c.as_slice.result.now c.in-Ok.ensures.read c.in-Ok.ensures.bytes c.as_slice.ensures.value
-    c.verdict-verdict.ensures.verdict c.verdict-verdict.ensures.whole c.verdict-verdict.ensures.means c.verdict-verdict.ensures.told
+    answers_judged _ c.args.start _ _ c.answer.result.0 c.in-Ok.bytes.items c.as_slice.result.now c.in-Ok.ensures.read c.in-Ok.ensures.bytes c.as_slice.ensures.value
+    c.answer.ensures.answer c.answer.ensures.whole c.answer.ensures.means c.answer.ensures.told
+
+pub returns-in-Ok-clause-count : goal.returns-in-Ok-clause-count
+returns-in-Ok-clause-count g c = subst (λ b. g.R.CountedRead.failures c.read_started.new.frame ≡ count_after b (g.R.CountedRead.failures c.args.frame.now)) (sym c.answer.ensures.judged) c.in-Ok.ensures.count

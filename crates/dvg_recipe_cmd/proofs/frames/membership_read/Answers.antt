@@ -1,4 +1,4 @@
-use Rattle.dvg_recipe_cmd.proofs.Common.{◌≡◌, sym, ap, ◌∙◌, subst}
+use Rattle.dvg_recipe_cmd.proofs.Common.{sym, ap, ◌∙◌, subst}
 use Rattle.std.specs.Prelude.{Some}
 use Rattle.dvg_text.specs.Devices.{count_after}
 use Rattle.dvg_recipe_cmd.specs.Frames.{AnswersFrame}

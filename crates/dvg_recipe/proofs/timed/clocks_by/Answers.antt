@@ -1,0 +1,18 @@
+use Rattle.dvg_recipe.proofs.Common.{List, subst}
+use Rattle.dvg_cert.specs.declared.entry.Entry.{Entry}
+use Rattle.dvg_clocks.specs.Kept.{AreTold, clocks_in}
+use Rattle.dvg_recipe.specs.Private.Clocks.{AreListsUnder}
+use Rattle.dvg_recipe.proofs.Taking.{all_take}
+use Rattle.dvg_recipe.proofs.timed.clocks_by.Goals as goal
+
+pub returns-clause-take : goal.returns-clause-take
+returns-clause-take c =
+    let t = c.args.timing.now.states in
+    let rom = c.args.rom.now in
+    let recipe = c.args.recipe.now in
+    let list = c.args.cert.now.entries in
+    let kept = c.in_ok-shapes.shapes in
+    let most = c.in_ok-most_of_lists.field-0 in
+    let told : AreTold t rom list kept = subst (λ (l : List Entry). AreTold t rom l kept) c.entries-list.ensures.value c.in_ok-shapes.ensures in
+    let under : AreListsUnder t list (clocks_in kept) recipe most = subst (λ (l : List Entry). AreListsUnder t l (clocks_in kept) recipe most) c.in_ok-entries.ensures c.in_ok-most_of_lists.ensures.lists in
+    all_take t rom recipe c.requires.good.0 list c.requires.good.1 kept most c.requires.board c.requires.good.2 told under (λ frame b. record { frame = b.frame; rom = c.map-map.ensures.rom })

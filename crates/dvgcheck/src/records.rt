@@ -1,0 +1,129 @@
+//! Frames that are the records of files, read record by record.
+
+use crate::command::{Named, behind_blank};
+use crate::frames_fault::FramesFault;
+use crate::input::{Kept, Source, kept_frame};
+use dvg_cmd::{Counted, Detail, NamedFrame, Record, RecordLength, read_record, record_name};
+use std::alloc::{AllocError, Global};
+use std::vec::IntoIter;
+
+/// An open file of records.
+#[derive(Drop)]
+struct Recording {
+    name: String,
+    source: Counted<Source>,
+    /// The number of its next record.
+    next: u64,
+}
+
+/// Files of records, which are read record by record, one file after another.
+#[derive(Drop)]
+pub struct Records<'a> {
+    /// Those that are not yet open.
+    files: IntoIter<Named<'a>>,
+    length: RecordLength,
+    detail: Detail<'a>,
+    current: Option<Recording>,
+    /// How many frames were given.
+    given: u64,
+    fault: Option<FramesFault>,
+}
+
+impl<'a> Records<'a> {
+    /// The records of these files, none of them read. The detail is what is written of each.
+    pub fn new(files: Vec<Named<'a>>, length: RecordLength, detail: Detail<'a>) -> Records<'a> {
+        Records {
+            files: files.into_iter(),
+            length,
+            detail,
+            current: None,
+            given: 0,
+            fault: None,
+        }
+    }
+
+    /// One step further: opens the next file, or reads the next record; the frame with which it came, if there is one. `None` behind
+    /// the last record, and where memory is out.
+    pub fn step(&mut self, rt: &HostRuntime) -> Option<Option<NamedFrame<Kept>>> {
+        let stepped = match self.current.take() {
+            Some(recording) => self.read(rt.alloc(), recording),
+            None => {
+                let file = self.files.next()?;
+                self.open(rt, file)
+            }
+        };
+        match stepped {
+            Ok(frame) => Some(frame),
+            Err(_) => {
+                self.fault = Some(FramesFault::OutOfMemory);
+                None
+            }
+        }
+    }
+
+    /// The last fault that was met.
+    pub fn fault(&self) -> Option<FramesFault> {
+        self.fault
+    }
+
+    /// Opens a file. If it can't be opened, its first record can't be read.
+    fn open(
+        &mut self,
+        rt: &HostRuntime,
+        file: Named,
+    ) -> Result<Option<NamedFrame<Kept>>, AllocError> {
+        let Named { input, name } = file;
+        let Ok(source) = input.open(rt) else {
+            return Ok(Some(self.frame(rt.alloc(), name.as_str(), 1, None)?));
+        };
+        self.current = Some(Recording {
+            name,
+            source: Counted::new(source),
+            next: 1,
+        });
+        Ok(None)
+    }
+
+    /// Reads the next record of a file, which stays open if it is whole.
+    fn read(
+        &mut self,
+        alloc: Global,
+        recording: Recording,
+    ) -> Result<Option<NamedFrame<Kept>>, AllocError> {
+        let mut recording = recording;
+        let number = recording.next;
+        match read_record(alloc, &mut recording.source, self.length)? {
+            Record::Whole(bytes) => {
+                let frame = self.frame(alloc, recording.name.as_str(), number, Some(bytes))?;
+                recording.next = number.saturating_add(1);
+                self.current = Some(recording);
+                Ok(Some(frame))
+            }
+            Record::Cut => Ok(Some(self.frame(alloc, recording.name.as_str(), number, None)?)),
+            Record::End => {
+                if number == 1 {
+                    self.fault = Some(FramesFault::NoRecord);
+                }
+                Ok(None)
+            }
+        }
+    }
+
+    /// The record with this number of a file as a frame, of which these bytes were read, or which can't be read.
+    fn frame(
+        &mut self,
+        alloc: Global,
+        file: &str,
+        number: u64,
+        bytes: Option<Vec<u8>>,
+    ) -> Result<NamedFrame<Kept>, AllocError> {
+        let name = record_name(alloc, file, number)?;
+        let name = if self.given > 0 && self.detail.has_account() {
+            behind_blank(alloc, name.as_str())?
+        } else {
+            name
+        };
+        self.given = self.given.saturating_add(1);
+        Ok(kept_frame(name, bytes))
+    }
+}
