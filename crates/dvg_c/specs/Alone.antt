@@ -59,5 +59,6 @@ abbrev pub ClocksHold : ℕ → List ℕ → MemoryMap → List ℕ → Answer �
 ClocksHold machine rom map frame a =
     a.clocks ≢ 0
     → (machine_of machine ≡ Board)
-    × (least : ℕ) × TakenOnCircuit (clocks_of_instr DVG_STATES) (record { frame = words_of frame; rom = rom_on (machine_of machine) map rom })
+    × (least : ℕ)
+    × TakenOnCircuit (clocks_of_instr DVG_STATES) (record { frame = words_of frame; rom = rom_on (machine_of machine) map rom })
     (record { least = least; most = a.clocks })

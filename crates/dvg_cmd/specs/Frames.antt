@@ -175,8 +175,8 @@ pub record HasClocks (timing : Timing) (machine : Machine) (rom : List ℕ) (map
       machine ≡ Board
       → TakenOnCircuit (clocks_of_instr timing.states) (record { frame = words_of bytes; rom = rom_on machine map rom }) t.clocks
 
--- the answer with clocks: the verdict by the frame's own certificate, and of an accepted frame its clocks, or its first item with which they
--- are over the limit
+-- the answer with clocks: the verdict by the frame's own certificate, and of an accepted frame its clocks, or its first item with which
+-- they are over the limit
 abbrev pub TimedAnswer : Timing → Machine → List ℕ → MemoryMap → ℕ → Window → List ℕ → FrameAnswer → Type 0
 TimedAnswer timing machine rom map budget w bytes (Judged (Err r)) = VerdictOnBytes machine rom map bytes budget w (Err r)
 TimedAnswer timing machine rom map budget w bytes (Timed t) =
