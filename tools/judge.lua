@@ -201,10 +201,11 @@ end
 local function judge_frame(frame)
   ask(judge, frame)
   if member then ask(member, frame) end
-  local answer = answer_of(judge, "^accepted shapes=%d+ words=%d+ depth=%d+$", "^refused %d.*$")
+  local form = "^accepted shapes=%d+ words=%d+ depth=%d+"
+  local answer = answer_of(judge, form .. "$", form .. " clocks<?=%d+$", "^refused %d.*$")
   local belongs = not member and "belongs" or answer_of(member, "^belongs$", "^outside at %x+$")
   judged = judged + 1
-  local words, depth = answer:match("words=(%d+) depth=(%d+)$")
+  local words, depth = answer:match("words=(%d+) depth=(%d+)")
   if words then
     accepted = accepted + 1
     most_words, deepest = math.max(most_words, tonumber(words)), math.max(deepest, tonumber(depth))

@@ -68,7 +68,7 @@ def list_of(frame):
 
 
 def read_records(name, size):
-    """The frames of a file. A last one that is cut short is left out, as `dvgcheck` leaves it."""
+    """The frames of a file. A last one that is cut short is left out; `dvgcheck` says that it can't be read."""
     content = read(name, "recording")
     if len(content) < size:
         raise Failure(f"no record in {name}")
