@@ -53,7 +53,11 @@ pub trues_none : (n : ℕ) → trues (replicate n false) ≡ 0
 trues_none zero = refl
 trues_none (suc n) = trues_none n
 
--- the marks with one more
+-- the marks with one more, which doesn't wait
+abbrev pub with_done : Marks → ℕ → Marks
+with_done old p = record { marked = slice_set old.marked p true; waiting = old.waiting; count = old.count + 1 }
+
+-- the marks with one more, which waits
 abbrev pub with_mark : Marks → ℕ → Marks
 with_mark old p = record { marked = slice_set old.marked p true; waiting = old.waiting ++ p ∷ []; count = old.count + 1 }
 
@@ -61,14 +65,14 @@ module _ (old : Marks) (counted : IsCounted old) (p : ℕ) (free : slice_get old
   lt : p < length old.marked
   lt = let less = trues_less old.marked p free in slice_get_within old.marked p false free
 
-  pub one_more : MarksOne p old (with_mark old p)
+  pub one_more : MarksOne ⊥ p old (with_mark old p)
   one_more =
       record {
         len = set_len old.marked p true;
         marked = set_same old.marked p true lt;
         kept = λ q h. set_kept old.marked p q h;
         waits = λ q c. Contains-append_left old.waiting (p ∷ []) q c;
-        others = λ q h. ⊎_elim (λ s. inl s) (λ s. inr (s, Contains-append_right old.waiting (p ∷ []) q (zero, omega arith, sym s))) (set_others old.marked p q h);
+        others = λ q h. ⊎_elim (λ s. inl s) (λ s. inr (s, inl (Contains-append_right old.waiting (p ∷ []) q (zero, omega arith, sym s)))) (set_others old.marked p q h);
         less = omega (arith, set_len old.marked p true, counted.count_is, trues_less old.marked p free, length-append old.waiting (p ∷ []));
       }
 
@@ -82,6 +86,24 @@ module _ (old : Marks) (counted : IsCounted old) (p : ℕ) (free : slice_get old
       only : (q : ℕ) → Contains (p ∷ []) q → q ≡ p
       only q h = grind (arith)
 
+  pub one_done : MarksOne (Unit {0}) p old (with_done old p)
+  one_done =
+      record {
+        len = set_len old.marked p true;
+        marked = set_same old.marked p true lt;
+        kept = λ q h. set_kept old.marked p q h;
+        waits = λ q c. c;
+        others = λ q h. ⊎_elim (λ s. inl s) (λ s. inr (s, inr tt)) (set_others old.marked p q h);
+        less = omega (arith, set_len old.marked p true);
+      }
+
+  pub counted_done : IsCounted (with_done old p)
+  counted_done =
+      record {
+        count_is = ap (λ n. n + 1) counted.count_is ∙ let h = set_trues old.marked p free in omega (arith, h);
+        wait = λ q c. set_kept old.marked p q (counted.wait q c);
+      }
+
 -- the marks as they were, where this one is among them
-pub one_same : (old : Marks) (p : ℕ) → slice_get old.marked p ≡ Some true → MarksOne p old old
+pub one_same : {N : Type 0} (old : Marks) (p : ℕ) → slice_get old.marked p ≡ Some true → MarksOne N p old old
 one_same old p h = record { len = refl; marked = h; kept = λ q s. s; waits = λ q c. c; others = λ q s. inl s; less = omega arith }

@@ -1,8 +1,6 @@
 //! Frames over kept shapes.
 
-ghost use Rattle.std.specs.Prelude.{◌≡◌, ◌≤◌, [], Ok, length, IfOk, IfErr, IfSome, OnErr};
-ghost use Rattle.dvg_words.specs.Memory.{rom_word};
-ghost use Rattle.dvg_cert.specs.Entry.{IsKey};
+ghost use Rattle.std.specs.Prelude.{◌≡◌, ◌≤◌, [], Ok, IfOk, IfErr, IfSome, OnErr};
 ghost use Rattle.dvg_cert.specs.declared.limits.TheConstants.{MOST_WORDS};
 ghost use Rattle.dvg_check.specs.Means.{Means};
 ghost use Rattle.dvg_check.specs.Rules.{GoodFrame};
@@ -13,7 +11,8 @@ ghost use Rattle.dvg_items.specs.Bounds.{IsSomeCertificate};
 ghost use Rattle.dvg_clocks.specs.Kept.{AreTold};
 ghost use Rattle.dvg_kept.specs.Kept.{IsKept};
 ghost use Rattle.dvg_kept.specs.declared.kept.Keeping.TheVariants.{Full};
-ghost use Rattle.dvg_kept.specs.Private.Marks.{AllAskedMarked, Asks, IsMarking, MarksMore, context_of, shape_start};
+ghost use Rattle.dvg_kept.specs.Private.Leaves.{AreLeaves};
+ghost use Rattle.dvg_kept.specs.Private.Marks.{IsMarking};
 ghost use Rattle.dvg_kept.specs.Private.Own.{HasOwn, IsMerged};
 
 use crate::leaves::Leaves;
@@ -69,9 +68,11 @@ fn called_by_frame(
     alloc: Global,
     rom: &RomImage,
     entries: &MadeEntries,
+    leaves: &Leaves,
     frame: &FrameImage,
 ) -> Option<MarkedEntries>
-    requires { IsSomeCertificate entries.now }
+    requires entries { IsSomeCertificate entries.now }
+    requires leaves { AreLeaves rom.now leaves.now }
     ensures { IfSome result (IsMarking rom.now frame.now entries.now) }
 {
     let Ok(mut marks) = MarkedEntries::none(alloc, entries.len()) else {
@@ -83,7 +84,7 @@ fn called_by_frame(
         scale: Key::Any,
     };
     let words = FrameOn::new(rom.machine(), frame);
-    marks.mark_calls(entries, &words, first)?;
+    marks.mark_calls(entries, leaves, &words, first)?;
     Some(marks)
 }
 
@@ -135,33 +136,19 @@ impl<'a> KeptShapes<'a> {
         })
     }
 
-    /// Marks what the shape of an entry calls; `None` if one of these is not kept, or there is no memory.
-    fn mark_shape(&self, marks: &mut MarkedEntries, entry: &Entry) -> Option<()>
-        requires len { length marks.old.marked ≡ length self.now.list }
-        requires key { IsKey entry.now.key }
-        ensures asked { IfSome result (λ _. AllAskedMarked (rom_word self.now.rom) self.now.list (shape_start entry.now) marks.new) }
-        ensures more { IfSome result (λ _. MarksMore self.now.list (Asks (context_of (rom_word self.now.rom) self.now.list
-            (shape_start entry.now)) (rom_word self.now.rom) entry.now.addr) marks.old marks.new) }
-    {
-        if self.leaves.has(entry.addr) {
-            return Some(());
-        }
-        let first = Place {
-            kind: Kind::Shape,
-            at: entry.addr,
-            scale: entry.key,
-        };
-        marks.mark_calls(&self.entries, &self.rom, first)
-    }
-
     /// How many entries the certificate has that is made for a frame, if all of them are kept.
     fn own_entries(&self, alloc: Global, frame: &FrameImage) -> Option<usize>
         ensures { IfSome result (HasOwn self.now frame.now) }
     {
-        let mut marks = called_by_frame(alloc, &self.rom, &self.entries, frame)?;
+        let mut marks = called_by_frame(alloc, &self.rom, &self.entries, &self.leaves, frame)?;
         while let Some(position) = marks.take() {
             let entry = self.entries.get(position)?;
-            self.mark_shape(&mut marks, &entry)?;
+            let first = Place {
+                kind: Kind::Shape,
+                at: entry.addr,
+                scale: entry.key,
+            };
+            marks.mark_calls(&self.entries, &self.leaves, &self.rom, first)?;
         }
         Some(marks.count())
     }

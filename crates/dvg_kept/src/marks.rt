@@ -1,10 +1,11 @@
 //! Which of the kept shapes a frame calls, with all that these call.
 
-ghost use Rattle.std.specs.Prelude.{◌≡◌, ◌<◌, ℕ, [], length, OnOk, IfOk, IfSome, IfNone};
+ghost use Rattle.std.specs.Prelude.{◌≡◌, ◌<◌, [], length, OnOk, IfOk, IfSome, IfNone};
 ghost use Rattle.dvg_cert.specs.Entry.{IsKey};
 ghost use Rattle.dvg_items.specs.Bounds.{IsSomeCertificate};
 ghost use Rattle.dvg_kept.specs.Private.Marks.{AllAskedMarked, Asks, IsCounted, IsCalledAt, IsNothing, Marks, MarksMore, MarksOne, Takes, context_of};
 
+use crate::leaves::Leaves;
 use dvg_cert::{Entry, Key};
 use dvg_items::{Item, Kind, scale_past, target};
 use dvg_make::MadeEntries;
@@ -52,10 +53,21 @@ impl MarkedEntries {
         })
     }
 
-    /// Marks the entry at a position, if it isn't marked.
-    fn mark(&mut self, position: usize) -> Result<(), AllocError>
+    /// Marks the entry at a position. It doesn't wait: whoever marks it so knows that its shape calls nothing.
+    fn mark(&mut self, position: usize)
         requires { position < length self.old.marked }
-        ensures { OnOk result (MarksOne position self.old self.new) }
+        ensures { MarksOne (Unit {0}) position self.old self.new }
+    {
+        if !self.marked[position] {
+            self.marked[position] = true;
+            self.count += 1;
+        }
+    }
+
+    /// Marks the entry at a position, if it isn't marked, and has it wait.
+    fn mark_waiting(&mut self, position: usize) -> Result<(), AllocError>
+        requires { position < length self.old.marked }
+        ensures { OnOk result (MarksOne ⊥ position self.old self.new) }
     {
         if !self.marked[position] {
             self.waiting.push(position)?;
@@ -65,30 +77,36 @@ impl MarkedEntries {
         Ok(())
     }
 
-    /// Marks the entry that is called at a target, at just this scale, and answers it; nothing without a target. `None` if there is no
-    /// such entry, or no memory.
+    /// Marks the entry that is called at a target, at just this scale, and answers it; nothing without a target. If its shape is known to
+    /// call nothing, it doesn't wait. `None` if there is no such entry, or no memory.
     fn mark_target(
         &mut self,
         entries: &MadeEntries,
+        leaves: &Leaves,
         target: Option<u16>,
         scale: Key,
     ) -> Option<Option<Entry>>
         requires { length self.old.marked ≡ length entries.now }
-        ensures { IfSome result (IsCalledAt entries.now target scale self.old self.new) }
+        ensures { IfSome result (IsCalledAt entries.now leaves.now target scale self.old self.new) }
     {
         let Some(to) = target else {
             return Some(None);
         };
         let (position, entry) = entries.find_full(to, scale)?;
-        self.mark(position).ok()?;
+        if leaves.has(to) {
+            self.mark(position);
+        } else {
+            self.mark_waiting(position).ok()?;
+        }
         Some(Some(entry))
     }
 
-    /// Marks all entries that items call, from a place on. `None` if one isn't kept, or there is no memory, or the items come to a word
-    /// at which nothing stands.
+    /// Marks all entries that items call, from a place on; those of `leaves` don't wait. `None` if one isn't kept, or there is no memory,
+    /// or the items come to a word at which nothing stands.
     pub fn mark_calls<F: Fetch>(
         &mut self,
         entries: &MadeEntries,
+        leaves: &Leaves,
         words: &F,
         first: Place,
     ) -> Option<()>
@@ -96,7 +114,7 @@ impl MarkedEntries {
         requires len { length self.old.marked ≡ length entries.now }
         requires key { IsKey first.scale }
         ensures asked { IfSome result (λ _. AllAskedMarked (F.words words.now) entries.now first self.new) }
-        ensures more { IfSome result (λ _. MarksMore entries.now (Asks (context_of (F.words words.now) entries.now first)
+        ensures more { IfSome result (λ _. MarksMore entries.now leaves.now (Asks (context_of (F.words words.now) entries.now first)
             (F.words words.now) first.at) self.old self.new) }
     {
         let mut here = first;
@@ -106,7 +124,8 @@ impl MarkedEntries {
                 format,
                 instr,
             };
-            let called = self.mark_target(entries, target(here.kind, &instr), here.scale)?;
+            let to = target(here.kind, &instr);
+            let called = self.mark_target(entries, leaves, to, here.scale)?;
             match item.next_address(here.kind) {
                 Some(at) => here = Place {
                     kind: here.kind,

@@ -69,36 +69,38 @@ pub record IsCounted (m : Marks) : Type 0 where
 abbrev pub IsNothing : ℕ → Marks → Type 0
 IsNothing n m = m ≡ record { marked = replicate n false; waiting = []; count = 0 }
 
--- what one mark more changes: it is marked now, and the others are as they were; if it was not marked, it waits
-pub record MarksOne (position : ℕ) (old new : Marks) : Type 0 where
+-- what one mark more changes: it is marked now, and the others are as they were; if it was not marked, it waits, or it
+-- need not wait
+pub record MarksOne (NeedNotWait : Type 0) (position : ℕ) (old new : Marks) : Type 0 where
   pub len : length new.marked ≡ length old.marked
   pub marked : slice_get new.marked position ≡ Some true
   pub kept : (q : ℕ) → slice_get old.marked q ≡ Some true → slice_get new.marked q ≡ Some true
   pub waits : (q : ℕ) → Contains old.waiting q → Contains new.waiting q
-  pub others : (q : ℕ) → slice_get new.marked q ≡ Some true → (slice_get old.marked q ≡ Some true) ⊎ ((q ≡ position) × Contains new.waiting q)
+  pub others : (q : ℕ) → slice_get new.marked q ≡ Some true → (slice_get old.marked q ≡ Some true) ⊎ ((q ≡ position) × (Contains new.waiting q ⊎ NeedNotWait))
   pub less : length new.waiting + 2 * (length new.marked - new.count) ≤ length old.waiting + 2 * (length old.marked - old.count)
 
--- the entry with this address and key is marked
-pub record MarksEntry (list : List Entry) (addr : ℕ) (key : Key) (old new : Marks) (e : Entry) : Type 0 where
+-- the entry with this address and key is marked; where its shape is known to call nothing, it need not wait
+pub record MarksEntry (list : List Entry) (leaves : List Bool) (addr : ℕ) (key : Key) (old new : Marks) (e : Entry) : Type 0 where
   pub position : ℕ
   pub found : entry_at list addr key ≡ Some e
   pub stands : slice_get list position ≡ Some e
-  pub one : MarksOne position old new
+  pub one : MarksOne (slice_get leaves addr ≡ Some true) position old new
 
 -- the entry that is called at a target, if there is one, is marked
-abbrev pub IsCalledAt : List Entry → Option ℕ → Key → Marks → Marks → Option Entry → Type 0
-IsCalledAt list None scale m new called = (called ≡ None) × (new ≡ m)
-IsCalledAt list (Some to) scale m new called = (e : Entry) × (called ≡ Some e) × MarksEntry list to scale m new e
+abbrev pub IsCalledAt : List Entry → List Bool → Option ℕ → Key → Marks → Marks → Option Entry → Type 0
+IsCalledAt list leaves None scale m new called = (called ≡ None) × (new ≡ m)
+IsCalledAt list leaves (Some to) scale m new called = (e : Entry) × (called ≡ Some e) × MarksEntry list leaves to scale m new e
 
--- more are marked, all of which are asked for and wait
-pub record MarksMore (list : List Entry) (IsAsked : ℕ → Key → Type 0) (old new : Marks) : Type 0 where
+-- more are marked, all of which are asked for, and wait or are known to call nothing
+pub record MarksMore (list : List Entry) (leaves : List Bool) (IsAsked : ℕ → Key → Type 0) (old new : Marks) : Type 0 where
   pub len : length new.marked ≡ length old.marked
   pub kept : (q : ℕ) → slice_get old.marked q ≡ Some true → slice_get new.marked q ≡ Some true
   pub waits : (q : ℕ) → Contains old.waiting q → Contains new.waiting q
   pub others :
       (q : ℕ) → slice_get new.marked q ≡ Some true
       → (slice_get old.marked q ≡ Some true)
-      ⊎ (Contains new.waiting q × ((e : Entry) × (slice_get list q ≡ Some e) × (entry_at list e.addr e.key ≡ Some e) × IsAsked e.addr e.key))
+      ⊎ ((e : Entry) × (slice_get list q ≡ Some e) × (entry_at list e.addr e.key ≡ Some e) × IsAsked e.addr e.key
+      × (Contains new.waiting q ⊎ (slice_get leaves e.addr ≡ Some true)))
   pub less : length new.waiting + 2 * (length new.marked - new.count) ≤ length old.waiting + 2 * (length old.marked - old.count)
 
 -- the last one that waits, which is marked, does so no longer

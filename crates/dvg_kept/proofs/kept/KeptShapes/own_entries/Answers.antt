@@ -1,4 +1,4 @@
-use Rattle.std.proofs.Common.{◌≡◌, [], Some, slice_get, sym, ap, subst, ◌∙◌}
+use Rattle.std.proofs.Common.{◌≡◌, [], sym, ap, subst, ◌∙◌}
 use Rattle.dvg_kept.specs.Kept.{Kept}
 use Rattle.dvg_kept.specs.Private.Marks.{IsMarking, Marks}
 use Rattle.dvg_kept.specs.Private.Own.{HasOwn}
@@ -7,13 +7,15 @@ use Rattle.dvg_kept.proofs.Own.{own_list}
 use Rattle.dvg_kept.proofs.Keys.{key_at}
 use Rattle.dvg_kept.proofs.kept.KeptShapes.own_entries.Goals as goal
 
-pub mark_shape-requires-clause-key : goal.mark_shape-requires-clause-key
-mark_shape-requires-clause-key c =
+pub mark_calls-requires-clause-key : goal.mark_calls-requires-clause-key
+mark_calls-requires-clause-key c =
     key_at (record { rom = c.self.inside.rom; window = c.self.inside.window; list = c.self.inside.entries }) c.self.invariant.0 c.in-Some.position c.in_ok-entry.entry (sym c.in_ok-entry.ensures)
 
 pub loop-position-preserved : goal.loop-position-preserved
 loop-position-preserved c =
-    goes_on c.args.self.now.rom c.args.frame.now c.args.self.now.list c.loop-position.marks c.take.new.self c.mark_shape.new.marks c.loop-position.invariant c.in-Some.position c.in-Some.ensures.some c.in_ok-entry.entry (subst (λ (x : Kept). slice_get x.list c.in-Some.position ≡ Some c.in_ok-entry.entry) c.self.view_is (sym c.in_ok-entry.ensures)) c.in_ok-mark_shape.ensures.more c.in_ok-mark_shape.ensures.asked
+    let here : IsMarking c.self.inside.rom c.args.frame.now c.self.inside.entries c.loop-position.marks = subst (λ (x : Kept). IsMarking x.rom c.args.frame.now x.list c.loop-position.marks) (sym c.self.view_is) c.loop-position.invariant in
+    subst (λ (x : Kept). IsMarking x.rom c.args.frame.now x.list c.mark_calls.new.self) c.self.view_is
+    (goes_on c.self.inside.rom c.args.frame.now c.self.inside.entries c.self.inside.leaves c.self.invariant.1 c.loop-position.marks c.take.new.self c.mark_calls.new.self here c.in-Some.position c.in-Some.ensures.some c.in_ok-entry.entry (sym c.in_ok-entry.ensures) c.in_ok-mark_calls.ensures.more c.in_ok-mark_calls.ensures.asked)
 
 pub returns : goal.returns
 returns c =
