@@ -15,7 +15,7 @@ use Rattle.dvg_c.specs.declared.answer.Answer.{Answer}
 use Rattle.dvg_c.specs.declared.machine.TheConstants.{BOARD}
 use Rattle.dvg_c.specs.declared.answer.OutOfRange.{OutOfRange}
 use Rattle.dvg_c.specs.declared.answer.OutOfRange.TheVariants as bad
-use Rattle.dvg_c.specs.Told.{bad_number, machine_of, numbered, told_own, told_with}
+use Rattle.dvg_c.specs.Told.{bad_number, machine_of, numbered, told_own, told_timed}
 
 -- the number stands for a machine, a ROM may lie there, and the window is one for that machine
 pub record AreTaken (machine : ℕ) (map : MemoryMap) (w : Window) : Type 0 where
@@ -48,11 +48,16 @@ abbrev pub told_alone : Result (Result Yes FrameRefusal) OutOfRange → Answer
 told_alone (Ok v) = told_own v
 told_alone (Err b) = numbered (bad_number b)
 
--- the answer tells what the frame comes to, with some clocks
+-- the same, with clocks beside a yes
+abbrev pub told_alone_timed : Result (Result Yes FrameRefusal) OutOfRange → Option ClockRange → Answer
+told_alone_timed (Ok v) clocks = told_timed v clocks
+told_alone_timed (Err b) clocks = numbered (bad_number b)
+
+-- the answer tells what the frame comes to, and if it is accepted it may tell clocks
 abbrev pub TellsAlone : ℕ → List ℕ → MemoryMap → List ℕ → ℕ → Window → Answer → Type 0
 TellsAlone machine rom map frame budget w a =
     (v : Result (Result Yes FrameRefusal) OutOfRange) × (clocks : Option ClockRange) × AloneVerdict machine rom map frame budget w v
-    × (a ≡ told_with clocks (told_alone v))
+    × (a ≡ told_alone_timed v clocks)
 
 -- if clocks are told, each run of the board's circuit takes at most so many, by the states that documentation has for its instructions
 abbrev pub ClocksHold : ℕ → List ℕ → MemoryMap → List ℕ → Answer → Type 0

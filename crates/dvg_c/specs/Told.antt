@@ -99,10 +99,10 @@ told_own (Err (Make at why)) = record (told_fault why) { call = at }
 told_own (Err NoMemory) = told_fault fault.Memory
 told_own (Err (Check r)) = told_refusal r
 
--- an answer with clocks, if they were counted: the most
-abbrev pub told_with : Option ClockRange → Answer → Answer
-told_with None a = a
-told_with (Some clocks) a = record a { clocks = clocks.most }
+-- the same; an accepted frame has also the most clocks, if they were counted
+abbrev pub told_timed : Result Yes FrameRefusal → Option ClockRange → Answer
+told_timed (Ok y) (Some clocks) = record (told_yes y) { clocks = clocks.most }
+told_timed v clocks = told_own v
 
 -- the answer tells a verdict that is this one
 abbrev pub Tells : (Result Yes Refusal → Type 0) → Answer → Type 0

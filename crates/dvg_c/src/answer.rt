@@ -1,7 +1,7 @@
 //! What a judgement comes to, in plain numbers.
 
 ghost use Rattle.std.specs.Prelude.{◌≡◌, ◌≢◌, Ok};
-ghost use Rattle.dvg_c.specs.Told.{bad_number, told_key, numbered, told_yes, told_refusal, told, told_fault, told_own, told_with, yes_of};
+ghost use Rattle.dvg_c.specs.Told.{bad_number, told_key, numbered, told_yes, told_refusal, told, told_fault, told_own, told_timed, yes_of};
 
 use dvg_cert::Key;
 use dvg_check::{Refusal, Yes};
@@ -194,15 +194,17 @@ pub fn own_answer(verdict: &Result<Yes, FrameRefusal>) -> Answer
 
 /// What a verdict on a frame by its own certificate comes to, with the clocks of an accepted frame, if they were counted.
 pub fn timed_answer(verdict: &Result<Yes, FrameRefusal>, clocks: &Option<ClockRange>) -> Answer
-    ensures value { result ≡ told_with clocks.now (told_own verdict.now) }
+    ensures value { result ≡ told_timed verdict.now clocks.now }
     ensures accepted { result.number ≡ 0 → verdict.now ≡ Ok (yes_of result) }
 {
-    let answer = own_answer(verdict);
-    match clocks {
-        Some(clocks) => Answer {
-            clocks: clocks.most,
-            ..answer
+    match verdict {
+        Ok(yes) => match clocks {
+            Some(clocks) => Answer {
+                clocks: clocks.most,
+                ..accepted(yes)
+            },
+            None => accepted(yes),
         },
-        None => answer,
+        Err(_) => own_answer(verdict),
     }
 }
