@@ -4,7 +4,7 @@ use Rattle.dvg_cmd.specs.Frames.{AnswerMeans, JudgesAlike, Slow, Timed, Unread, 
 use Rattle.dvg_cmd.specs.SeveralFrames.{AnswersOpened, IsLineOf}
 use Rattle.dvg_cmd.specs.declared.listing.Listing.{Listing}
 use Rattle.dvg_cmd.specs.declared.several_frames.NamedFrame.{NamedFrame}
-use Rattle.dvg_spelling.specs.declared.tally.Tally.{Tally}
+use Rattle.dvg_cmd.specs.declared.summary.FramesSummary.{FramesSummary}
 use Rattle.dvg_cmd.proofs.Common.{FrameOutcome}
 
 if_some : {A : Type 0} (o : Option A) (P Q : A → Type 0) → ((x : A) → P x → Q x) → IfSome o P → IfSome o Q
@@ -48,9 +48,9 @@ module _ (first later : Judging) (alike : JudgesAlike first later) (start : Opti
         opened None h = h
         opened (Some reader) h = (h.0, answer_alike (remaining reader) (remaining h.0) line.answer h.1, h.2)
 
-    pub writes_alike : (old new : Option (List ℕ)) (tally tally_after : Tally) (writes writes_after : ℕ) (end : FrameOutcome) → WritesLineOf remaining failures later listing start frame old new tally tally_after writes writes_after end
-        → WritesLineOf remaining failures first listing start frame old new tally tally_after writes writes_after end
-    writes_alike old new tally tally_after writes writes_after end w = record { line = w.line; line_of = line_alike w.line w.line_of; written = w.written; one_write = w.one_write; end_is = w.end_is; tally_is = w.tally_is }
+    pub writes_alike : (old new : Option (List ℕ)) (sum sum_after : FramesSummary) (writes writes_after : ℕ) (end : FrameOutcome) → WritesLineOf remaining failures later listing start frame old new sum sum_after writes writes_after end
+        → WritesLineOf remaining failures first listing start frame old new sum sum_after writes writes_after end
+    writes_alike old new sum sum_after writes writes_after end w = record { line = w.line; line_of = line_alike w.line w.line_of; written = w.written; one_write = w.one_write; end_is = w.end_is; sum_is = w.sum_is }
 
     pub cut_alike : (old new : Option (List ℕ)) → WritesLineOfPrefix remaining failures later listing start frame old new → WritesLineOfPrefix remaining failures first listing start frame old new
     cut_alike old new w = record { line = w.line; line_of = line_alike w.line w.line_of; written = w.written }

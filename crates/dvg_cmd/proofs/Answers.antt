@@ -9,7 +9,8 @@ use Rattle.dvg_clocks.specs.declared.judging.TimedYes.{TimedYes}
 use Rattle.dvg_check.specs.declared.verdict.Refusal.{Refusal}
 use Rattle.dvg_make.specs.declared.judging.FrameRefusal.TheVariants.{Check}
 use Rattle.dvg_cmd.specs.Frames.{Slow, Timed, TimedAnswer, Unread, judged_timed, refusal_in, timed_answer, told_with, yes_in}
-use Rattle.dvg_cmd.specs.Private.Judging.{IsAnswerOf, IsKeptFor, IsTimedFor}
+use Rattle.dvg_cmd.specs.Kept.{IsKeptFor, IsTimedFor}
+use Rattle.dvg_cmd.specs.Private.Judging.{IsAnswerOf}
 use Rattle.dvg_clocks.specs.Judging.{IsTimed}
 use Rattle.dvg_kept.specs.Timed.{TimedKept}
 use Rattle.dvg_kept.specs.Kept.{Kept}

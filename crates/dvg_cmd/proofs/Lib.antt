@@ -10,3 +10,4 @@ pub mod Alike
 pub mod Naming
 pub mod LineByLine
 pub mod ReachingLines
+pub mod Writing

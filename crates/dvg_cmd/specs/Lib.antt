@@ -3,7 +3,9 @@ pub mod Roots
 pub mod Runs
 pub mod Start
 pub mod Names
+pub mod Most
 pub mod SafeFrames
+pub mod Kept
 pub mod Frames
 pub mod SeveralFrames
 pub mod Making

@@ -1,6 +1,7 @@
 -- Definitions for the code alone; no clause of a public call uses them.
 pub mod Inputs
 pub mod Judging
+pub mod Leading
 pub mod Named
 pub mod Reading
 pub mod Sent

@@ -16,14 +16,15 @@ use Rattle.dvg_check.specs.declared.verdict.Refusal.{Refusal}
 use Rattle.dvg_check.specs.declared.verdict.Refusal.TheVariants as refusal
 use Rattle.dvg_spelling.specs.Each.{of_each}
 use Rattle.dvg_spelling.specs.Outcomes.{plain_outcome}
-use Rattle.dvg_spelling.specs.declared.tally.Tally.{Tally}
-use Rattle.dvg_spelling.specs.Tally.{no_lines, with_answer, summary_text}
+use Rattle.dvg_spelling.specs.Tally.{no_lines, with_answer as counted, summary_text}
 use Rattle.dvg_spelling.specs.declared.outcome.FrameOutcome.TheVariants as outcome
 use Rattle.dvg_cmd.specs.Detail.{Detail, Behind, IsBehind, behind_text, frame_outcome_behind}
 use Rattle.dvg_cmd.specs.declared.listing.Lines.{Lines}
 use Rattle.dvg_cmd.specs.declared.listing.Lines.TheVariants as which
 use Rattle.dvg_cmd.specs.declared.listing.Listing.{Listing}
 use Rattle.dvg_cmd.specs.declared.several_frames.NamedFrame.{NamedFrame}
+use Rattle.dvg_cmd.specs.declared.summary.FramesSummary.{FramesSummary}
+use Rattle.dvg_cmd.specs.Most.{most_texts, with_frame}
 use Rattle.dvg_cmd.specs.Runs.{Outcome, WritesReport, WritesReportPrefix}
 use Rattle.dvg_cmd.specs.Frames.{FrameAnswer, Unread, FrameOutcome, frame_outcome_of, worse, frame_line, is_unread, Judging, AnswersFrame, judged_over}
 
@@ -65,19 +66,31 @@ written_lines shown (line ∷ rest) =
 abbrev pub line_texts : Lines → List Line → List (List ℕ)
 line_texts shown lines = of_each line_text (written_lines shown lines)
 
--- what the answers of lines add to a tally, whether they are written or not
-abbrev pub tally_on : Tally → List Line → Tally
-tally_on t [] = t
-tally_on t (line ∷ rest) = tally_on (with_answer t line.answer) rest
+-- what is known of no frame
+abbrev pub no_frames : FramesSummary
+no_frames = record { tally = no_lines; most = None }
 
--- the last text, if a summary is asked for
-abbrev pub summary_of : Bool → Tally → List (List ℕ)
-summary_of true tally = summary_text tally ∷ []
-summary_of false tally = []
+-- what a frame of this name adds to what is known, by its answer
+abbrev pub summed_with : FramesSummary → List ℕ → FrameAnswer → FramesSummary
+summed_with s name answer = record { tally = counted s.tally answer; most = with_frame s.most name answer }
+
+-- what lines add to it, whether they are written or not
+abbrev pub summed_on : FramesSummary → List Line → FramesSummary
+summed_on s [] = s
+summed_on s (line ∷ rest) = summed_on (summed_with s line.name line.answer) rest
+
+-- the texts that tell it: the frames that take most, and how many lines say what
+abbrev pub summary_texts : FramesSummary → List (List ℕ)
+summary_texts s = most_texts s.most ++ summary_text s.tally ∷ []
+
+-- the last texts, if a summary is asked for
+abbrev pub summary_of : Bool → FramesSummary → List (List ℕ)
+summary_of true s = summary_texts s
+summary_of false s = []
 
 -- all texts that are written, in their order
 abbrev pub listing_texts : Listing → List Line → List (List ℕ)
-listing_texts listing lines = line_texts listing.lines lines ++ summary_of listing.summary (tally_on no_lines lines)
+listing_texts listing lines = line_texts listing.lines lines ++ summary_of listing.summary (summed_on no_frames lines)
 
 -- texts, one after another
 abbrev pub joined : List (List ℕ) → List ℕ

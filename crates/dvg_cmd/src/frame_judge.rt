@@ -14,7 +14,8 @@ ghost use Rattle.dvg_cmd.specs.Frames.{JudgesAlike, Judging, MayJudgeOver, Verdi
 ghost use Rattle.dvg_cmd.specs.declared.detail.Detail.{Detail};
 ghost use Rattle.dvg_cmd.specs.declared.detail.Detail.TheVariants as details;
 ghost use Rattle.dvg_cmd.specs.declared.timed_judge.LineClocks.{LineClocks};
-ghost use Rattle.dvg_cmd.specs.Private.Judging.{AreImages, IsAnswerOf, IsKeptFor};
+ghost use Rattle.dvg_cmd.specs.Kept.{IsKeptFor};
+ghost use Rattle.dvg_cmd.specs.Private.Judging.{AreImages, IsAnswerOf};
 
 use crate::detail::{Behind, Detail};
 use dvg_account::{Inputs, ShapeStarts, frame_text, timed_text};

@@ -18,6 +18,7 @@ mod listing;
 mod making;
 mod making_frames;
 mod messages;
+mod most;
 mod names;
 mod placing;
 mod reading;
@@ -27,6 +28,7 @@ mod rules;
 mod running;
 mod several_frames;
 mod start;
+mod summary;
 mod timed_judge;
 
 pub use comparing::run_comparison;

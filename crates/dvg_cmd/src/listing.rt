@@ -23,7 +23,7 @@ pub struct Listing<'a> {
     /// Which frames have a line.
     pub lines: Lines,
     /// Whether a last line says how many frames were accepted, refused by each number, not to be read, and out of memory, whether
-    /// they have a line or not.
+    /// they have a line or not; and, where lines tell clocks, three lines before it which accepted frames take most.
     pub summary: bool,
 }
 

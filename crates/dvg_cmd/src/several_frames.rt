@@ -19,12 +19,13 @@ use crate::frame_judge::{FrameJudge, GivenCertificate};
 use crate::frame_run::{answer_of, unread_account, write_answer};
 use crate::listing::Listing;
 use crate::running::{text_account, write_report};
+use crate::summary::FramesSummary;
 use dvg_account::{Inputs, verdict_text};
 use dvg_cert::{Cert, CertFault, HashIndex};
 use dvg_check::{JudgedShapes, Mode, Refusal, RomFinding};
 use dvg_form::TextWatch;
-use dvg_spelling::{FrameAnswer, FrameOutcome, RunFault, Tally, frame_outcome_of, summary_of};
-use dvg_text::{CountedRead, CountedWrite, write_lines};
+use dvg_spelling::{FrameAnswer, FrameOutcome, RunFault, frame_outcome_of};
+use dvg_text::{CountedRead, CountedWrite};
 use dvg_words::{Machine, RomImage, Window};
 use std::alloc::Global;
 
@@ -101,19 +102,19 @@ fn write_listed<W: CountedWrite>(
     }
 }
 
-/// Judges a frame whose turn it is, counts its line, and writes it if the listing has it.
+/// Judges a frame whose turn it is, writes its line if the listing has it, and takes it into the summary.
 fn run_named<J: FrameJudge, R: CountedRead + Drop, W: CountedWrite>(
     alloc: Global,
     judge: &mut J,
     start: Option<u16>,
     frame: NamedFrame<R>,
     listing: Listing,
-    tally: &mut Tally,
+    summary: &mut FramesSummary,
     out: &mut W,
 ) -> Result<FrameOutcome, RunFault>
     requires { J.valid judge.old listing.detail }
     ensures ok { IfOk result (WritesLineOf R.remaining R.failures (J.judging judge.old) listing.entry start
-        frame (W.contents out.old) (W.contents out.new) tally.old tally.new
+        frame (W.contents out.old) (W.contents out.new) summary.old summary.new
         (W.whole_writes out.old) (W.whole_writes out.new)) }
     ensures prefix { OnErr result (WritesLineOfPrefix R.remaining R.failures (J.judging judge.old) listing.entry start
         frame (W.contents out.old) (W.contents out.new)) }
@@ -124,28 +125,32 @@ fn run_named<J: FrameJudge, R: CountedRead + Drop, W: CountedWrite>(
 {
     let NamedFrame { name, reader } = frame;
     let (answer, behind) = answer_opened(alloc, judge, start, reader, listing);
-    tally.add(&answer);
-    write_listed(name.as_str(), &answer, &behind, listing, out)
+    let outcome = write_listed(name.as_str(), &answer, &behind, listing, out)?;
+    summary.add(alloc, name, &answer);
+    Ok(outcome)
 }
 
 /// Writes the summary, if it is asked for.
-fn write_summary<W: CountedWrite>(summary: bool, tally: &Tally, out: &mut W) -> Result<(), RunFault>
-    ensures written { OnOk result (Appends (W.contents out.old) (W.contents out.new) (joined (summary_of summary tally.now))) }
-    ensures one_write { OnOk result (TakeOneWriteEach (summary_of summary tally.now) (W.whole_writes out.old) (W.whole_writes out.new)) }
-    ensures prefix { OnErr result (AppendsPrefix (W.contents out.old) (W.contents out.new) (joined (summary_of summary tally.now))) }
+fn write_summary<W: CountedWrite>(
+    asked: bool,
+    summary: &FramesSummary,
+    out: &mut W,
+) -> Result<(), RunFault>
+    ensures written { OnOk result (Appends (W.contents out.old) (W.contents out.new) (joined (summary_of asked summary.now))) }
+    ensures one_write { OnOk result (TakeOneWriteEach (summary_of asked summary.now) (W.whole_writes out.old) (W.whole_writes out.new)) }
+    ensures prefix { OnErr result (AppendsPrefix (W.contents out.old) (W.contents out.new) (joined (summary_of asked summary.now))) }
     ensures fault { IfErr result (λ fault. fault ≡ RunFault.Write) }
     ensures count { W.failures out.new ≡ count_after (is_err result) (W.failures out.old) }
 {
-    if summary {
-        let line = summary_of(tally);
-        write_lines(line.as_slice(), &[], &[], out)?;
+    if asked {
+        summary.write(out)?;
     }
     Ok(())
 }
 
 /// Judges frames, one after another, and writes a line for each that the listing has: the name, which has no control characters, a
 /// colon, a space, and the report; and an account of the answer behind it if the detail asks for one. At the end it writes the
-/// summary if it is asked for, and answers the worst outcome of all.
+/// summary if it is asked for, behind lines of the frames that take most if lines tell clocks, and answers the worst outcome of all.
 ///
 /// With a start, which is below 1000 hexadecimal, a frame is judged as though its word 000 were the jump there. Each frame is read to
 /// its end, or to one byte past its limit, and nothing is tried again. A frame that can't be opened or read has a line, too. The next
@@ -181,12 +186,12 @@ pub fn run_frames<
     ensures fault { IfErr result (λ fault. fault ≡ RunFault.Write) }
     ensures count { W.failures out.new ≡ count_after (is_err result) (W.failures out.old) }
 {
-    let mut tally = Tally::new();
+    let mut summary = FramesSummary::new();
     let mut worst = FrameOutcome::Accepted;
     for frame in frames {
-        worst = worst.or_worse(run_named(alloc, judge, start, frame, listing, &mut tally, out)?);
+        worst = worst.or_worse(run_named(alloc, judge, start, frame, listing, &mut summary, out)?);
     }
-    write_summary(listing.summary, &tally, out)?;
+    write_summary(listing.summary, &summary, out)?;
     Ok(worst)
 }
 

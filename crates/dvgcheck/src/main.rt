@@ -5,6 +5,7 @@
 #![tactic(auto)]
 
 ghost use Rattle.std.specs.Iterator.{IsFinite};
+ghost use Rattle.std.specs.Prelude.{◌≡◌};
 
 mod command;
 mod escaping;
@@ -137,7 +138,13 @@ fn own_certificates<'a>(
     rom: &'a [u8],
     map: RomMap,
     others: Option<&'a ShapeStarts>,
-) -> OwnCertificates<'a> {
+) -> OwnCertificates<'a>
+    ensures machine { result.machine ≡ asked.now.options.machine }
+    ensures rom { result.rom.now ≡ rom.now }
+    ensures map { result.map ≡ map }
+    ensures budget { result.budget ≡ asked.now.options.budget }
+    ensures window { result.window ≡ asked.now.options.window }
+{
     OwnCertificates {
         machine: asked.options.machine,
         rom,

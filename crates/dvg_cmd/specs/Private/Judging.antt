@@ -9,9 +9,6 @@ use Rattle.dvg_check.specs.Verdict.{InRange, RomVerdict}
 use Rattle.dvg_check.specs.declared.fault.Mode.{Mode}
 use Rattle.dvg_check.specs.declared.verdict.Refusal.{Refusal}
 use Rattle.dvg_check.specs.declared.verdict.Yes.{Yes}
-use Rattle.dvg_clocks.specs.declared.frames.Timing.{Timing}
-use Rattle.dvg_kept.specs.Kept.{Kept}
-use Rattle.dvg_kept.specs.Timed.{TimedKept}
 use Rattle.dvg_cmd.specs.Frames.{FrameAnswer, Judging, is_unread, refusal_in, yes_in}
 
 -- these are the frame's words and the ROM of bytes that can be judged
@@ -28,18 +25,6 @@ pub record JudgesRom
     (verdict : Result Yes Refusal) : Type 0 where
   pub is : RomVerdict machine mode w rom c words budget verdict
   pub means : IfOk verdict (λ y. Means mode (record { frame = words; rom = rom_on machine c.map rom }) w y.words y.depth)
-
--- what is kept is of the ROM of these bytes on a machine, which have the length of its map, and of this window
-pub record IsKeptFor (machine : Machine) (rom : List ℕ) (map : MemoryMap) (w : Window) (kept : Kept) : Type 0 where
-  pub rom_length : IsRomLength map (length rom)
-  pub rom_is : kept.rom ≡ rom_on machine map rom
-  pub window_is : kept.window ≡ w
-
--- so it is, with the states of instructions by which clocks are counted
-pub record IsTimedFor
-    (timing : Timing) (machine : Machine) (rom : List ℕ) (map : MemoryMap) (w : Window) (timed : TimedKept) : Type 0 where
-  pub kept : IsKeptFor machine rom map w timed.kept
-  pub states : timed.states ≡ timing.states
 
 -- each clause of a judge holds of its answer to these bytes
 pub record IsAnswerOf (j : Judging) (bytes : List ℕ) (a : FrameAnswer) : Type 0 where

@@ -22,10 +22,10 @@ loop-frame-preserved g c = search (rules, more_lines g.R.Read.remaining g.R.Coun
 pub returns-in_err-write_summary-clause-prefix : goal.returns-in_err-write_summary-clause-prefix
 returns-in_err-write_summary-clause-prefix g c =
     let all : Drains g.I.Iterator.next_gives c.args.frames c.loop-frame.yielded = search rules in
-    let cut = cut_summary g.R.Read.remaining g.R.CountedRead.failures _ c.args.listing c.args.start _ _ _ _ _ _ _ _ _ c.new-tally.ensures c.loop-frame.invariant.reports c.in_err-write_summary.ensures.prefix in
+    let cut = cut_summary g.R.Read.remaining g.R.CountedRead.failures _ c.args.listing c.args.start _ _ _ _ _ _ _ _ _ c.new-summary.ensures c.loop-frame.invariant.reports c.in_err-write_summary.ensures.prefix in
     on_err c.from_residual-in_err-write_summary.result (c.loop-frame.yielded, all.1.0, all.1.1, cut)
 
 pub returns-clause-report : goal.returns-clause-report
 returns-clause-report g c =
     let all : Drains g.I.Iterator.next_gives c.args.frames c.loop-frame.yielded = search rules in
-    (c.loop-frame.yielded, all, with_summary g.R.Read.remaining g.R.CountedRead.failures _ c.args.listing c.args.start _ _ _ _ _ _ _ _ _ c.new-tally.ensures c.loop-frame.invariant.reports _ c.in_ok-write_summary.ensures.written c.in_ok-write_summary.ensures.one_write)
+    (c.loop-frame.yielded, all, with_summary g.R.Read.remaining g.R.CountedRead.failures _ c.args.listing c.args.start _ _ _ _ _ _ _ _ _ c.new-summary.ensures c.loop-frame.invariant.reports _ c.in_ok-write_summary.ensures.written c.in_ok-write_summary.ensures.one_write)
