@@ -1,25 +1,26 @@
 """How long a frame takes: clocks.py PROGRAM TRACE FOLDER EXAMPLES
 
-The clocks that dvg_trace has of a frame, until it halts, are to be the emulator's: its emulated time from GO to the halt that the
-processor sees, to the clock. Each run but the emulator's first takes one clock more there: it seems that its latch of states first has
-to take in that the generator is no longer halted. How many states an instruction has is by the PROM of emulator.py.
+The clocks that `frames --board --clocks` tells of an accepted frame are held to the emulator's: its emulated time from GO to the halt that
+the processor sees, to the clock. Each run but the emulator's first takes one clock more there: it seems that its latch of states first has
+to take in that the generator is no longer halted. How many states an instruction has is by the PROM of emulator.py. `clocks=C` is to be
+that time, and `clocks<=C`, of a dark draw at an unknown scale, no less than it; that some frames take just C shows that C is not too great.
 
 The frames are those of frames.py, and as many short ones that are dark and mostly come before the first LABS, from each scale that the
 generator may hold at the start: draws and calls, four deep, by tail jumps, and jumps of the frame.
 
-Of the frames that `frames --board` accepts the clocks of dvg_trace are also to be those that sums.py adds up, item by item, from the
-scale at the start; and, where that is not known, no less than the least and no more than the most that it adds up.
+The emulator has to be told near which clock to look. Where the program tells no single number, since the frame is refused or the scale at
+the start matters, that is the clock of dvg_trace. So its clocks are compared as well, and just there: of refused frames nothing else is.
 """
 
 import os
+import re
 import sys
-from itertools import islice
+from typing import NamedTuple
 
-from circuit import memory, traced_clocks
+from circuit import traced_clocks
 from emulator import Run, Timed, lateness
-from frames import FEW, Lot, all_lots, lines, started
+from frames import FEW, Lot, all_lots, lines, spelled, started
 from lists import Chance, Window, some_rom
-from sums import Sums
 from words import HALT, as_bytes, call, jump, labs, short_vector, vector
 
 SEED = 61
@@ -71,13 +72,39 @@ def dark_lots():
         yield Lot(rom.words, Window(), runs)
 
 
+# ---- what the program says
+
+class Told(NamedTuple):
+    clocks: int
+    is_bound: bool
+
+
+def told_by(line):
+    """The clocks in a frame's line; none if it is refused."""
+    if line.startswith("refused"):
+        return None
+    told = re.fullmatch(r"accepted words=\d+ depth=\d clocks(<?)=(\d+)", line)
+    if told is None:
+        raise SystemExit(f"FAILED: frames --board --clocks: {line}")
+    return Told(int(told[2]), told[1] == "<")
+
+
+def all_told(program, folder, lot):
+    options = ["--window", spelled(lot.window), "--clocks"]
+    return [told_by(line) for line in lines(program, folder, lot, options)]
+
+
+def is_exact(told):
+    return told is not None and not told.is_bound
+
+
 # ---- the clocks compared
 
 class Clocks:
     """What is said of the clocks, frame by frame."""
 
     def __init__(self):
-        self.late, self.clocks, self.exact, self.between, self.widest, self.differ = [], [], 0, 0, 0, 0
+        self.exact, self.spare, self.refused, self.late, self.differ = [], [], 0, [], 0
 
     def differs(self, lot, run, what):
         self.differ += 1
@@ -86,27 +113,31 @@ class Clocks:
         if self.differ == 1:
             print(f"with {run[1:]}, of the frame {as_bytes(run.frame).hex()}, over the ROM {as_bytes(lot.rom).hex()}")
 
-    def compare_emulated(self, lot, timed, late):
-        self.late.append(late)
-        self.clocks.append(timed.clocks)
-        if late != STARTING:
-            self.differs(lot, timed.run, f"the circuit takes {timed.clocks} clocks, the emulator {late:+} with GO, not {STARTING:+}")
+    def count(self, told, emulated):
+        if told is None:
+            self.refused += 1
+        elif told.is_bound:
+            self.spare.append(told.clocks - emulated)
+        else:
+            self.exact.append(emulated)
 
-    def compare_sum(self, lot, timed, sums):
-        least, most, _ = sums.frame()
-        known = sums.items(0, timed.run.scale)
-        self.exact += least == most
-        self.between += least < most
-        self.widest = max(self.widest, most - least)
-        if not least <= known.least == timed.clocks == known.most <= most:
-            self.differs(lot, timed.run, f"the circuit takes {timed.clocks} clocks, and by its items it's {known.most}, {least} to {most}")
+    def compare(self, lot, timed, told, late):
+        emulated = timed.clocks + late - STARTING
+        self.late.append(late - STARTING)
+        self.count(told, emulated)
+        if late != STARTING:
+            teller = "the program tells" if is_exact(told) else "dvg_trace has"
+            self.differs(lot, timed.run, f"{teller} {timed.clocks} clocks, the emulator {late:+} with GO, not {STARTING:+}")
+        elif told and told.clocks < emulated:
+            self.differs(lot, timed.run, f"the program tells {told.clocks} clocks at most, the emulator takes {emulated}")
 
     def report(self):
-        least, most = min(self.late), max(self.late)
-        print(f"clocks: {len(self.clocks)} frames compared, {self.differ} differ: of {min(self.clocks)} to {max(self.clocks)} clocks, in all "
-              f"{sum(self.clocks)}; the emulator halts {least} to {most} clocks later")
-        print(f"clocks by sums of items: {self.exact} frames of one number, {self.between} of a range, of {self.widest} clocks at most")
-        few = self.between < 500 or self.exact < 3000
+        tight = self.spare.count(0)
+        print(f"clocks: {len(self.late)} frames compared, {self.differ} differ, the largest difference is {max(map(abs, self.late))}: "
+              f"{len(self.exact)} of clocks=C, which take {min(self.exact)} to {max(self.exact)} clocks, in all {sum(self.exact)}; "
+              f"{len(self.spare)} of clocks<=C, of which {tight} take just C and the others up to {max(self.spare)} less; "
+              f"{self.refused} refused, by dvg_trace")
+        few = len(self.exact) < 3000 or len(self.spare) < 500 or tight < 50 or self.refused < 1000
         if few:
             print("FAILED: too few of a kind")
         return 1 if few or self.differ else 0
@@ -114,16 +145,15 @@ class Clocks:
 
 def main(program, trace, folder, examples):
     lots = [*all_lots(examples), *dark_lots()]
-    timed = [[Timed(run, traced_clocks(trace, folder, lot.rom, run)) for run in lot.runs] for lot in lots]
+    told = [all_told(program, folder, lot) for lot in lots]
+    timed = [[Timed(run, one.clocks if is_exact(one) else traced_clocks(trace, folder, lot.rom, run)) for run, one in zip(lot.runs, each)]
+             for lot, each in zip(lots, told)]
     late = lateness(os.path.join(folder, "clocks"), FIRST + [(lot.rom, runs) for lot, runs in zip(lots, timed)])
     next(late)
     clocks = Clocks()
-    for lot, runs in zip(lots, timed):
-        answers = lines(program, folder, lot, ["--window", ",".join(map(str, lot.window))])
-        for one, line, later in zip(runs, answers, islice(late, len(runs))):
-            clocks.compare_emulated(lot, one, later)
-            if line.startswith("accepted"):
-                clocks.compare_sum(lot, one, Sums(memory(lot.rom, one.run.frame)))
+    for lot, runs, each in zip(lots, timed, told):
+        for one, told_of_it in zip(runs, each):
+            clocks.compare(lot, one, told_of_it, next(late))
     return clocks.report()
 
 
