@@ -1,5 +1,6 @@
 """What the simulated games of this folder share: chance, things that move, words of lists, and how frames are noted."""
 
+import os
 import random
 import struct
 import sys
@@ -10,10 +11,10 @@ HALT, DOT = 0xB000, (0x9000, 0xF000)
 
 
 class Chance:
-    """Random numbers that are the same in all versions of Python."""
+    """Random numbers that are the same in all versions of Python. PLAY_SEED in the environment gives another game."""
 
     def __init__(self, seed):
-        self.next = random.Random(seed).random
+        self.next = random.Random(int(os.environ.get("PLAY_SEED", seed))).random
 
     def below(self, end):
         return int(self.next() * end)

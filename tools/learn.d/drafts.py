@@ -143,7 +143,7 @@ class Drafter:
         to = ""
         if leads(seen):
             places = rectangle_of([place for each in seen for place in (each.before, each.behind)])
-            to = f" to {cut_rectangle(places, Rectangle(*map(wider, places)), safe_places(self.window, None))}"
+            to = f" to {cut_rectangle(places, self.field.widened(places), safe_places(self.window, None))}"
         across, up = (wider_size(sizes) if to else sizes for sizes in (across, up))
         return Line(f"vctr {first.draw.scale} x {across} y {up} bright {bright}{to}", 2)
 

@@ -70,7 +70,7 @@ class Field:
         self.all = rectangle_of(places) if places else None
 
     def widened(self, seen):
-        axes = zip(seen, self.all)
+        axes = zip(seen, self.all or seen)
         return Rectangle(*(wider(field if 2 * (part.most - part.least) > field.most - field.least else part) for part, field in axes))
 
 
