@@ -14,8 +14,8 @@ from machine import JSRL, SVEC
 from passing import Passed, moved
 from recipes import Line, either, hexadecimal, most_words, repeat, spell
 from recordings import Call, Place, Stroke
-from widening import (MOST_SIZE, CallSets, Field, Range, Rectangle, Turns, cut_rectangle, range_of, rectangle_of, safe_places, turns_of,
-                      wider)
+from widening import (MOST_SIZE, CallSets, Field, Range, Rectangle, Turns, cut_rectangle, range_of, rectangle_of, safe_places, spanning,
+                      turns_of, wider)
 
 MOST_LISTS, MOST_KINDS = 8, 3
 
@@ -143,7 +143,8 @@ class Drafter:
         to = ""
         if leads(seen):
             places = rectangle_of([place for each in seen for place in (each.before, each.behind)])
-            to = f" to {cut_rectangle(places, self.field.widened(places), safe_places(self.window, None))}"
+            wide = Rectangle(*map(spanning, map(wider, places), self.field.widened(places)))
+            to = f" to {cut_rectangle(places, wide, safe_places(self.window, None))}"
         across, up = (wider_size(sizes) if to else sizes for sizes in (across, up))
         return Line(f"vctr {first.draw.scale} x {across} y {up} bright {bright}{to}", 2)
 

@@ -28,6 +28,10 @@ def common(one, other):
     return Range(max(one.least, other.least), min(one.most, other.most))
 
 
+def spanning(one, other):
+    return Range(min(one.least, other.least), max(one.most, other.most))
+
+
 def wider(seen):
     """A range of places that is longer by a quarter of its length at both ends. One place stays so."""
     if seen.least == seen.most:
