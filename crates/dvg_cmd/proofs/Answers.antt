@@ -42,7 +42,7 @@ module _ (j : Judging) (start : Option ℕ) (reader left : Option (List ℕ)) wh
 
 -- ---- what a frame comes to
 
-read_from : (reader : Option (List ℕ)) (bytes : List ℕ) → IsPrefix 2049 reader bytes → IsReadFrom reader bytes
+pub read_from : (reader : Option (List ℕ)) (bytes : List ℕ) → IsPrefix 2049 reader bytes → IsReadFrom reader bytes
 unfolding limited
 read_from reader bytes read = record { first = read.first; whole = λ h. grind (arith, (frame_same reader bytes read h)) }
 

@@ -1,6 +1,6 @@
 //! The answer to one frame that a reader holds, and its line.
 
-ghost use Rattle.std.specs.Prelude.{◌≡◌, ◌++◌, IfOk, IfErr, OnOk, OnErr, is_err};
+ghost use Rattle.std.specs.Prelude.{◌≡◌, ◌≤◌, ◌++◌, take, IfOk, IfErr, OnOk, OnErr, is_err};
 ghost use Rattle.std.specs.Io.KnownBytes.{Appends};
 ghost use Rattle.dvg_text.specs.Devices.{AppendsPrefix, TakesOneWrite, count_after};
 ghost use Rattle.dvg_cmd.specs.Detail.{IsBehind, behind_text, frame_outcome_behind};
@@ -9,9 +9,8 @@ ghost use Rattle.dvg_cmd.specs.Frames.{JudgesAlike, ReadsFrame, AnswersFrame, fr
 
 use crate::detail::{Behind, Detail};
 use crate::frame_judge::FrameJudge;
-use crate::reading::read_frame;
+use crate::reading::read_prefix;
 use crate::start::start_at;
-use arrayvec::ArrayVec;
 use dvg_account::{PlainWhy, plain_text};
 use dvg_spelling::{FrameAnswer, FrameOutcome, RunFault, frame_outcome_of, frame_report_of};
 use dvg_text::{CountedRead, CountedWrite, write_lines};
@@ -19,20 +18,24 @@ use dvg_words::Machine;
 use std::alloc::Global;
 use std::io;
 
-/// The bytes of a frame, up to one past its limit, which is 2048, with the jump to its start in place of word 000, if one is given. Fails
-/// as the reader does. Takes no memory.
-#[tactic(auto, using(crate::proofs::Answers::reads_frame))]
+/// How many bytes are read of a frame at most: one past its limit, which is 2048.
+pub const FRAME_READ: usize = 2049;
+
+/// Fills a buffer with the bytes of a frame, up to one past its limit, with the jump to its start in place of word 000, if one is given, and
+/// answers how many these are. Fails as the reader does.
 pub fn read_started<R: CountedRead>(
     frame: &mut R,
     start: Option<u16>,
-) -> io::Result<ArrayVec<u8, 2049>>
-    ensures bytes { IfOk result (λ image. ReadsFrame (R.remaining frame.old) start image.items) }
+    buffer: &mut [u8; FRAME_READ],
+) -> io::Result<usize>
+    ensures within { IfOk result (λ len. len ≤ MOST_FRAME_READ) }
+    ensures bytes { IfOk result (λ len. ReadsFrame (R.remaining frame.old) start (take len buffer.new)) }
     ensures read { OnOk result (IsReadTo MOST_FRAME_READ (R.remaining frame.old) (R.remaining frame.new)) }
     ensures count { R.failures frame.new ≡ count_after (is_err result) (R.failures frame.old) }
 {
-    let mut bytes = read_frame(frame)?;
-    start_at(bytes.as_mut_slice(), start);
-    Ok(bytes)
+    let len = read_prefix(frame, buffer)?;
+    start_at(&mut buffer[..len], start);
+    Ok(len)
 }
 
 /// What the detail asks for behind the line of an answer with this number, for which no item was looked at.
@@ -74,8 +77,9 @@ pub fn answer_of<J: FrameJudge, R: CountedRead>(
     ensures valid { J.valid judge.new detail.entry }
     ensures same { JudgesAlike (J.judging judge.old) (J.judging judge.new) }
 {
-    match read_started(frame, start) {
-        Ok(bytes) => judge.answer(alloc, bytes.as_slice(), detail),
+    let mut buffer = [0; FRAME_READ];
+    match read_started(frame, start, &mut buffer) {
+        Ok(len) => judge.answer(alloc, &buffer[..len], detail),
         Err(_) => (
             FrameAnswer::Unread,
             unread_account(judge.machine(), alloc, detail),

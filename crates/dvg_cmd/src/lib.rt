@@ -115,6 +115,7 @@ pub use frame_judge::FrameJudge;
 pub use frame_judge::GivenCertificate;
 pub use frame_judge::KeptCertificates;
 pub use frame_judge::OwnCertificates;
+pub use frame_run::FRAME_READ;
 pub use frame_run::plain_account;
 pub use frame_run::read_started;
 pub use frame_run::unread_account;

@@ -36,7 +36,7 @@ pub fn fill<R: CountedRead>(reader: &mut R, buf: &mut [u8]) -> io::Result<usize>
 }
 
 /// Fills the buffer, or less of it where the reader ends before, with the first of the bytes that the reader holds.
-fn read_prefix<R: CountedRead>(reader: &mut R, buf: &mut [u8]) -> io::Result<usize>
+pub fn read_prefix<R: CountedRead>(reader: &mut R, buf: &mut [u8]) -> io::Result<usize>
     ensures within { IfOk result (λ n. n ≤ length buf.new) }
     ensures prefix { IfOk result (λ n. IfSome (R.remaining reader.old) (λ held. take n buf.new ≡ take (length buf.old) held)) }
     ensures read { OnOk result (IsReadTo (length buf.old) (R.remaining reader.old) (R.remaining reader.new)) }

@@ -23,7 +23,7 @@ use crate::membership::{Membership, membership_line_of, membership_outcome_of};
 use crate::tally::{BelongsTally, belongs_summary_of};
 use dvg_account::leaving_text;
 use dvg_cmd::{
-    Behind, Detail, Listing, NamedFrame, PlainWhy, plain_account, read_started, unread_account,
+    Behind, Detail, FRAME_READ, Listing, NamedFrame, PlainWhy, plain_account, read_started, unread_account,
 };
 use dvg_labels::Labels;
 use dvg_recipe::{Leaving, NotMember, belongs, too_long};
@@ -145,8 +145,9 @@ fn membership_read<R: CountedRead + Drop>(
     let Some(mut reader) = reader else {
         return unread(alloc, detail);
     };
-    match read_started(&mut reader, None) {
-        Ok(bytes) => membership_of(alloc, image, read, bytes.as_slice(), detail),
+    let mut buffer = [0; FRAME_READ];
+    match read_started(&mut reader, None, &mut buffer) {
+        Ok(len) => membership_of(alloc, image, read, &buffer[..len], detail),
         Err(_) => unread(alloc, detail),
     }
 }

@@ -2,7 +2,7 @@
 
 use crate::command::Named;
 use crate::input::{Kept, kept_frame};
-use dvg_cmd::{Counted, NamedFrame, OwnCertificates, ShapeStarts, read_started};
+use dvg_cmd::{Counted, FRAME_READ, NamedFrame, OwnCertificates, ShapeStarts, read_started};
 use std::alloc::{AllocError, Global};
 
 /// A frame that was read.
@@ -17,13 +17,14 @@ impl ReadFrame {
     /// Reads a frame, with the jump to its start in place of word 000, if one is given.
     fn read(rt: &HostRuntime, frame: Named, start: Option<u16>) -> Result<ReadFrame, AllocError> {
         let Named { input, name } = frame;
+        let mut buffer = [0; FRAME_READ];
         let read = input
             .open(rt)
-            .and_then(|file| read_started(&mut Counted::new(file), start));
+            .and_then(|file| read_started(&mut Counted::new(file), start, &mut buffer));
         let bytes = match read {
-            Ok(read) => {
+            Ok(len) => {
                 let mut bytes = Vec::new(rt.alloc());
-                bytes.extend_from_slice(read.as_slice())?;
+                bytes.extend_from_slice(&buffer[..len])?;
                 Some(bytes)
             }
             Err(_) => None,

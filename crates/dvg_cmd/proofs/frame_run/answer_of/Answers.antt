@@ -1,10 +1,10 @@
-use Rattle.dvg_cmd.proofs.Common.{◌≡◌, count_after, subst, sym}
+use Rattle.dvg_cmd.proofs.Common.{◌≡◌, count_after, refl, subst, sym}
 use Rattle.dvg_cmd.proofs.Answers.{answers_judged}
 use Rattle.dvg_cmd.proofs.frame_run.answer_of.Goals as goal
 
 pub returns-in-Ok-clause-answers : goal.returns-in-Ok-clause-answers
 returns-in-Ok-clause-answers g c =
-    answers_judged _ c.args.start _ _ c.answer.result.0 c.in-Ok.bytes.items c.as_slice.result.now c.in-Ok.ensures.read c.in-Ok.ensures.bytes c.as_slice.ensures.value
+    answers_judged _ c.args.start _ _ c.answer.result.0 _ _ c.in-Ok.ensures.read c.in-Ok.ensures.bytes refl
     c.answer.ensures.answer c.answer.ensures.whole c.answer.ensures.means c.answer.ensures.told
 
 pub returns-in-Ok-clause-count : goal.returns-in-Ok-clause-count
