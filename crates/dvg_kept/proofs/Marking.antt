@@ -104,6 +104,18 @@ module _ (old : Marks) (counted : IsCounted old) (p : ℕ) (free : slice_get old
         wait = λ q c. set_kept old.marked p q (counted.wait q c);
       }
 
+-- what waits, or need not for one reason, need not for another
+pub weaker : {N M : Type 0} (p : ℕ) (old new : Marks) → (N → M) → MarksOne N p old new → MarksOne M p old new
+weaker p old new step one =
+    record {
+      len = one.len;
+      marked = one.marked;
+      kept = one.kept;
+      waits = one.waits;
+      others = λ q h. ⊎_elim (λ s. inl s) (λ s. inr (s.0, ⊎_elim (λ w. inl w) (λ n. inr (step n)) s.1)) (one.others q h);
+      less = one.less;
+    }
+
 -- the marks as they were, where this one is among them
 pub one_same : {N : Type 0} (old : Marks) (p : ℕ) → slice_get old.marked p ≡ Some true → MarksOne N p old old
 one_same old p h = record { len = refl; marked = h; kept = λ q s. s; waits = λ q c. c; others = λ q s. inl s; less = omega arith }

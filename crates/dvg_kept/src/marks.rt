@@ -93,11 +93,14 @@ impl MarkedEntries {
             return Some(None);
         };
         let (position, entry) = entries.find_full(to, scale)?;
+        if self.marked[position] {
+            return Some(Some(entry));
+        }
         if leaves.has(to) {
             self.mark(position);
-        } else {
-            self.mark_waiting(position).ok()?;
+            return Some(Some(entry));
         }
+        self.mark_waiting(position).ok()?;
         Some(Some(entry))
     }
 
