@@ -4,8 +4,8 @@ use Rattle.dvg_cmd.specs.Frames.{AnswerMeans, JudgesAlike, Slow, Timed, Unread, 
 use Rattle.dvg_cmd.specs.SeveralFrames.{AnswersOpened, IsLineOf}
 use Rattle.dvg_cmd.specs.declared.listing.Listing.{Listing}
 use Rattle.dvg_cmd.specs.declared.several_frames.NamedFrame.{NamedFrame}
-use Rattle.dvg_cmd.specs.declared.summary.FramesSummary.{FramesSummary}
-use Rattle.dvg_cmd.proofs.Common.{FrameOutcome}
+use Rattle.dvg_cmd.specs.declared.progress.Progress.{Progress}
+use Rattle.dvg_cmd.proofs.Common.{FrameDetail}
 
 if_some : {A : Type 0} (o : Option A) (P Q : A → Type 0) → ((x : A) → P x → Q x) → IfSome o P → IfSome o Q
 if_some None P Q step h = tt
@@ -40,17 +40,17 @@ module _ (first later : Judging) (alike : JudgesAlike first later) (start : Opti
       said (Timed t) h = (h.0, h.1, alike.answer a.bytes (Timed t) h.2)
       said (Slow at) h = (h.0, h.1, alike.answer a.bytes (Slow at) h.2)
 
-  module _ {R : Type 0} (remaining : R → Option (List ℕ)) (failures : R → ℕ) (listing : Listing) (frame : NamedFrame R) where
+  module _ {R : Type 0} (remaining : R → Option (List ℕ)) (failures : R → ℕ) (listing : Listing FrameDetail) (frame : NamedFrame R) where
     line_alike : (line : Line) → IsLineOf remaining failures later listing start frame line → IsLineOf remaining failures first listing start frame line
     line_alike line h = record { name_is = h.name_is; answers = opened frame.reader h.answers; asked = h.asked }
       where
-        opened : (reader : Option R) → AnswersOpened remaining failures later listing start reader line.answer → AnswersOpened remaining failures first listing start reader line.answer
+        opened : (reader : Option R) → AnswersOpened remaining failures later start reader line.answer → AnswersOpened remaining failures first start reader line.answer
         opened None h = h
         opened (Some reader) h = (h.0, answer_alike (remaining reader) (remaining h.0) line.answer h.1, h.2)
 
-    pub writes_alike : (old new : Option (List ℕ)) (sum sum_after : FramesSummary) (writes writes_after : ℕ) (end : FrameOutcome) → WritesLineOf remaining failures later listing start frame old new sum sum_after writes writes_after end
-        → WritesLineOf remaining failures first listing start frame old new sum sum_after writes writes_after end
-    writes_alike old new sum sum_after writes writes_after end w = record { line = w.line; line_of = line_alike w.line w.line_of; written = w.written; one_write = w.one_write; end_is = w.end_is; sum_is = w.sum_is }
+    pub writes_alike : (old new : Option (List ℕ)) (p p_after : Progress) (writes writes_after : ℕ) → WritesLineOf remaining failures later listing start frame old new p p_after writes writes_after
+        → WritesLineOf remaining failures first listing start frame old new p p_after writes writes_after
+    writes_alike old new p p_after writes writes_after w = record { line = w.line; line_of = line_alike w.line w.line_of; sent = w.sent; progress_is = w.progress_is }
 
-    pub cut_alike : (old new : Option (List ℕ)) → WritesLineOfPrefix remaining failures later listing start frame old new → WritesLineOfPrefix remaining failures first listing start frame old new
-    cut_alike old new w = record { line = w.line; line_of = line_alike w.line w.line_of; written = w.written }
+    pub cut_alike : (old new : Option (List ℕ)) (p : Progress) → WritesLineOfPrefix remaining failures later listing start frame old new p → WritesLineOfPrefix remaining failures first listing start frame old new p
+    cut_alike old new p w = record { line = w.line; line_of = line_alike w.line w.line_of; written = w.written }

@@ -1,4 +1,4 @@
--- Lines of the frames that take most, and of the summary, one after another.
+-- Lines that are written one after another, where each write may fail.
 use Rattle.dvg_cmd.proofs.Common.{◌≡◌, ◌∙◌, sym, subst, append-nil, ℕ, List, [], ◌∷◌, Option, Result, OnErr, OnOk, Ok, Err, Appends, AppendsPrefix, TakesOneWrite, joined, refl}
 use Rattle.dvg_cmd.specs.Private.Sent.{Sent}
 

@@ -1,5 +1,5 @@
 -- What a run writes of several frames that are judged one after another. All of it is this project's own.
-use Rattle.std.specs.Prelude.{◌≡◌, ℕ, Bool, true, false, if◌then◌else◌, List, [], ◌∷◌, ◌++◌, length, Option, None, Some, string_bytes, Result, Ok, Err}
+use Rattle.std.specs.Prelude.{◌≡◌, ℕ, Bool, true, false, if◌then◌else◌, List, [], ◌∷◌, ◌++◌, length, Option, None, Some, codes, string_bytes, Result, Ok, Err}
 use Rattle.std.specs.Io.KnownBytes.{Appends}
 use Rattle.std.specs.Iterator.{Drains, Yields}
 use Rattle.dvg_words.specs.declared.machine.Machine.{Machine}
@@ -14,15 +14,16 @@ use Rattle.dvg_check.specs.Judged.{Shapes}
 use Rattle.dvg_check.specs.declared.fault.Mode.TheVariants.{Bound}
 use Rattle.dvg_check.specs.declared.verdict.Refusal.{Refusal}
 use Rattle.dvg_check.specs.declared.verdict.Refusal.TheVariants as refusal
-use Rattle.dvg_spelling.specs.Each.{of_each}
 use Rattle.dvg_spelling.specs.Outcomes.{plain_outcome}
 use Rattle.dvg_spelling.specs.Tally.{no_lines, with_answer as counted, summary_text}
 use Rattle.dvg_spelling.specs.declared.outcome.FrameOutcome.TheVariants as outcome
-use Rattle.dvg_cmd.specs.Detail.{Detail, Behind, IsBehind, behind_text, frame_outcome_behind}
+use Rattle.dvg_cmd.specs.Detail.{Detail}
+use Rattle.dvg_cmd.specs.Remarking.{FrameDetail, BehindFrame, IsBehindFrame, has_account, outcome_behind_frame, remarked_with, remarks_texts, text_behind_frame}
 use Rattle.dvg_cmd.specs.declared.listing.Lines.{Lines}
 use Rattle.dvg_cmd.specs.declared.listing.Lines.TheVariants as which
 use Rattle.dvg_cmd.specs.declared.listing.Listing.{Listing}
 use Rattle.dvg_cmd.specs.declared.several_frames.NamedFrame.{NamedFrame}
+use Rattle.dvg_cmd.specs.declared.progress.Progress.{Progress}
 use Rattle.dvg_cmd.specs.declared.summary.FramesSummary.{FramesSummary}
 use Rattle.dvg_cmd.specs.Most.{most_texts, with_frame}
 use Rattle.dvg_cmd.specs.Runs.{Outcome, WritesReport, WritesReportPrefix}
@@ -41,56 +42,78 @@ module _ {I R : Type 0} (next_gives : I → Option (NamedFrame R) → I → Type
 pub record Line : Type 0 where
   pub name : List ℕ
   pub answer : FrameAnswer
-  pub behind : Behind
+  pub behind : BehindFrame
 
 -- a line and the text behind it
 abbrev pub line_text : Line → List ℕ
-line_text line = frame_line line.name line.answer ++ behind_text line.behind
+line_text line = frame_line line.name line.answer ++ text_behind_frame line.behind
 
 -- its outcome
 abbrev pub line_outcome : Line → FrameOutcome
-line_outcome line = frame_outcome_behind line.behind (frame_outcome_of line.answer)
+line_outcome line = outcome_behind_frame line.behind (frame_outcome_of line.answer)
 
 -- whether a line of this outcome is written: each, or each that is not of an accepted frame
 abbrev pub is_written : Lines → FrameOutcome → Bool
 is_written which.NotAccepted outcome.Accepted = false
 is_written shown end = true
 
--- the lines that are written
-abbrev pub written_lines : Lines → List Line → List Line
-written_lines shown [] = []
-written_lines shown (line ∷ rest) =
-    if is_written shown (line_outcome line) then line ∷ written_lines shown rest else written_lines shown rest
-
--- their texts
-abbrev pub line_texts : Lines → List Line → List (List ℕ)
-line_texts shown lines = of_each line_text (written_lines shown lines)
-
 -- what is known of no frame
 abbrev pub no_frames : FramesSummary
-no_frames = record { tally = no_lines; most = None }
+no_frames = record { tally = no_lines; most = None; remarks = None }
 
--- what a frame of this name adds to what is known, by its answer
-abbrev pub summed_with : FramesSummary → List ℕ → FrameAnswer → FramesSummary
-summed_with s name answer = record { tally = counted s.tally answer; most = with_frame s.most name answer }
+-- what a line adds to what is known, whether it is written or not
+abbrev pub summed_with : FramesSummary → Line → FramesSummary
+summed_with s line =
+    record {
+      tally = counted s.tally line.answer;
+      most = with_frame s.most line.name line.answer;
+      remarks = remarked_with s.remarks line.behind;
+    }
 
--- what lines add to it, whether they are written or not
-abbrev pub summed_on : FramesSummary → List Line → FramesSummary
-summed_on s [] = s
-summed_on s (line ∷ rest) = summed_on (summed_with s line.name line.answer) rest
-
--- the texts that tell it: the frames that take most, and how many lines say what
+-- the texts that tell it: the frames that take most, how many remarks there are, and how many lines say what
 abbrev pub summary_texts : FramesSummary → List (List ℕ)
-summary_texts s = most_texts s.most ++ summary_text s.tally ∷ []
+summary_texts s = most_texts s.most ++ remarks_texts s.remarks ++ summary_text s.tally ∷ []
+
+-- before the first frame
+abbrev pub begun : Progress
+begun = record { summary = no_frames; worst = outcome.Accepted; written = false }
+
+-- after a line
+abbrev pub gone_with : Lines → Progress → Line → Progress
+gone_with shown p line =
+    record {
+      summary = summed_with p.summary line;
+      worst = worse p.worst (line_outcome line);
+      written = if is_written shown (line_outcome line) then true else p.written;
+    }
+
+-- after several
+abbrev pub gone_on : Lines → Progress → List Line → Progress
+gone_on shown p [] = p
+gone_on shown p (line ∷ rest) = gone_on shown (gone_with shown p line) rest
+
+-- what sets an account apart from what was written before it: a blank line
+abbrev pub blank_line : Bool → Bool → List (List ℕ)
+blank_line true true = codes "\n" ∷ []
+blank_line accounts written = []
+
+-- what is written of a line
+abbrev pub texts_of : Listing FrameDetail → Bool → Line → List (List ℕ)
+texts_of listing written line =
+    if is_written listing.lines (line_outcome line) then blank_line (has_account listing.detail) written ++ line_text line ∷ [] else []
+
+-- what is written of several
+abbrev pub line_texts : Listing FrameDetail → Progress → List Line → List (List ℕ)
+line_texts listing p [] = []
+line_texts listing p (line ∷ rest) = texts_of listing p.written line ++ line_texts listing (gone_with listing.lines p line) rest
 
 -- the last texts, if a summary is asked for
-abbrev pub summary_of : Bool → FramesSummary → List (List ℕ)
-summary_of true s = summary_texts s
-summary_of false s = []
+abbrev pub summary_of : Listing FrameDetail → Progress → List (List ℕ)
+summary_of listing p = if listing.summary then blank_line (has_account listing.detail) p.written ++ summary_texts p.summary else []
 
 -- all texts that are written, in their order
-abbrev pub listing_texts : Listing → List Line → List (List ℕ)
-listing_texts listing lines = line_texts listing.lines lines ++ summary_of listing.summary (summed_on no_frames lines)
+abbrev pub listing_texts : Listing FrameDetail → List Line → List (List ℕ)
+listing_texts listing lines = line_texts listing begun lines ++ summary_of listing (gone_on listing.lines begun lines)
 
 -- texts, one after another
 abbrev pub joined : List (List ℕ) → List ℕ
@@ -102,14 +125,9 @@ abbrev pub TakeOneWriteEach : List (List ℕ) → ℕ → ℕ → Type 0
 TakeOneWriteEach [] old new = new ≡ old
 TakeOneWriteEach (text ∷ rest) old new = (next : ℕ) × TakesOneWrite text old next × TakeOneWriteEach rest next new
 
--- the worst of an outcome and those of lines
-abbrev pub worst_of : FrameOutcome → List Line → FrameOutcome
-worst_of end [] = end
-worst_of end (line ∷ rest) = worst_of (worse end (line_outcome line)) rest
-
 -- `remaining` is what a reader still holds, and `failures` its count of failed reads
 module _ {R : Type 0} (remaining : R → Option (List ℕ)) (failures : R → ℕ)
-    (j : Judging) (listing : Listing) (start : Option ℕ) where
+    (j : Judging) (start : Option ℕ) where
   -- the answer to a frame: `Unread` if it can't be opened; else the answer to what its reader held, `Unread` exactly where a read failed
   abbrev pub AnswersOpened : Option R → FrameAnswer → Type 0
   AnswersOpened None answer = answer ≡ Unread
@@ -117,11 +135,13 @@ module _ {R : Type 0} (remaining : R → Option (List ℕ)) (failures : R → �
       (left : R) × AnswersFrame j start (remaining reader) (remaining left) answer
       × (failures left ≡ count_after (is_unread answer) (failures reader))
 
+module _ {R : Type 0} (remaining : R → Option (List ℕ)) (failures : R → ℕ)
+    (j : Judging) (listing : Listing FrameDetail) (start : Option ℕ) where
   -- the line of a frame: its name, the answer to it, and behind the line what the detail asks for
   pub record IsLineOf (frame : NamedFrame R) (line : Line) : Type 0 where
     pub name_is : line.name ≡ string_bytes frame.name
-    pub answers : AnswersOpened frame.reader line.answer
-    pub asked : IsBehind listing.detail line.behind
+    pub answers : AnswersOpened remaining failures j start frame.reader line.answer
+    pub asked : IsBehindFrame listing.detail line.answer line.behind
 
   -- a line for each frame, in the order of the frames
   abbrev pub AreLinesOf : List (NamedFrame R) → List Line → Type 0
@@ -137,7 +157,7 @@ module _ {R : Type 0} (remaining : R → Option (List ℕ)) (failures : R → �
     pub lines_of : AreLinesOf frames lines
     pub written : Appends old new (joined (listing_texts listing lines))
     pub one_write : TakeOneWriteEach (listing_texts listing lines) writes writes_after
-    pub outcome_is : end ≡ worst_of outcome.Accepted lines
+    pub outcome_is : end ≡ (gone_on listing.lines begun lines).worst
 
   -- a prefix of that was written, and nothing else
   pub record ReportsFramesPrefix (frames : List (NamedFrame R)) (old new : Option (List ℕ)) : Type 0 where

@@ -146,26 +146,32 @@ impl<'a> OwnCertificates<'a> {
         }
     }
 
+    /// The certificate that is made for a frame, if one can be made. Takes memory as [`explain_judging`] does; an `Err` says that there was
+    /// none.
+    pub fn made_for(&self, alloc: Global, frame: &[u8]) -> Result<Option<Cert>, AllocError> {
+        let Ok((frame, rom)) = images_for(self.machine, self.rom, self.map, frame, self.budget)
+        else {
+            return Ok(None);
+        };
+        match explain_judging(alloc, &rom, &frame, self.budget, self.window) {
+            Ok(judged) => Ok(Some(judged.cert)),
+            Err(account) if account.cause == EntryCause::Memory => Err(AllocError),
+            Err(_) => Ok(None),
+        }
+    }
+
     /// Adds where the shapes begin that a frame calls, if a certificate can be made for it. Takes memory as
-    /// [`explain_judging`] does; an `Err` says that there was none.
+    /// [`made_for`](OwnCertificates::made_for) does.
     pub fn add_starts(
         &self,
         alloc: Global,
         frame: &[u8],
         starts: &mut ShapeStarts,
     ) -> Result<(), AllocError> {
-        let Ok((frame, rom)) = images_for(self.machine, self.rom, self.map, frame, self.budget)
-        else {
-            return Ok(());
-        };
-        match explain_judging(alloc, &rom, &frame, self.budget, self.window) {
-            Ok(judged) => {
-                starts.add(&judged.cert);
-                Ok(())
-            }
-            Err(account) if account.cause == EntryCause::Memory => Err(AllocError),
-            Err(_) => Ok(()),
+        if let Some(cert) = self.made_for(alloc, frame)? {
+            starts.add(&cert);
         }
+        Ok(())
     }
 }
 

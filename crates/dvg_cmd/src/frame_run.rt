@@ -1,19 +1,22 @@
 //! The answer to one frame that a reader holds, and its line.
 
-ghost use Rattle.std.specs.Prelude.{◌≡◌, ◌≤◌, ◌++◌, take, IfOk, IfErr, OnOk, OnErr, is_err};
-ghost use Rattle.std.specs.Io.KnownBytes.{Appends};
-ghost use Rattle.dvg_text.specs.Devices.{AppendsPrefix, TakesOneWrite, count_after};
-ghost use Rattle.dvg_cmd.specs.Detail.{IsBehind, behind_text, frame_outcome_behind};
+ghost use Rattle.std.specs.Prelude.{◌≡◌, ◌≤◌, ◌∷◌, [], take, IfOk, OnOk, OnErr, is_err};
+ghost use Rattle.dvg_text.specs.Devices.{AppendsPrefix, count_after};
+ghost use Rattle.dvg_cmd.specs.Detail.{IsBehind};
+ghost use Rattle.dvg_cmd.specs.Remarking.{IsBehindFrame, answer_detail, outcome_behind_frame, text_behind_frame};
 ghost use Rattle.dvg_cmd.specs.Runs.{MOST_FRAME_READ, IsReadTo};
-ghost use Rattle.dvg_cmd.specs.Frames.{JudgesAlike, ReadsFrame, AnswersFrame, frame_line, frame_outcome_of, is_unread};
+ghost use Rattle.dvg_cmd.specs.Frames.{JudgesAlike, ReadsFrame, AnswersFrame, is_unread};
+ghost use Rattle.dvg_cmd.specs.SeveralFrames.{joined, line_text};
+ghost use Rattle.dvg_cmd.specs.Private.Sent.{Sent};
 
 use crate::detail::{Behind, Detail};
 use crate::frame_judge::FrameJudge;
 use crate::reading::read_prefix;
+use crate::remarking::{BehindFrame, FrameDetail};
 use crate::start::start_at;
 use dvg_account::{PlainWhy, plain_text};
-use dvg_spelling::{FrameAnswer, FrameOutcome, RunFault, frame_outcome_of, frame_report_of};
-use dvg_text::{CountedRead, CountedWrite, write_lines};
+use dvg_spelling::{FrameAnswer, frame_report_of};
+use dvg_text::{CountedRead, CountedWrite, WriteFault, write_lines};
 use dvg_words::Machine;
 use std::alloc::Global;
 use std::io;
@@ -61,28 +64,54 @@ pub fn unread_account(machine: Machine, alloc: Global, detail: Detail) -> Behind
     plain_account(machine, alloc, 71, PlainWhy::Nothing, detail)
 }
 
-/// Reads a frame and judges it: the answer, and what the detail asks for behind its line.
+/// What the detail asks for behind the line of the answer to a frame of this name, behind which the judge's own detail is this.
+fn behind_answer(
+    alloc: Global,
+    name: &str,
+    frame: &[u8],
+    answer: &FrameAnswer,
+    behind: Behind,
+    detail: FrameDetail,
+) -> BehindFrame
+    requires { IsBehind (answer_detail detail) behind }
+    ensures { IsBehindFrame detail answer.now result }
+{
+    match (detail, answer) {
+        (FrameDetail::Remarks(remarking), FrameAnswer::Judged(Ok(_)) | FrameAnswer::Timed(_)) => {
+            remarking.on(alloc, name, frame)
+        }
+        _ => BehindFrame::Answer(behind),
+    }
+}
+
+/// Reads a frame of this name and judges it: the answer, and what the detail asks for behind its line.
 pub fn answer_of<J: FrameJudge, R: CountedRead>(
     alloc: Global,
     judge: &mut J,
     start: Option<u16>,
+    name: &str,
     frame: &mut R,
-    detail: Detail,
-) -> (FrameAnswer, Behind)
-    requires { J.valid judge.old detail }
+    detail: FrameDetail,
+) -> (FrameAnswer, BehindFrame)
+    requires { J.valid judge.old (answer_detail detail) }
     ensures answers { AnswersFrame (J.judging judge.old)
         start (R.remaining frame.old) (R.remaining frame.new) result.0 }
-    ensures behind { IsBehind detail.entry result.1 }
+    ensures behind { IsBehindFrame detail.entry result.0 result.1 }
     ensures count { R.failures frame.new ≡ count_after (is_unread result.0) (R.failures frame.old) }
-    ensures valid { J.valid judge.new detail.entry }
+    ensures valid { J.valid judge.new (answer_detail detail.entry) }
     ensures same { JudgesAlike (J.judging judge.old) (J.judging judge.new) }
 {
     let mut buffer = [0; FRAME_READ];
     match read_started(frame, start, &mut buffer) {
-        Ok(len) => judge.answer(alloc, &buffer[..len], detail),
+        Ok(len) => {
+            let read = &buffer[..len];
+            let (answer, behind) = judge.answer(alloc, read, detail.of_answer());
+            let behind = behind_answer(alloc, name, read, &answer, behind, detail);
+            (answer, behind)
+        }
         Err(_) => (
             FrameAnswer::Unread,
-            unread_account(judge.machine(), alloc, detail),
+            BehindFrame::Answer(unread_account(judge.machine(), alloc, detail.of_answer())),
         ),
     }
 }
@@ -91,21 +120,16 @@ pub fn answer_of<J: FrameJudge, R: CountedRead>(
 pub fn write_answer<W: CountedWrite>(
     name: &str,
     answer: &FrameAnswer,
-    behind: &Behind,
+    behind: &BehindFrame,
     out: &mut W,
-) -> Result<FrameOutcome, RunFault>
-    ensures outcome { IfOk result (λ outcome. outcome ≡ frame_outcome_behind behind.now (frame_outcome_of answer.now)) }
-    ensures written { OnOk result (Appends (W.contents out.old) (W.contents out.new)
-        (frame_line name.now answer.now ++ behind_text behind.now)) }
-    ensures one_write { OnOk result (TakesOneWrite (frame_line name.now answer.now ++ behind_text behind.now)
-        (W.whole_writes out.old) (W.whole_writes out.new)) }
+) -> Result<(), WriteFault>
+    ensures sent { OnOk result (Sent (line_text (record { name = name.now; answer = answer.now; behind = behind.now }) ∷ [])
+        (W.contents out.old) (W.contents out.new) (W.whole_writes out.old) (W.whole_writes out.new)) }
     ensures prefix { OnErr result (AppendsPrefix (W.contents out.old) (W.contents out.new)
-        (frame_line name.now answer.now ++ behind_text behind.now)) }
-    ensures fault { IfErr result (λ fault. fault ≡ RunFault.Write) }
+        (joined (line_text (record { name = name.now; answer = answer.now; behind = behind.now }) ∷ []))) }
     ensures count { W.failures out.new ≡ count_after (is_err result) (W.failures out.old) }
 {
     let report = frame_report_of(answer);
     let text = behind.text();
-    write_lines(name.as_bytes(), report.as_bytes(), text.as_bytes(), out)?;
-    Ok(behind.frame_outcome(frame_outcome_of(answer)))
+    write_lines(name.as_bytes(), report.as_bytes(), text.as_bytes(), out)
 }

@@ -3,7 +3,6 @@
 ghost use Rattle.std.specs.Prelude.{◌≡◌};
 ghost use Rattle.dvg_cmd.specs.SeveralFrames.{is_written};
 
-use crate::detail::Detail;
 use dvg_spelling::FrameOutcome;
 
 /// Which frames have a line.
@@ -17,9 +16,9 @@ pub enum Lines {
 
 /// What a run writes of several frames.
 #[derive(Clone, Copy)]
-pub struct Listing<'a> {
+pub struct Listing<D> {
     /// What is written of a frame.
-    pub detail: Detail<'a>,
+    pub detail: D,
     /// Which frames have a line.
     pub lines: Lines,
     /// Whether a last line says how many frames were accepted, refused by each number, not to be read, and out of memory, whether
@@ -27,7 +26,7 @@ pub struct Listing<'a> {
     pub summary: bool,
 }
 
-impl<'a> Listing<'a> {
+impl<D> Listing<D> {
     /// Whether a line of this outcome is written.
     pub fn has(self, outcome: FrameOutcome) -> bool
         ensures { result ≡ is_written self.entry.lines outcome }

@@ -11,29 +11,31 @@ ghost use Rattle.dvg_spelling.specs.declared.outcome.Outcome.{Outcome as Plain};
 ghost use Rattle.dvg_cmd.specs.Detail.{IsBehind};
 ghost use Rattle.dvg_cmd.specs.Frames.{JudgesAlike};
 ghost use Rattle.dvg_cmd.specs.Runs.{WritesReport, WritesReportPrefix};
-ghost use Rattle.dvg_cmd.specs.SeveralFrames.{AnswersOpened, HoldsOfAll, HoldsOfTaken, TakeOneWriteEach, joined, line_outcome, line_texts, summary_of, ReportsFrames, ReportsFramesPrefix, ReportsRefusal, ReportsRefusalPrefix, RefusesShapes, judged_given};
+ghost use Rattle.dvg_cmd.specs.SeveralFrames.{AnswersOpened, HoldsOfAll, HoldsOfTaken, blank_line, joined, summary_of, texts_of, ReportsFrames, ReportsFramesPrefix, ReportsRefusal, ReportsRefusalPrefix, RefusesShapes, judged_given};
+ghost use Rattle.dvg_cmd.specs.Remarking.{IsBehindFrame, answer_detail, has_account};
+ghost use Rattle.dvg_cmd.specs.Private.Sent.{Sent};
 ghost use Rattle.dvg_cmd.specs.Private.Named.{WritesLineOf, WritesLineOfPrefix};
 
 use crate::detail::{Behind, Detail};
 use crate::frame_judge::{FrameJudge, GivenCertificate};
 use crate::frame_run::{answer_of, unread_account, write_answer};
 use crate::listing::Listing;
+use crate::progress::Progress;
+use crate::remarking::{BehindFrame, FrameDetail};
 use crate::running::{text_account, write_report};
-use crate::summary::FramesSummary;
 use dvg_account::{Inputs, verdict_text};
 use dvg_cert::{Cert, CertFault, HashIndex};
 use dvg_check::{JudgedShapes, Mode, Refusal, RomFinding};
 use dvg_form::TextWatch;
 use dvg_spelling::{FrameAnswer, FrameOutcome, RunFault, frame_outcome_of};
-use dvg_text::{CountedRead, CountedWrite};
+use dvg_text::{CountedRead, CountedWrite, WriteFault, write_lines};
 use dvg_words::{Machine, RomImage, Window};
 use std::alloc::Global;
 
 /// A frame whose turn it is.
 #[derive(Drop)]
 pub struct NamedFrame<R> {
-    /// The name in the frame's line, which has no control characters; before it an LF, where a blank line sets its account apart from
-    /// the one before.
+    /// The name in the frame's line, which has no control characters.
     pub name: String,
     /// The reader of the frame, or `None` if the frame can't be opened.
     pub reader: Option<R>,
@@ -52,105 +54,124 @@ pub struct FrameOptions {
     pub window: Window,
 }
 
-/// The answer to a frame whose turn it is, and what the listing's detail asks for behind its line.
+/// The answer to a frame of this name whose turn it is, and what the detail asks for behind its line.
 fn answer_opened<J: FrameJudge, R: CountedRead + Drop>(
     alloc: Global,
     judge: &mut J,
     start: Option<u16>,
+    name: &str,
     reader: Option<R>,
-    listing: Listing,
-) -> (FrameAnswer, Behind)
-    requires { J.valid judge.old listing.detail }
-    ensures answers { AnswersOpened R.remaining R.failures (J.judging judge.old) listing.entry start reader result.0 }
-    ensures behind { IsBehind listing.entry.detail result.1 }
-    ensures valid { J.valid judge.new listing.entry.detail }
+    detail: FrameDetail,
+) -> (FrameAnswer, BehindFrame)
+    requires { J.valid judge.old (answer_detail detail) }
+    ensures answers { AnswersOpened R.remaining R.failures (J.judging judge.old) start reader result.0 }
+    ensures behind { IsBehindFrame detail.entry result.0 result.1 }
+    ensures valid { J.valid judge.new (answer_detail detail.entry) }
     ensures same { JudgesAlike (J.judging judge.old) (J.judging judge.new) }
 {
     match reader {
-        Some(mut reader) => answer_of(alloc, judge, start, &mut reader, listing.detail),
+        Some(mut reader) => answer_of(alloc, judge, start, name, &mut reader, detail),
         None => (
             FrameAnswer::Unread,
-            unread_account(judge.machine(), alloc, listing.detail),
+            BehindFrame::Answer(unread_account(judge.machine(), alloc, detail.of_answer())),
         ),
     }
 }
 
-/// Writes the line of an answer, and a text behind it, if the listing has it; answers what they come to in any case.
-fn write_listed<W: CountedWrite>(
-    name: &str,
-    answer: &FrameAnswer,
-    behind: &Behind,
-    listing: Listing,
+/// Writes the blank line that sets an account apart from what was written before, if there is one.
+fn write_apart<W: CountedWrite>(
+    detail: FrameDetail,
+    written: bool,
     out: &mut W,
-) -> Result<FrameOutcome, RunFault>
-    ensures outcome { IfOk result (λ end. line_outcome (record { name = name.now; answer = answer.now; behind = behind.now }) ≡ end) }
-    ensures written { OnOk result (Appends (W.contents out.old) (W.contents out.new)
-        (joined (line_texts listing.entry.lines (record { name = name.now; answer = answer.now; behind = behind.now } ∷ [])))) }
-    ensures one_write { OnOk result (TakeOneWriteEach (line_texts listing.entry.lines
-        (record { name = name.now; answer = answer.now; behind = behind.now } ∷ []))
+) -> Result<(), WriteFault>
+    ensures sent { OnOk result (Sent (blank_line (has_account detail) written) (W.contents out.old) (W.contents out.new)
         (W.whole_writes out.old) (W.whole_writes out.new)) }
     ensures prefix { OnErr result (AppendsPrefix (W.contents out.old) (W.contents out.new)
-        (joined (line_texts listing.entry.lines (record { name = name.now; answer = answer.now; behind = behind.now } ∷ [])))) }
-    ensures fault { IfErr result (λ fault. fault ≡ RunFault.Write) }
+        (joined (blank_line (has_account detail) written))) }
     ensures count { W.failures out.new ≡ count_after (is_err result) (W.failures out.old) }
 {
-    let outcome = behind.frame_outcome(frame_outcome_of(answer));
-    if listing.has(outcome) {
-        write_answer(name, answer, behind, out)
+    if detail.has_account() && written {
+        write_lines(b"\n", &[], &[], out)
     } else {
-        Ok(outcome)
+        Ok(())
     }
 }
 
-/// Judges a frame whose turn it is, writes its line if the listing has it, and takes it into the summary.
+/// Writes the line of an answer, and a text behind it, if the listing has it.
+fn write_listed<W: CountedWrite>(
+    name: &str,
+    answer: &FrameAnswer,
+    behind: &BehindFrame,
+    listing: Listing<FrameDetail>,
+    written: bool,
+    out: &mut W,
+) -> Result<(), WriteFault>
+    ensures sent { OnOk result (Sent (texts_of listing.entry written
+        (record { name = name.now; answer = answer.now; behind = behind.now })) (W.contents out.old) (W.contents out.new)
+        (W.whole_writes out.old) (W.whole_writes out.new)) }
+    ensures prefix { OnErr result (AppendsPrefix (W.contents out.old) (W.contents out.new) (joined (texts_of listing.entry written
+        (record { name = name.now; answer = answer.now; behind = behind.now })))) }
+    ensures count { W.failures out.new ≡ count_after (is_err result) (W.failures out.old) }
+{
+    if !listing.has(behind.frame_outcome(frame_outcome_of(answer))) {
+        return Ok(());
+    }
+    write_apart(listing.detail, written, out)?;
+    write_answer(name, answer, behind, out)
+}
+
+/// Judges a frame whose turn it is, writes its line if the listing has it, and takes it in.
 fn run_named<J: FrameJudge, R: CountedRead + Drop, W: CountedWrite>(
     alloc: Global,
     judge: &mut J,
     start: Option<u16>,
     frame: NamedFrame<R>,
-    listing: Listing,
-    summary: &mut FramesSummary,
+    listing: Listing<FrameDetail>,
+    progress: &mut Progress,
     out: &mut W,
-) -> Result<FrameOutcome, RunFault>
-    requires { J.valid judge.old listing.detail }
-    ensures ok { IfOk result (WritesLineOf R.remaining R.failures (J.judging judge.old) listing.entry start
-        frame (W.contents out.old) (W.contents out.new) summary.old summary.new
+) -> Result<(), RunFault>
+    requires { J.valid judge.old (answer_detail listing.detail) }
+    ensures ok { OnOk result (WritesLineOf R.remaining R.failures (J.judging judge.old) listing.entry start
+        frame (W.contents out.old) (W.contents out.new) progress.old progress.new
         (W.whole_writes out.old) (W.whole_writes out.new)) }
     ensures prefix { OnErr result (WritesLineOfPrefix R.remaining R.failures (J.judging judge.old) listing.entry start
-        frame (W.contents out.old) (W.contents out.new)) }
+        frame (W.contents out.old) (W.contents out.new) progress.old) }
     ensures fault { IfErr result (λ fault. fault ≡ RunFault.Write) }
     ensures count { W.failures out.new ≡ count_after (is_err result) (W.failures out.old) }
-    ensures valid { J.valid judge.new listing.entry.detail }
+    ensures valid { J.valid judge.new (answer_detail listing.entry.detail) }
     ensures same { JudgesAlike (J.judging judge.old) (J.judging judge.new) }
 {
     let NamedFrame { name, reader } = frame;
-    let (answer, behind) = answer_opened(alloc, judge, start, reader, listing);
-    let outcome = write_listed(name.as_str(), &answer, &behind, listing, out)?;
-    summary.add(alloc, name, &answer);
-    Ok(outcome)
+    let (answer, behind) =
+        answer_opened(alloc, judge, start, name.as_str(), reader, listing.detail);
+    write_listed(name.as_str(), &answer, &behind, listing, progress.written, out)?;
+    progress.add(alloc, name, &answer, &behind, listing);
+    Ok(())
 }
 
 /// Writes the summary, if it is asked for.
 fn write_summary<W: CountedWrite>(
-    asked: bool,
-    summary: &FramesSummary,
+    listing: Listing<FrameDetail>,
+    progress: &Progress,
     out: &mut W,
-) -> Result<(), RunFault>
-    ensures written { OnOk result (Appends (W.contents out.old) (W.contents out.new) (joined (summary_of asked summary.now))) }
-    ensures one_write { OnOk result (TakeOneWriteEach (summary_of asked summary.now) (W.whole_writes out.old) (W.whole_writes out.new)) }
-    ensures prefix { OnErr result (AppendsPrefix (W.contents out.old) (W.contents out.new) (joined (summary_of asked summary.now))) }
-    ensures fault { IfErr result (λ fault. fault ≡ RunFault.Write) }
+) -> Result<(), WriteFault>
+    ensures sent { OnOk result (Sent (summary_of listing.entry progress.now) (W.contents out.old) (W.contents out.new)
+        (W.whole_writes out.old) (W.whole_writes out.new)) }
+    ensures prefix { OnErr result (AppendsPrefix (W.contents out.old) (W.contents out.new)
+        (joined (summary_of listing.entry progress.now))) }
     ensures count { W.failures out.new ≡ count_after (is_err result) (W.failures out.old) }
 {
-    if asked {
-        summary.write(out)?;
+    if !listing.summary {
+        return Ok(());
     }
-    Ok(())
+    write_apart(listing.detail, progress.written, out)?;
+    progress.summary.write(out)
 }
 
 /// Judges frames, one after another, and writes a line for each that the listing has: the name, which has no control characters, a
-/// colon, a space, and the report; and an account of the answer behind it if the detail asks for one. At the end it writes the
-/// summary if it is asked for, behind lines of the frames that take most if lines tell clocks, and answers the worst outcome of all.
+/// colon, a space, and the report; and behind it what the detail asks for: an account of the answer, which a blank line sets apart from
+/// what was written before, or the remarks on an accepted frame. At the end it writes the summary if it is asked for, behind lines of the
+/// frames that take most if lines tell clocks, and of how many remarks there are if these are asked for. It answers the worst outcome.
 ///
 /// With a start, which is below 1000 hexadecimal, a frame is judged as though its word 000 were the jump there. Each frame is read to
 /// its end, or to one byte past its limit, and nothing is tried again. A frame that can't be opened or read has a line, too. The next
@@ -166,10 +187,10 @@ pub fn run_frames<
     judge: &mut J,
     start: Option<u16>,
     frames: I,
-    listing: Listing,
+    listing: Listing<FrameDetail>,
     out: &mut W,
 ) -> Result<FrameOutcome, RunFault>
-    requires valid { J.valid judge.old listing.detail }
+    requires valid { J.valid judge.old (answer_detail listing.detail) }
     requires can { I.can_next frames }
     requires ends { IsFinite (I.remaining frames) }
 
@@ -186,13 +207,12 @@ pub fn run_frames<
     ensures fault { IfErr result (λ fault. fault ≡ RunFault.Write) }
     ensures count { W.failures out.new ≡ count_after (is_err result) (W.failures out.old) }
 {
-    let mut summary = FramesSummary::new();
-    let mut worst = FrameOutcome::Accepted;
+    let mut progress = Progress::new();
     for frame in frames {
-        worst = worst.or_worse(run_named(alloc, judge, start, frame, listing, &mut summary, out)?);
+        run_named(alloc, judge, start, frame, listing, &mut progress, out)?;
     }
-    write_summary(listing.summary, &summary, out)?;
-    Ok(worst)
+    write_summary(listing, &progress, out)?;
+    Ok(progress.worst)
 }
 
 /// Writes the report of a refusal for which no frame was needed, and a text behind it.
@@ -285,14 +305,14 @@ pub fn run_frames_given<
     watch: &TextWatch,
     options: &FrameOptions,
     frames: I,
-    listing: Listing,
+    listing: Listing<FrameDetail>,
     out: &mut W,
 ) -> Result<FrameOutcome, RunFault>
     requires can { I.can_next frames }
     requires ends { IsFinite (I.remaining frames) }
 
     // The report of a refusal is written, or a line for each frame, in their order, each by one write if it fits one.
-    ensures report { IfOk result (λ end. ReportsRefusal options.now.machine listing.entry.detail options.now.window rom.now cert.now
+    ensures report { IfOk result (λ end. ReportsRefusal options.now.machine (answer_detail listing.entry.detail) options.now.window rom.now cert.now
         (W.contents out.old) (W.contents out.new) (W.whole_writes out.old) (W.whole_writes out.new) end
         ⊎ IfOk cert.now (λ given. IsRomLength given.map (length rom.now)
         × HoldsOfAll I.next_gives frames (λ taken.
@@ -300,12 +320,12 @@ pub fn run_frames_given<
         (judged_given options.now.machine options.now.window rom.now given options.now.budget) listing.entry options.now.start taken
         (W.contents out.old) (W.contents out.new) (W.whole_writes out.old) (W.whole_writes out.new) end))) }
     // Without a certificate it is the refusal.
-    ensures refused { IfOk result (λ end. IfErr cert.now (λ fault. ReportsRefusal options.now.machine listing.entry.detail
+    ensures refused { IfOk result (λ end. IfErr cert.now (λ fault. ReportsRefusal options.now.machine (answer_detail listing.entry.detail)
         options.now.window rom.now cert.now (W.contents out.old) (W.contents out.new) (W.whole_writes out.old)
         (W.whole_writes out.new) end)) }
 
     // Where the writer failed, a prefix of them.
-    ensures prefix { OnErr result (ReportsRefusalPrefix options.now.machine listing.entry.detail options.now.window rom.now cert.now
+    ensures prefix { OnErr result (ReportsRefusalPrefix options.now.machine (answer_detail listing.entry.detail) options.now.window rom.now cert.now
         (W.contents out.old) (W.contents out.new)
         ⊎ IfOk cert.now (λ given. IsRomLength given.map (length rom.now)
         × HoldsOfTaken I.next_gives frames (λ taken.
@@ -315,7 +335,7 @@ pub fn run_frames_given<
     ensures fault { IfErr result (λ fault. fault ≡ RunFault.Write) }
     ensures count { W.failures out.new ≡ count_after (is_err result) (W.failures out.old) }
 {
-    let detail = listing.detail;
+    let detail = listing.detail.of_answer();
     let cert = match cert {
         Ok(cert) => cert,
         Err(fault) => {

@@ -3,12 +3,15 @@
 ghost use Rattle.std.specs.Prelude.{◌≡◌, ◌∷◌, [], OnErr, OnOk, is_err, string_bytes};
 ghost use Rattle.dvg_text.specs.Devices.{AppendsPrefix, count_after};
 ghost use Rattle.dvg_spelling.specs.Tally.{summary_text};
+ghost use Rattle.dvg_cmd.specs.Remarking.{remarked_with, remarks_texts, with_remarks};
 ghost use Rattle.dvg_cmd.specs.Most.{most_texts, with_frame};
 ghost use Rattle.dvg_cmd.specs.SeveralFrames.{joined, no_frames, summary_texts, summed_with};
 ghost use Rattle.dvg_cmd.specs.Private.Sent.{Sent};
 
 use crate::most::MostTaken;
-use dvg_spelling::{FrameAnswer, Tally, summary_of};
+use crate::remarking::BehindFrame;
+use dvg_account::FrameRemark;
+use dvg_spelling::{FrameAnswer, RemarkTally, Tally, remarks_line_of, summary_of};
 use dvg_text::{CountedWrite, WriteFault, write_lines};
 use std::alloc::Global;
 
@@ -19,6 +22,8 @@ pub struct FramesSummary {
     pub tally: Tally,
     /// Which take most, of those whose lines tell clocks.
     pub most: Option<MostTaken>,
+    /// How many remarks of which kind there are on them, if remarks were looked for on one.
+    pub remarks: Option<RemarkTally>,
 }
 
 /// With a frame of this name and answer.
@@ -30,6 +35,45 @@ fn add_to_most(alloc: Global, most: &mut Option<MostTaken>, name: String, answer
             Some(most) => most.add(name, timed),
             None => *most = Some(MostTaken::of(alloc, name, timed)),
         }
+    }
+}
+
+/// Counts each of these remarks.
+fn count_remarks(tally: &mut RemarkTally, found: &[FrameRemark])
+    ensures { tally.new ≡ with_remarks found.now tally.old }
+{
+    for remark in found {
+        tally.add(remark.kind);
+    }
+}
+
+/// With what stands behind the line of a frame.
+fn add_remarks(tally: &mut Option<RemarkTally>, behind: &BehindFrame)
+    ensures { tally.new ≡ remarked_with tally.old behind.now }
+{
+    if let BehindFrame::Remarks(remarks) = behind {
+        let mut counted = tally.unwrap_or(RemarkTally::new());
+        count_remarks(&mut counted, remarks.found.as_slice());
+        *tally = Some(counted);
+    }
+}
+
+/// Writes the line that tells how many remarks there are, if remarks were looked for.
+fn write_remarks<W: CountedWrite>(
+    tally: &Option<RemarkTally>,
+    out: &mut W,
+) -> Result<(), WriteFault>
+    ensures sent { OnOk result (Sent (remarks_texts tally.now) (W.contents out.old) (W.contents out.new) (W.whole_writes out.old)
+        (W.whole_writes out.new)) }
+    ensures prefix { OnErr result (AppendsPrefix (W.contents out.old) (W.contents out.new) (joined (remarks_texts tally.now))) }
+    ensures count { W.failures out.new ≡ count_after (is_err result) (W.failures out.old) }
+{
+    match tally {
+        Some(tally) => {
+            let line = remarks_line_of(tally);
+            write_lines(line.as_slice(), &[], &[], out)
+        }
+        None => Ok(()),
     }
 }
 
@@ -65,18 +109,21 @@ impl FramesSummary {
         FramesSummary {
             tally: Tally::new(),
             most: None,
+            remarks: None,
         }
     }
 
-    /// Takes in a frame of this name, whose line tells this answer, whether it is written or not.
-    pub fn add(&mut self, alloc: Global, name: String, answer: &FrameAnswer)
-        ensures { self.new ≡ summed_with self.old (string_bytes name) answer.now }
+    /// Takes in a frame of this name, whose line tells this answer, with this behind it, whether it is written or not.
+    pub fn add(&mut self, alloc: Global, name: String, answer: &FrameAnswer, behind: &BehindFrame)
+        ensures { self.new ≡ summed_with self.old (record { name = string_bytes name; answer = answer.now; behind = behind.now }) }
     {
         self.tally.add(answer);
+        add_remarks(&mut self.remarks, behind);
         add_to_most(alloc, &mut self.most, name, answer);
     }
 
-    /// Writes the lines of the frames that take most, if lines tell clocks, and the line that tells the tally.
+    /// Writes the lines of the frames that take most, if lines tell clocks, the line that tells how many remarks there are, if remarks were
+    /// looked for, and the line that tells the tally.
     pub fn write<W: CountedWrite>(&self, out: &mut W) -> Result<(), WriteFault>
         ensures sent { OnOk result (Sent (summary_texts self.now) (W.contents out.old) (W.contents out.new) (W.whole_writes out.old)
             (W.whole_writes out.new)) }
@@ -84,6 +131,7 @@ impl FramesSummary {
         ensures count { W.failures out.new ≡ count_after (is_err result) (W.failures out.old) }
     {
         write_most(&self.most, out)?;
+        write_remarks(&self.remarks, out)?;
         write_tally(&self.tally, out)
     }
 }

@@ -21,7 +21,7 @@ tally_then tally (l ∷ lines) line = tally_then (with_membership tally l.answer
 abbrev pub count : List (Line (Membership × Behind)) → BelongsTally
 count lines = tally_on no_frames lines
 
-module _ {R : Type 0} (remaining : R → Option (List ℕ)) (failures : R → ℕ) (rom : Rom) (recipe : Recipe) (listing : Listing) where
+module _ {R : Type 0} (remaining : R → Option (List ℕ)) (failures : R → ℕ) (rom : Rom) (recipe : Recipe) (listing : Listing Detail) where
   abbrev pub FramesSoFar : List (NamedFrame R) → Option (List ℕ) → Option (List ℕ) → BelongsTally → ℕ → ℕ → FrameOutcome → Type 0
   FramesSoFar frames old new tally writes writes_after end =
       WritesSoFar (IsLineOfFrame remaining failures rom recipe listing) (of_frames listing) count frames old new tally writes writes_after end

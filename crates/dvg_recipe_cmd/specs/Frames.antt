@@ -46,7 +46,7 @@ module _ {R : Type 0} (remaining : R → Option (List ℕ)) (failures : R → �
       × (failures left ≡ count_after (is_unread membership) (failures reader))
 
   -- the line of a frame: its name, the answer to it, and behind the line what the detail asks for
-  pub record IsLineOfFrame (listing : Listing) (frame : NamedFrame R) (line : Line (Membership × Behind)) : Type 0 where
+  pub record IsLineOfFrame (listing : Listing Detail) (frame : NamedFrame R) (line : Line (Membership × Behind)) : Type 0 where
     pub name_is : line.name ≡ string_bytes frame.name
     pub answers : AnswersFrame frame.reader line.answer.0
     pub asked : IsBehind listing.detail line.answer.1
@@ -66,7 +66,7 @@ summary_of true tally = belongs_summary_text tally ∷ []
 summary_of false tally = []
 
 -- how it is told of frames
-abbrev pub of_frames : Listing → Telling (Membership × Behind)
+abbrev pub of_frames : Listing Detail → Telling (Membership × Behind)
 of_frames listing =
     record {
       text = λ answer. membership_line_text answer.0 ++ behind_text answer.1;

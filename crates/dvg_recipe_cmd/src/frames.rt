@@ -157,7 +157,7 @@ fn write_listed<W: CountedWrite>(
     name: &str,
     membership: Membership,
     behind: &Behind,
-    listing: Listing,
+    listing: Listing<Detail>,
     out: &mut W,
 ) -> Result<FrameOutcome, RunFault>
     ensures outcome { IfOk result (λ end. end ≡ frame_outcome_behind behind.now (membership_outcome membership)) }
@@ -189,7 +189,7 @@ fn run_named<R: CountedRead + Drop, W: CountedWrite>(
     image: &RomImage,
     read: &ReadRecipe,
     frame: NamedFrame<R>,
-    listing: Listing,
+    listing: Listing<Detail>,
     tally: &mut BelongsTally,
     out: &mut W,
 ) -> Result<FrameOutcome, RunFault>
@@ -232,7 +232,7 @@ fn run_frames_of<R: CountedRead + Drop, I: Iterator<Item = NamedFrame<R>> + Drop
     image: &RomImage,
     read: &ReadRecipe,
     frames: I,
-    listing: Listing,
+    listing: Listing<Detail>,
     out: &mut W,
 ) -> Result<FrameOutcome, RunFault>
     requires can { I.can_next frames }
@@ -295,7 +295,7 @@ pub fn run_belongs<
     alloc: Global,
     given: &Recorded,
     frames: I,
-    listing: Listing,
+    listing: Listing<Detail>,
     out: &mut W,
 ) -> Result<FrameOutcome, RunFault>
     requires can { I.can_next frames }

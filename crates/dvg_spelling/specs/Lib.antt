@@ -6,6 +6,7 @@ pub mod Messages
 pub mod Outcomes
 pub mod Places
 pub mod Touched
+pub mod Remarks
 pub mod Report
 pub mod Rules
 pub mod Status

@@ -10,6 +10,7 @@ mod entry_line;
 mod fault;
 mod outcome;
 mod places;
+mod remark;
 mod report;
 mod rule_table;
 mod rules;
@@ -24,6 +25,7 @@ pub use entry_line::EntryLine;
 pub use fault::{FramesRunFault, MakeRunFault, RunFault};
 pub use outcome::{FrameAnswer, FrameOutcome, Outcome, frame_outcome_of, outcome_of};
 pub use places::place_line_of;
+pub use remark::{RemarkKind, RemarkTally, remarks_line_of};
 pub use report::{
     Report, entry_name, frame_report_of, hex_address, hex_word, make_frames_report_of,
     make_line_of, make_report_of, report_of,

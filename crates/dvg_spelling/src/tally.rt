@@ -67,7 +67,7 @@ impl Tally {
 }
 
 /// One more.
-fn count(counted: &mut u32)
+pub fn count(counted: &mut u32)
     ensures { counted.new ≡ count_after true counted.old }
 {
     *counted = counted.saturating_add(1);
@@ -88,7 +88,7 @@ pub fn summary_of(tally: &Tally) -> Summary
 }
 
 /// A count behind its label.
-fn push_count(line: &mut Summary, label: &[u8], count: u32)
+pub fn push_count(line: &mut Summary, label: &[u8], count: u32)
     requires { length line.old.items + length label.now ≤ 7750 }
     ensures text { line.new.items ≡ line.old.items ++ label.now ++ decimal count }
     ensures short { length line.new.items ≤ length line.old.items + length label.now + 10 }

@@ -6,7 +6,7 @@ use crate::expecting::{FaultRow, expect, expect_faults, expect_same};
 use crate::inputs::{EMPTY, STROKE_FRAME, stroke_rom};
 use devices::SlowReader;
 use dvg_cmd::{
-    ASTEROIDS, Counted, Detail, EntryFault, FrameCall, FrameOutcome, FramesRunFault, Key, Lines,
+    ASTEROIDS, Counted, Detail, EntryFault, FrameCall, FrameDetail, FrameOutcome, FramesRunFault, Key, Lines,
     Listing, Machine, MakeFault, MakeRunFault, Mode, NamedFrame, Outcome, OwnCertificates,
     RunFault, SCREEN, Window, frames_status_of, make_frames_report_of, make_frames_status_of,
     make_report_of, make_status_of, map_of, message_of, root_of, run_check, run_frames, run_make,
@@ -101,7 +101,7 @@ fn expect_line(
         reader: frame.map(|bytes| Counted::new(SlowReader::new(bytes, 1))),
     };
     let listing = Listing {
-        detail: Detail::Line,
+        detail: FrameDetail::Answer(Detail::Line),
         lines: Lines::All,
         summary: false,
     };

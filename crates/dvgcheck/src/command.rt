@@ -7,7 +7,7 @@ use crate::labels::{LabelsFault, load_labels};
 use crate::options::{
     BELONGS_LIST_OPTIONS, BELONGS_OPTIONS, CHECK_OPTIONS, FRAMES_OPTIONS, LABELS_OPTIONS,
     LIST_OPTIONS, MAKER_OPTIONS, OUTPUT_OPTIONS, RECIPE_CLOCKS_OPTIONS, RECIPE_OPTIONS,
-    RECIPE_OUTPUT_OPTIONS, RECORDS_OPTIONS, Told, WINDOW_OPTIONS,
+    RECIPE_OUTPUT_OPTIONS, RECORDS_OPTIONS, REMARKS_OPTIONS, Told, WINDOW_OPTIONS,
 };
 use crate::recipe_arguments::{
     BelongsArgs, RecipeArgs, belongs_args, belongs_command, explain_belongs_command,
@@ -16,10 +16,10 @@ use crate::recipe_arguments::{
 use clap::error::ErrorKind;
 use clap::{Arg, ArgMatches, Command, value_parser};
 use dvg_cmd::{
-    ASTEROIDS, CLIPPED, CheckOptions, ClockOptions, DVG_STATES, Detail, FrameOptions, Key, Labels,
-    LineClocks, Lines, Listing, Machine, Mode, NameEnd, RAM_WORDS, RecordLength, RomMap, RootFault,
-    Rule, SCREEN, Timing, Unnamed, Window, limit_of, map_of, record_length_of, root_by, rule_of,
-    start_of, window_of,
+    ASTEROIDS, CLIPPED, CheckOptions, ClockOptions, DVG_STATES, Detail, FrameDetail, FrameOptions,
+    Key, Labels, LineClocks, Lines, Listing, Machine, Mode, NameEnd, OwnCertificates, RAM_WORDS,
+    RecordLength, Remarking, RomMap, RootFault, Rule, SCREEN, Timing, Unnamed, Window, limit_of,
+    map_of, record_length_of, root_by, rule_of, start_of, window_of,
 };
 use std::alloc::{AllocError, AllocFailed, Global};
 use std::{env, io};
@@ -167,6 +167,7 @@ impl Task {
         match self {
             Task::Frames => {
                 let command = told.with(alloc, command, &FRAMES_OPTIONS)?;
+                let command = told.with(alloc, command, &REMARKS_OPTIONS)?;
                 let command = told.with(alloc, command, &RECORDS_OPTIONS)?;
                 told.with(alloc, command, &LIST_OPTIONS)
             }
@@ -237,13 +238,47 @@ pub enum FrameNames<'a> {
     Records(Vec<Named<'a>>, RecordLength),
 }
 
+/// What is written behind the line of a frame.
+#[derive(Clone, Copy)]
+pub enum Wanted<'a> {
+    /// What the detail asks for.
+    Answer(Detail<'a>),
+    /// The remarks on an accepted frame, which name addresses by these labels.
+    Remarks(Option<&'a Labels>),
+}
+
 /// What is asked of frames, whatever frames they are, and what is written of them.
 #[derive(Drop)]
 pub struct Asked<'a> {
     pub rom: Input<'a>,
     pub certificates: Certificates<'a>,
     pub options: FrameOptions,
-    pub listing: Listing<'a>,
+    pub listing: Listing<Wanted<'a>>,
+}
+
+impl<'a> Asked<'a> {
+    /// Whether accounts are written.
+    pub fn has_account(&self) -> bool {
+        matches!(self.listing.detail, Wanted::Answer(Detail::Account(_)))
+    }
+
+    /// What is written of the frames, where certificates for them are made so.
+    pub fn listing_over(&self, own: OwnCertificates<'a>) -> Listing<FrameDetail<'a>> {
+        let Listing {
+            detail,
+            lines,
+            summary,
+        } = self.listing;
+        let detail = match detail {
+            Wanted::Answer(detail) => FrameDetail::Answer(detail),
+            Wanted::Remarks(labels) => FrameDetail::Remarks(Remarking { own, labels }),
+        };
+        Listing {
+            detail,
+            lines,
+            summary,
+        }
+    }
 }
 
 /// The arguments of `frames`.
@@ -369,10 +404,10 @@ fn explain_frames_command<'a>(alloc: Global) -> Result<Command<'a>, AllocError> 
     let command = Command::new(alloc, "frames").about(
         "Judges frames over a vector ROM, by certificates made for them, and explains each answer",
     );
-    let frames = needed(alloc, "FRAME", FRAME_HELP).num_args(1..);
-    let command = with_rom(alloc, command)?.arg(frames)?;
+    let command = with_rom(alloc, command)?.arg(frames_argument(alloc)?)?;
     let command = Told::All.with(alloc, command, &FRAMES_OPTIONS)?;
-    Told::All.with(alloc, command, &RECORDS_OPTIONS)
+    let command = Told::All.with(alloc, command, &RECORDS_OPTIONS)?;
+    Told::All.with(alloc, command, &LIST_OPTIONS)
 }
 
 fn explain_check_command<'a>(alloc: Global) -> Result<Command<'a>, AllocError> {
@@ -625,7 +660,7 @@ fn record_length_of_args<'a>(
     }
 }
 
-/// The frames that the arguments name.
+/// The frames that the arguments name, with what the detail asks for behind each line of those of the command line.
 pub fn frame_names<'a>(
     rt: &HostRuntime,
     args: &ArgMatches<'a>,
@@ -645,10 +680,11 @@ pub fn frame_names<'a>(
     Ok(FrameNames::Listed(Input::named(rt, list), end))
 }
 
-/// What `frames` and `belongs` write of frames. `only_bad` is the option that leaves out the lines of the good ones.
-fn listing_of_args<'a>(args: &ArgMatches<'a>, only_bad: &str) -> Listing<'a> {
+/// What `frames`, `belongs` and `explain frames` write of frames, with this detail. `only_bad` is the option that leaves out the lines of
+/// the good ones.
+fn listing_of_args<'a, D>(args: &ArgMatches<'a>, detail: D, only_bad: &str) -> Listing<D> {
     Listing {
-        detail: Detail::Line,
+        detail,
         lines: if args.get_flag(only_bad) {
             Lines::NotAccepted
         } else {
@@ -658,8 +694,8 @@ fn listing_of_args<'a>(args: &ArgMatches<'a>, only_bad: &str) -> Listing<'a> {
     }
 }
 
-/// What `explain frames` and `explain belongs` write of a frame.
-fn explained(labels: Option<&Labels>) -> Listing<'_> {
+/// What `explain belongs` writes of a frame.
+fn explained(labels: Option<&Labels>) -> Listing<Detail<'_>> {
     Listing {
         detail: Detail::Account(labels),
         lines: Lines::All,
@@ -670,7 +706,7 @@ fn explained(labels: Option<&Labels>) -> Listing<'_> {
 fn frames_args<'a>(
     rt: &HostRuntime,
     args: &ArgMatches<'a>,
-    listing: Listing<'a>,
+    detail: Wanted<'a>,
     labels: Option<&Labels>,
 ) -> Result<FramesArgs<'a>, Usage<'a>> {
     let (map, options) = frame_options(args, labels)?;
@@ -679,12 +715,12 @@ fn frames_args<'a>(
         None => Certificates::Made(map, clocks_of_args(args)?),
     };
     Ok(FramesArgs {
-        frames: frame_names(rt, args, listing.detail)?,
+        frames: frame_names(rt, args, Detail::Line)?,
         asked: Asked {
             rom: file_of(rt, args, "ROM"),
             certificates,
             options,
-            listing,
+            listing: listing_of_args(args, detail, "only-refused"),
         },
     })
 }
@@ -785,7 +821,8 @@ fn explain_request<'a>(
             Ok(Request::Check(args, Detail::Account(labels)))
         }
         Some(("frames", args)) => {
-            let args = frames_args(rt, args, explained(labels), labels)?;
+            let detail = Wanted::Answer(Detail::Account(labels));
+            let args = frames_args(rt, args, detail, labels)?;
             Ok(Request::Frames(args))
         }
         Some(("make", args)) => Ok(Request::ExplainMake(make_args(
@@ -840,9 +877,12 @@ fn request_of<'a>(
 ) -> Result<Request<'a>, Usage<'a>> {
     match task {
         Task::Frames => {
-            let listing = listing_of_args(args, "only-refused");
-            let args = frames_args(rt, args, listing, labels)?;
-            Ok(Request::Frames(args))
+            let detail = if args.get_flag("remarks") {
+                Wanted::Remarks(labels)
+            } else {
+                Wanted::Answer(Detail::Line)
+            };
+            Ok(Request::Frames(frames_args(rt, args, detail, labels)?))
         }
         Task::Check => {
             let args = check_args(rt, args, &["ROM", "CERT", "FRAME"])?;
@@ -863,7 +903,7 @@ fn request_of<'a>(
         }
         Task::Recipe => recipe_request(rt, args, labels),
         Task::Belongs => {
-            let listing = listing_of_args(args, "only-outside");
+            let listing = listing_of_args(args, Detail::Line, "only-outside");
             Ok(Request::Belongs(belongs_args(rt, args, listing, labels)?))
         }
         Task::Explain => explain_request(rt, args, labels),

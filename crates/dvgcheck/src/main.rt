@@ -25,7 +25,7 @@ use command::{
     Asked, Certificates, CheckArgs, FrameNames, FramesArgs, MakeArgs, Named, Parsed, Request, Usage,
 };
 use dvg_cmd::{
-    ClockOptions, Counted, CountedRead, CountedWrite, Detail, FrameOutcome, FramesRunFault,
+    ASTEROIDS, ClockOptions, Counted, CountedRead, CountedWrite, Detail, FrameOutcome, FramesRunFault,
     KeptCertificates, Labels, Listing, MakeAnswer, MakeFault, MakeRunFault, NamedFrame, Outcome,
     OwnCertificates, RomMap, Rule, RunFault, ShapeStarts, TextWatch, TimedCertificates, Window,
     all_rules, frames_status_of, load_cert, load_rom, make_frames_status_of, message_of,
@@ -70,7 +70,7 @@ fn check(rt: &HostRuntime, args: &CheckArgs, detail: Detail) -> Result<Outcome, 
 #[inline(never)]
 fn frames(rt: &HostRuntime, named: Vec<Named>, asked: &Asked) -> Result<FrameOutcome, RunFault> {
     match asked.certificates {
-        Certificates::Made(map, clocks) if asked.listing.detail.has_account() && named.len() > 1 =>
+        Certificates::Made(map, clocks) if asked.has_account() && named.len() > 1 =>
             { explain_together(rt, asked, map, clocks, named) }
         _ => judge_frames(rt, asked, named.into_iter().map(|frame| opened(rt, frame))),
     }
@@ -117,16 +117,16 @@ fn judge_by_own<R: CountedRead + Drop, I: Iterator<Item = NamedFrame<R>> + Drop>
 {
     let mut out = Counted::new(io::writer(rt));
     let start = asked.options.start;
-    let listing = asked.listing;
+    let own = own_certificates(asked, rom, map, others);
+    let listing = asked.listing_over(own);
+    let detail = listing.detail.of_answer();
     match clocks {
         Some(clocks) => {
-            let own = own_certificates(asked, rom, map, others);
-            let mut judge = TimedCertificates::new(rt.alloc(), own, clocks, listing.detail);
+            let mut judge = TimedCertificates::new(rt.alloc(), own, clocks, detail);
             run_frames(rt.alloc(), &mut judge, start, frames, listing, &mut out)
         }
         None => {
-            let own = own_certificates(asked, rom, map, others);
-            let mut judge = KeptCertificates::new(rt.alloc(), own, listing.detail);
+            let mut judge = KeptCertificates::new(rt.alloc(), own, detail);
             run_frames(rt.alloc(), &mut judge, start, frames, listing, &mut out)
         }
     }
@@ -205,8 +205,13 @@ fn judge_frames<R: CountedRead + Drop, I: Iterator<Item = NamedFrame<R>> + Drop>
         }
         Certificates::Given(cert) => {
             let file = open(rt, cert, RunFault::ReadCert)?;
-            let mut watch = TextWatch::new(asked.listing.detail.has_account());
+            let mut watch = TextWatch::new(asked.has_account());
             let cert = load_cert(rt.alloc(), &mut Counted::new(file), &mut watch)?;
+            let map = match &cert {
+                Ok(cert) => cert.map(),
+                Err(_) => ASTEROIDS,
+            };
+            let own = own_certificates(asked, rom.as_slice(), map, None);
             run_frames_given(
                 rt.alloc(),
                 rom.as_slice(),
@@ -214,7 +219,7 @@ fn judge_frames<R: CountedRead + Drop, I: Iterator<Item = NamedFrame<R>> + Drop>
                 &watch,
                 &asked.options,
                 frames,
-                asked.listing,
+                asked.listing_over(own),
                 &mut Counted::new(io::writer(rt)),
             )
         }
@@ -416,7 +421,7 @@ fn run_over(rt: &HostRuntime, args: FramesArgs) -> u8 {
             Err(fault) => tell_fault(rt, fault, FrameOutcome::Accepted),
         },
         FrameNames::Records(files, length) => {
-            let mut records = Records::new(files, length, asked.listing.detail);
+            let mut records = Records::new(files, length, Detail::Line);
             let end = recorded_frames(rt, &mut records, &asked);
             tell_frames_until(rt, end, records.fault())
         }

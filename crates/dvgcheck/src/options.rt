@@ -29,6 +29,7 @@ pub enum CommandOption {
     Output,
     Print,
     Records,
+    Remarks,
     /// `--clocks` of `recipe`, which always takes the board.
     RecipeClocks,
     /// `--labels` of a command whose recipes may have names from them.
@@ -60,7 +61,10 @@ pub const FRAMES_OPTIONS: [CommandOption; 10] = [
 /// The option of `frames` and of `belongs`, and of their accounts, that says that a file has many frames.
 pub const RECORDS_OPTIONS: [CommandOption; 1] = [CommandOption::Records];
 
-/// The options of `frames` that are about many frames.
+/// The option of `frames` that says what else is written.
+pub const REMARKS_OPTIONS: [CommandOption; 1] = [CommandOption::Remarks];
+
+/// The options of `frames` and of `explain frames` that are about many frames.
 pub const LIST_OPTIONS: [CommandOption; 4] = [
     CommandOption::List,
     CommandOption::Null,
@@ -151,6 +155,7 @@ impl CommandOption {
             CommandOption::Output | CommandOption::Witness => "output",
             CommandOption::Print => "print",
             CommandOption::Records => "records",
+            CommandOption::Remarks => "remarks",
             CommandOption::Start => "start",
             CommandOption::Summary => "summary",
             CommandOption::Window => "window",
@@ -217,6 +222,7 @@ impl CommandOption {
                 "Prints the one spelling of this recipe, in place of judging any",
             CommandOption::Records =>
                 "Takes each FRAME as records of so many bytes, one behind another, each of which is a frame",
+            CommandOption::Remarks => "Writes remarks on accepted frames, each as a line",
             CommandOption::Start =>
                 "Judges each frame as though its word 000 were the jump to this word address, or to this label of --labels",
             CommandOption::Summary =>

@@ -34,7 +34,7 @@ pub struct BelongsAsked<'a> {
     pub recipe: Input<'a>,
     /// What names of the recipe may stand for, besides those that it defines.
     pub labels: Option<&'a Labels>,
-    pub listing: Listing<'a>,
+    pub listing: Listing<Detail<'a>>,
 }
 
 /// The arguments of `belongs`.
@@ -134,7 +134,7 @@ pub fn recipe_args<'a>(
 pub fn belongs_args<'a>(
     rt: &HostRuntime,
     args: &ArgMatches<'a>,
-    listing: Listing<'a>,
+    listing: Listing<Detail<'a>>,
     labels: Option<&'a Labels>,
 ) -> Result<BelongsArgs<'a>, Usage<'a>> {
     one_standard_input(args, &["ROM", "RECIPE", "FRAME", "list", "labels"])?;

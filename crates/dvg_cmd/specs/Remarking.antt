@@ -1,0 +1,78 @@
+-- What a run writes behind the line of a frame. All of it is this project's own.
+use Rattle.std.specs.Prelude.{◌≡◌, ℕ, Bool, true, false, List, [], ◌∷◌, Option, Some, None, codes, string_bytes}
+use Rattle.dvg_account.specs.declared.frame_remarks.FrameRemark.{FrameRemark}
+use Rattle.dvg_spelling.specs.Outcomes.{worse}
+use Rattle.dvg_spelling.specs.Remarks.{RemarkTally, no_remarks, with_kind, remarks_text}
+use Rattle.dvg_check.specs.declared.verdict.Yes.{Yes}
+use Rattle.dvg_spelling.specs.declared.outcome.FrameAnswer.{FrameAnswer}
+use Rattle.dvg_spelling.specs.declared.outcome.FrameOutcome.{FrameOutcome}
+use Rattle.dvg_spelling.specs.declared.outcome.FrameOutcome.TheVariants as frame
+use Rattle.dvg_cmd.specs.Detail.{Detail, Behind, IsBehind, behind_text, frame_outcome_behind}
+use Rattle.dvg_cmd.specs.declared.detail.Detail.TheVariants as details
+use Rattle.dvg_cmd.specs.declared.detail.Behind.TheVariants as behinds
+use Rattle.dvg_cmd.specs.Frames.{yes_in}
+pub use Rattle.dvg_cmd.specs.declared.remarking.FrameDetail.{FrameDetail}
+pub use Rattle.dvg_cmd.specs.declared.remarking.FrameDetail.TheVariants as detail
+pub use Rattle.dvg_cmd.specs.declared.remarking.BehindFrame.{BehindFrame}
+pub use Rattle.dvg_cmd.specs.declared.remarking.BehindFrame.TheVariants as behind
+
+-- what is asked of the judge
+abbrev pub answer_detail : FrameDetail → Detail
+answer_detail (detail.Answer asked) = asked
+answer_detail (detail.Remarks remarking) = details.Line
+
+-- whether accounts are written
+abbrev pub has_account : FrameDetail → Bool
+has_account (detail.Answer (details.Account labels)) = true
+has_account (detail.Answer details.Line) = false
+has_account (detail.Remarks remarking) = false
+
+-- remarks, or that there was no memory for them
+abbrev pub AreRemarks : BehindFrame → Type 0
+AreRemarks (behind.Answer what) = ⊥
+AreRemarks what = Unit {0}
+
+-- remarks stand behind the line of each accepted frame, and of no other
+abbrev pub AreRemarksOn : Option Yes → BehindFrame → Type 0
+AreRemarksOn (Some yes) what = AreRemarks what
+AreRemarksOn None what = what ≡ behind.Answer behinds.Nothing
+
+-- what a detail asks for behind the line of an answer
+abbrev pub IsBehindFrame : FrameDetail → FrameAnswer → BehindFrame → Type 0
+IsBehindFrame (detail.Answer asked) answer (behind.Answer what) = IsBehind asked what
+IsBehindFrame (detail.Answer asked) answer what = ⊥
+IsBehindFrame (detail.Remarks remarking) answer what = AreRemarksOn (yes_in answer) what
+
+-- the text that is written behind the line
+abbrev pub text_behind_frame : BehindFrame → List ℕ
+text_behind_frame (behind.Answer what) = behind_text what
+text_behind_frame (behind.Remarks remarks) = string_bytes remarks.text
+text_behind_frame behind.NoRemarks = codes "remarks: out of memory\n"
+
+-- the outcome, from that of the line
+abbrev pub outcome_behind_frame : BehindFrame → FrameOutcome → FrameOutcome
+outcome_behind_frame (behind.Answer what) line = frame_outcome_behind what line
+outcome_behind_frame (behind.Remarks remarks) line = line
+outcome_behind_frame behind.NoRemarks line = worse line frame.NoMemory
+
+-- ---- the summary of remarks
+
+-- with each of these remarks
+abbrev pub with_remarks : List FrameRemark → RemarkTally → RemarkTally
+with_remarks [] t = t
+with_remarks (remark ∷ rest) t = with_remarks rest (with_kind remark.kind t)
+
+-- the tally so far, of which this is one
+abbrev pub tally_in : Option RemarkTally → RemarkTally
+tally_in None = no_remarks
+tally_in (Some t) = t
+
+-- with what stands behind a line
+abbrev pub remarked_with : Option RemarkTally → BehindFrame → Option RemarkTally
+remarked_with tally (behind.Remarks remarks) = Some (with_remarks remarks.found.items (tally_in tally))
+remarked_with tally what = tally
+
+-- no line where there are no remarks on any frame
+abbrev pub remarks_texts : Option RemarkTally → List (List ℕ)
+remarks_texts None = []
+remarks_texts (Some t) = remarks_text t ∷ []

@@ -1,0 +1,140 @@
+//! What a run writes behind the line of a frame: what is told of its answer, or the remarks on an accepted frame.
+
+ghost use Rattle.std.specs.Prelude.{◌≡◌};
+ghost use Rattle.dvg_cmd.specs.Remarking.{AreRemarks, answer_detail, has_account, outcome_behind_frame, text_behind_frame};
+
+use crate::detail::{Behind, Detail};
+use crate::frame_judge::{OwnCertificates, images_for};
+use dvg_account::{FrameRemark, Inputs, frame_remarks, remarks_text};
+use dvg_check::Mode;
+use dvg_labels::Labels;
+use dvg_spelling::FrameOutcome;
+use std::alloc::{AllocError, Global};
+
+/// What a run writes behind the line of a frame.
+#[derive(Clone, Copy)]
+pub enum FrameDetail<'a> {
+    /// What the detail asks for, of any answer.
+    Answer(Detail<'a>),
+    /// The remarks on an accepted frame, each as a line. If there is no memory for them, the run writes `remarks: out of memory` in their
+    /// place, and its outcome says so.
+    Remarks(Remarking<'a>),
+}
+
+impl<'a> FrameDetail<'a> {
+    /// What is asked of the judge of the frame.
+    pub fn of_answer(self) -> Detail<'a>
+        ensures { result ≡ answer_detail self }
+    {
+        match self {
+            FrameDetail::Answer(detail) => detail,
+            FrameDetail::Remarks(_) => Detail::Line,
+        }
+    }
+
+    /// Whether an account is written.
+    pub fn has_account(self) -> bool
+        ensures { result ≡ has_account self }
+    {
+        match self {
+            FrameDetail::Answer(Detail::Account(_)) => true,
+            FrameDetail::Answer(Detail::Line) | FrameDetail::Remarks(_) => false,
+        }
+    }
+}
+
+/// How remarks on accepted frames are found.
+#[derive(Clone, Copy)]
+pub struct Remarking<'a> {
+    /// How a certificate is made for a frame: the remarks speak of its shapes.
+    pub own: OwnCertificates<'a>,
+    /// The labels by which remarks name addresses, if there are any.
+    pub labels: Option<&'a Labels>,
+}
+
+/// The remarks on a frame.
+#[derive(Drop)]
+pub struct FrameRemarks {
+    pub found: Vec<FrameRemark>,
+    /// Their lines.
+    pub text: String,
+}
+
+/// What is written behind the line of a frame.
+#[derive(Drop)]
+pub enum BehindFrame {
+    /// What is told of the answer.
+    Answer(Behind),
+    Remarks(FrameRemarks),
+    /// That there was no memory for the remarks.
+    NoRemarks,
+}
+
+/// What is written in the place of remarks for which there was no memory.
+const NO_REMARKS: &str = "remarks: out of memory\n";
+
+impl BehindFrame {
+    /// The text.
+    pub fn text(&self) -> &str
+        ensures { result.now ≡ text_behind_frame self.now }
+    {
+        match self {
+            BehindFrame::Answer(behind) => behind.text(),
+            BehindFrame::Remarks(remarks) => remarks.text.as_str(),
+            BehindFrame::NoRemarks => NO_REMARKS,
+        }
+    }
+
+    /// What the line of a frame that comes to this and the text come to.
+    pub fn frame_outcome(&self, line: FrameOutcome) -> FrameOutcome
+        ensures { result ≡ outcome_behind_frame self.now line }
+    {
+        match self {
+            BehindFrame::Answer(behind) => behind.frame_outcome(line),
+            BehindFrame::Remarks(_) => line,
+            BehindFrame::NoRemarks => line.or_worse(FrameOutcome::NoMemory),
+        }
+    }
+}
+
+impl<'a> Remarking<'a> {
+    /// The remarks on a frame of this name that was accepted, or that there was no memory for them. There is none on a frame for which no
+    /// certificate can be made.
+    pub fn on(&self, alloc: Global, name: &str, frame: &[u8]) -> BehindFrame
+        ensures { AreRemarks result }
+    {
+        match self.find(alloc, name, frame) {
+            Ok(remarks) => BehindFrame::Remarks(remarks),
+            Err(_) => BehindFrame::NoRemarks,
+        }
+    }
+
+    fn find(&self, alloc: Global, name: &str, frame: &[u8]) -> Result<FrameRemarks, AllocError> {
+        let found = self.find_on(alloc, frame)?;
+        let text = remarks_text(alloc, name, found.as_slice(), self.labels)?;
+        Ok(FrameRemarks { found, text })
+    }
+
+    fn find_on(&self, alloc: Global, frame: &[u8]) -> Result<Vec<FrameRemark>, AllocError> {
+        let own = &self.own;
+        let (Some(cert), Ok((image, rom))) = (
+            own.made_for(alloc, frame)?,
+            images_for(own.machine, own.rom, own.map, frame, own.budget),
+        ) else {
+            return Ok(Vec::new(alloc));
+        };
+        let inputs = Inputs {
+            machine: own.machine,
+            rom: own.rom,
+            map: Some(own.map),
+            cert: Some(&cert),
+            frame,
+            budget: own.budget,
+            window: own.window,
+            mode: Mode::Exact,
+            labels: self.labels,
+            others: own.others,
+        };
+        frame_remarks(alloc, &inputs, &rom, &image)
+    }
+}
