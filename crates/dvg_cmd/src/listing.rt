@@ -14,6 +14,22 @@ pub enum Lines {
     NotAccepted,
 }
 
+impl Lines {
+    /// Whether a line of this outcome is written.
+    pub fn has(self, outcome: FrameOutcome) -> bool
+        ensures { result ≡ is_written self outcome }
+    {
+        match (self, outcome) {
+            (Lines::NotAccepted, FrameOutcome::Accepted) => false,
+            (
+                Lines::NotAccepted,
+                FrameOutcome::Refused | FrameOutcome::NoMemory | FrameOutcome::Unread,
+            )
+            | (Lines::All, _) => true,
+        }
+    }
+}
+
 /// What a run writes of several frames.
 #[derive(Clone, Copy)]
 pub struct Listing<D> {
@@ -24,20 +40,4 @@ pub struct Listing<D> {
     /// Whether a last line says how many frames were accepted, refused by each number, not to be read, and out of memory, whether
     /// they have a line or not; and, where lines tell clocks, three lines before it which accepted frames take most.
     pub summary: bool,
-}
-
-impl<D> Listing<D> {
-    /// Whether a line of this outcome is written.
-    pub fn has(self, outcome: FrameOutcome) -> bool
-        ensures { result ≡ is_written self.entry.lines outcome }
-    {
-        match (self.lines, outcome) {
-            (Lines::NotAccepted, FrameOutcome::Accepted) => false,
-            (
-                Lines::NotAccepted,
-                FrameOutcome::Refused | FrameOutcome::NoMemory | FrameOutcome::Unread,
-            )
-            | (Lines::All, _) => true,
-        }
-    }
 }

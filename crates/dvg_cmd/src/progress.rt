@@ -44,7 +44,7 @@ impl Progress {
             (record { name = string_bytes name; answer = answer.now; behind = behind.now }) }
     {
         let outcome = behind.frame_outcome(frame_outcome_of(answer));
-        if listing.has(outcome) {
+        if listing.lines.has(outcome) {
             self.written = true;
         }
         self.worst = self.worst.or_worse(outcome);

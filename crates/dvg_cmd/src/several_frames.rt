@@ -113,7 +113,7 @@ fn write_listed<W: CountedWrite>(
         (record { name = name.now; answer = answer.now; behind = behind.now })))) }
     ensures count { W.failures out.new ≡ count_after (is_err result) (W.failures out.old) }
 {
-    if !listing.has(behind.frame_outcome(frame_outcome_of(answer))) {
+    if !listing.lines.has(behind.frame_outcome(frame_outcome_of(answer))) {
         return Ok(());
     }
     write_apart(listing.detail, written, out)?;

@@ -171,7 +171,7 @@ fn write_listed<W: CountedWrite>(
     ensures count { W.failures out.new ≡ count_after (is_err result) (W.failures out.old) }
 {
     let outcome = behind.frame_outcome(membership_outcome_of(membership));
-    if listing.has(outcome) {
+    if listing.lines.has(outcome) {
         let line = membership_line_of(membership);
         write_lines(
             name.as_bytes(),

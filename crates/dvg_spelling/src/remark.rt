@@ -7,7 +7,7 @@ use crate::tally::{Summary, count, push_count};
 use dvg_text::push_bytes;
 
 /// What a remark on an accepted frame is about (docs/RUNNING.md). It is no refusal.
-#[derive(Clone, Copy, Debug, PartialEq, Eq)]
+#[derive(Clone, Copy, Debug, PartialEq, Eq, PartialOrd, Ord)]
 pub enum RemarkKind {
     /// A shape runs on into a word at which something else begins.
     RunsOn,
