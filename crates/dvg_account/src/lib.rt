@@ -9,8 +9,10 @@
 
 mod accepted;
 mod answers;
+mod beginnings;
 mod cure;
 mod expecting;
+mod frame_remarks;
 mod furthest;
 mod inputs;
 mod item;
@@ -25,6 +27,7 @@ mod recipes;
 mod refused;
 mod remarks;
 mod sentences;
+mod shape_walk;
 mod spelling;
 mod starts;
 mod swapped;
@@ -35,7 +38,9 @@ mod why;
 mod zeros;
 
 pub use answers::verdict_lines;
+pub use beginnings::Beginning;
 pub use cure::MakerCure;
+pub use frame_remarks::{FrameRemark, RemarkKind, frame_remarks, remarks_text};
 pub use inputs::{Inputs, PlainWhy, plain_lines};
 pub use leaving::leaving_lines;
 pub use line::{
@@ -46,7 +51,7 @@ pub use making::{made_lines, unmade_lines};
 pub use middle::Middle;
 pub use own::{frame_lines, own_lines};
 pub use recipes::{KnownBefore, RecipeLine, recipe_text};
-pub use remarks::{Beginning, Remark};
+pub use remarks::Remark;
 pub use starts::ShapeStarts;
 pub use swapped::{Swapped, find_swapped};
 pub use texts::{

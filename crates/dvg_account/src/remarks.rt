@@ -1,14 +1,11 @@
 //! What is worth a second look in what is accepted. It changes no answer.
 
+use crate::beginnings::{Beginning, Beginnings};
 use crate::inputs::Inputs;
 use crate::line::EntryName;
-use crate::starts::ShapeStarts;
-use crate::zeros::{MOST_ITEMS, item_below};
-use dvg_cert::{Cert, Entries, Entry, Key};
-use dvg_items::{Item, Kind};
-use dvg_labels::{Labels, Nearest};
-use dvg_survey::is_faint;
-use dvg_words::{ADDRESS_END, Instr, RomImage};
+use crate::shape_walk::{ShapeWalk, from_address};
+use dvg_cert::{Cert, Entries};
+use dvg_words::RomImage;
 use std::alloc::{AllocError, Global};
 
 /// Something that its author may not have meant.
@@ -28,165 +25,6 @@ pub enum Remark {
     },
 }
 
-/// What a word is the beginning of.
-#[derive(Clone, Copy)]
-pub enum Beginning {
-    /// The shape of another entry.
-    Entry,
-    /// What a label names.
-    Label,
-}
-
-/// Where something begins beside the shapes of a certificate: the shapes of other frames, and, by word address, what labels name.
-#[derive(Clone, Copy)]
-struct Beside<'a> {
-    others: Option<&'a ShapeStarts>,
-    labelled: &'a [bool],
-}
-
-impl<'a> Beside<'a> {
-    /// What begins at a word address, a shape before a label.
-    fn beginning(&self, at: u16) -> Option<Beginning> {
-        if self.others.is_some_and(|others| others.has(at)) {
-            Some(Beginning::Entry)
-        } else if self.labelled.get(usize::from(at)) == Some(&true) {
-            Some(Beginning::Label)
-        } else {
-            None
-        }
-    }
-}
-
-/// What a walk over the items of a shape found.
-#[derive(Clone, Copy)]
-struct Walk {
-    first: Option<u16>,
-    draws: usize,
-    into: Option<(u16, Beginning)>,
-}
-
-/// Which word addresses have a label, by their numbers; none where there are no labels.
-fn labelled_words(alloc: Global, labels: Option<&Labels>) -> Result<Vec<bool>, AllocError> {
-    let mut labelled = Vec::new(alloc);
-    if let Some(labels) = labels {
-        for at in 0..ADDRESS_END {
-            let nearest = labels.name_at(at);
-            labelled.push(matches!(nearest, Some(Nearest { distance: 0, .. })))?;
-        }
-    }
-    Ok(labelled)
-}
-
-impl Walk {
-    /// The walk over the shape of an entry, with the entries behind it, in their order, and what begins beside them. It ends where
-    /// another shape of the certificate begins at the very scale that is known there, whose own walk goes on.
-    fn over<E: Entries>(
-        rom: &RomImage,
-        entries: &E,
-        entry: &Entry,
-        later: &[Entry],
-        beside: Beside,
-    ) -> Walk {
-        let mut walk = Walk {
-            first: None,
-            draws: 0,
-            into: None,
-        };
-        let mut here = Some(entry.addr);
-        let mut scale = entry.key;
-        let mut later = later;
-        for _ in 0..MOST_ITEMS {
-            let Some(item) = item_below(rom, here, ADDRESS_END) else {
-                break;
-            };
-            walk.note(&item, scale);
-            scale = scale_behind(entries, &item, scale);
-            here = item.next_address(Kind::Shape);
-            later = from_address(later, here);
-            let Some(at) = here else {
-                break;
-            };
-            if walk.meets(entries, later, at, scale, beside) {
-                break;
-            }
-        }
-        walk
-    }
-
-    /// Notes an item, if it is a lit draw at an effective scale of 10 to 15.
-    fn note(&mut self, item: &Item, scale: Key) {
-        if is_faint(&item.instr, scale) {
-            self.first = self.first.or(Some(item.at));
-            self.draws = self.draws.saturating_add(1);
-        }
-    }
-
-    /// Notes that something begins at a word address: of all that is noted the first shape is kept, or without one the first label.
-    fn note_beginning(&mut self, at: u16, beginning: Beginning) {
-        match (self.into, beginning) {
-            (Some((_, Beginning::Entry)), _) | (Some(_), Beginning::Label) => {}
-            _ => self.into = Some((at, beginning)),
-        }
-    }
-
-    /// Notes what begins at a word address, the first of these entries' shapes or something beside them, and answers whether a shape
-    /// of the certificate begins there at this very scale.
-    fn meets<E: Entries>(
-        &mut self,
-        entries: &E,
-        later: &[Entry],
-        at: u16,
-        scale: Key,
-        beside: Beside,
-    ) -> bool {
-        match later.first() {
-            Some(entry) if entry.addr == at => {
-                self.note_beginning(at, Beginning::Entry);
-                entries.find(at, scale).is_some()
-            }
-            _ => {
-                if let Some(beginning) = beside.beginning(at) {
-                    self.note_beginning(at, beginning);
-                }
-                false
-            }
-        }
-    }
-
-    /// The remark on faint draws of this shape, if there are any.
-    fn faint(&self, shape: EntryName) -> Option<Remark> {
-        let first = self.first?;
-        Some(Remark::Faint {
-            shape: Some(shape),
-            first,
-            draws: self.draws,
-        })
-    }
-}
-
-/// The scale that is known behind an item, by the entry that it names.
-fn scale_behind<E: Entries>(entries: &E, item: &Item, scale: Key) -> Key {
-    match item.instr {
-        Instr::Labs { gscale, .. } => Key::At(gscale),
-        Instr::Jsrl { to } | Instr::Jmpl { to } => match entries.named(to, scale) {
-            Some(entry) => entry.scale,
-            None => scale,
-        },
-        _ => scale,
-    }
-}
-
-/// Those of these entries, which are in the order of their addresses, that begin at a word address or behind it.
-fn from_address(entries: &[Entry], here: Option<u16>) -> &[Entry] {
-    match here {
-        Some(at) => {
-            let before = entries.iter().take_while(|entry| entry.addr < at).count();
-            entries.get(before..).unwrap_or(&[])
-        }
-        None => &[],
-    }
-}
-
 /// The remarks on a frame, whose faint draws stand at these word addresses, and on the shapes of a certificate over a ROM, by the labels
 /// and the other frames of these inputs.
 pub fn remarks_on<E: Entries>(
@@ -200,12 +38,8 @@ pub fn remarks_on<E: Entries>(
     let mut remarks = Vec::new(alloc);
     push_some(&mut remarks, faint_in_frame(faint))?;
     if let Some(rom) = rom {
-        let labelled = labelled_words(alloc, inputs.labels)?;
-        let beside = Beside {
-            others: inputs.others,
-            labelled: labelled.as_slice(),
-        };
-        push_shapes(&mut remarks, rom, cert, entries, beside)?;
+        let beginnings = Beginnings::new(alloc, inputs.others, inputs.labels)?;
+        push_shapes(&mut remarks, rom, cert, entries, &beginnings)?;
     }
     Ok(remarks)
 }
@@ -219,21 +53,30 @@ fn faint_in_frame(faint: &[u16]) -> Option<Remark> {
     })
 }
 
+/// The remark on the faint draws of a shape, if there are any.
+fn faint_in_shape(shape: EntryName, walk: &ShapeWalk) -> Option<Remark> {
+    Some(Remark::Faint {
+        shape: Some(shape),
+        first: walk.first_faint?,
+        draws: walk.faint,
+    })
+}
+
 /// Adds the remarks on the shapes. Where one runs on is told at its first scale alone.
 fn push_shapes<E: Entries>(
     remarks: &mut Vec<Remark>,
     rom: &RomImage,
     cert: &Cert,
     entries: &E,
-    beside: Beside,
+    beginnings: &Beginnings,
 ) -> Result<(), AllocError> {
     let mut told = None;
     let mut later = cert.entries();
     for entry in cert.entries() {
         later = from_address(later, Some(entry.addr));
         let shape = EntryName::of(entry);
-        let walk = Walk::over(rom, entries, entry, later, beside);
-        push_some(remarks, walk.faint(shape))?;
+        let walk = ShapeWalk::over(rom, entries, entry, later, beginnings);
+        push_some(remarks, faint_in_shape(shape, &walk))?;
         if told != Some(entry.addr) {
             push_some(
                 remarks,

@@ -3,6 +3,7 @@
 ghost use Rattle.std.specs.Prelude.{◌≡◌};
 ghost use Rattle.dvg_words.specs.Beam.{signed_field};
 
+use crate::beginnings::Beginning;
 use crate::cure::MakerCure;
 use crate::expecting::push_expected;
 use crate::line::{
@@ -10,7 +11,7 @@ use crate::line::{
     Words, Zeros,
 };
 use crate::middle::Middle;
-use crate::remarks::{Beginning, Remark};
+use crate::remarks::Remark;
 use crate::sentences::{push_other_length, push_why};
 use crate::swapped::Swapped;
 use crate::text::Text;

@@ -108,6 +108,14 @@ impl<'a> Text<'a> {
         self.push_address(addr);
     }
 
+    /// The label that names an address, if one does, behind a space.
+    pub fn push_label_behind(&mut self, addr: u16) {
+        if let Some(label) = self.label_at(addr) {
+            self.push(" ");
+            self.push_label(label);
+        }
+    }
+
     /// The label that names an address.
     fn label_at(&self, addr: u16) -> Option<Nearest<'a>> {
         self.labels?.name_at(addr)
