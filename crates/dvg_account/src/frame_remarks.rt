@@ -6,26 +6,10 @@ use crate::shape_walk::{ShapeWalk, from_address};
 use crate::text::Text;
 use dvg_cert::{Cert, Entries, HashIndex};
 use dvg_labels::Labels;
+use dvg_spelling::RemarkKind;
 use dvg_survey::survey_frame;
 use dvg_words::{FrameImage, RomImage};
 use std::alloc::{AllocError, Global};
-
-/// What kind of thing a remark is about.
-#[derive(Clone, Copy, Debug, PartialEq, Eq, PartialOrd, Ord)]
-pub enum RemarkKind {
-    /// A shape runs on into this word, at which something else begins.
-    RunsOn,
-    /// A call is of this word, which is in the middle of what a label names.
-    BesideLabel,
-    /// This lit draw has an effective scale of 10 to 15: on the board it is a dot.
-    ScaleOver9,
-    /// The shape that begins here lights nothing, or nothing is lit behind this LABS.
-    NothingLit,
-    /// A list begins here, behind the HALT of a frame whose word 000 is no jump.
-    NoJump,
-    /// This LABS comes right before another one.
-    IdleLabs,
-}
 
 /// Something in an accepted frame that its author may not have meant, and the word address where it is.
 #[derive(Clone, Copy, Debug, PartialEq, Eq, PartialOrd, Ord)]
@@ -89,18 +73,6 @@ fn push_some(
     Ok(())
 }
 
-/// How a kind is spelled.
-fn kind_word(kind: RemarkKind) -> &'static str {
-    match kind {
-        RemarkKind::RunsOn => "runs-on",
-        RemarkKind::BesideLabel => "beside-label",
-        RemarkKind::ScaleOver9 => "scale-over-9",
-        RemarkKind::NothingLit => "nothing-lit",
-        RemarkKind::NoJump => "no-jump",
-        RemarkKind::IdleLabs => "idle-labs",
-    }
-}
-
 /// The lines of remarks on the frame with this name, in which labels name word addresses: `game.frame: remark runs-on 819 SHIP+3`.
 pub fn remarks_text(
     alloc: Global,
@@ -112,7 +84,7 @@ pub fn remarks_text(
     for remark in remarks {
         text.push(name);
         text.push(": remark ");
-        text.push(kind_word(remark.kind));
+        text.push(remark.kind.word());
         text.push(" ");
         text.push_hex_address(remark.at);
         text.push_label_behind(remark.at);

@@ -40,7 +40,7 @@ mod zeros;
 pub use answers::verdict_lines;
 pub use beginnings::Beginning;
 pub use cure::MakerCure;
-pub use frame_remarks::{FrameRemark, RemarkKind, frame_remarks, remarks_text};
+pub use frame_remarks::{FrameRemark, frame_remarks, remarks_text};
 pub use inputs::{Inputs, PlainWhy, plain_lines};
 pub use leaving::leaving_lines;
 pub use line::{
