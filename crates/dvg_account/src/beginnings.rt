@@ -2,7 +2,7 @@
 
 use crate::starts::ShapeStarts;
 use dvg_labels::{Labels, Nearest};
-use dvg_words::ADDRESS_END;
+use dvg_words::{ADDRESS_END, RomImage};
 use std::alloc::{AllocError, Global};
 
 /// What a word is the beginning of.
@@ -18,21 +18,22 @@ pub enum Beginning {
 #[derive(Drop)]
 pub struct Beginnings<'a> {
     others: Option<&'a ShapeStarts>,
-    /// By word address, whether a label stands there; of no word where there are no labels.
+    /// By word address, whether it is in the ROM and a label stands there; of no word where there are no labels.
     labelled: Vec<bool>,
 }
 
 impl<'a> Beginnings<'a> {
-    /// Those of the shapes of other frames, if these were looked at, and of the words with labels, if there are any.
+    /// Those of the shapes of other frames, if these were looked at, and of the words of a ROM with labels, if there are any.
     pub fn new(
         alloc: Global,
+        rom: &RomImage,
         others: Option<&'a ShapeStarts>,
         labels: Option<&Labels>,
     ) -> Result<Beginnings<'a>, AllocError> {
         let mut labelled = Vec::new(alloc);
         if let Some(labels) = labels {
             for at in 0..ADDRESS_END {
-                labelled.push(stands_at(labels, at))?;
+                labelled.push(rom.word(at).is_some() && stands_at(labels, at))?;
             }
         }
         Ok(Beginnings { others, labelled })

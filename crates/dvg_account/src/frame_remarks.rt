@@ -1,13 +1,14 @@
 //! What the author of an accepted frame may not have meant, by the kind and the word address. It changes no answer.
 
-use crate::beginnings::Beginnings;
+use crate::finder::Finder;
 use crate::inputs::Inputs;
-use crate::shape_walk::{ShapeWalk, from_address};
 use crate::text::Text;
-use dvg_cert::{Cert, Entries, HashIndex};
 use dvg_labels::Labels;
+<<<<<<< HEAD
 use dvg_spelling::RemarkKind;
 use dvg_survey::survey_frame;
+=======
+>>>>>>> 6c8634119e7c1cbbeaaf58d2cc8e08312352299d
 use dvg_words::{FrameImage, RomImage};
 use std::alloc::{AllocError, Global};
 
@@ -26,51 +27,13 @@ pub fn frame_remarks(
     rom: &RomImage,
     frame: &FrameImage,
 ) -> Result<Vec<FrameRemark>, AllocError> {
-    let mut remarks = Vec::new(alloc);
-    if let Some(cert) = inputs.cert {
-        let entries = HashIndex::new(alloc, cert)?;
-        let survey = survey_frame(inputs.machine, alloc, cert, &entries, frame)?;
-        push_some(
-            &mut remarks,
-            RemarkKind::ScaleOver9,
-            survey.faint.first().copied(),
-        )?;
-        let beginnings = Beginnings::new(alloc, inputs.others, inputs.labels)?;
-        push_shapes(&mut remarks, rom, cert, &entries, &beginnings)?;
-    }
-    remarks.sort()?;
-    remarks.dedup();
-    Ok(remarks)
-}
-
-/// Adds the remarks on shapes.
-fn push_shapes<E: Entries>(
-    remarks: &mut Vec<FrameRemark>,
-    rom: &RomImage,
-    cert: &Cert,
-    entries: &E,
-    beginnings: &Beginnings,
-) -> Result<(), AllocError> {
-    let mut later = cert.entries();
-    for entry in cert.entries() {
-        later = from_address(later, Some(entry.addr));
-        let walk = ShapeWalk::over(rom, entries, entry, later, beginnings);
-        push_some(remarks, RemarkKind::ScaleOver9, walk.first_faint)?;
-        push_some(remarks, RemarkKind::RunsOn, walk.into.map(|(into, _)| into))?;
-    }
-    Ok(())
-}
-
-/// Adds a remark on a word, if there is one.
-fn push_some(
-    remarks: &mut Vec<FrameRemark>,
-    kind: RemarkKind,
-    at: Option<u16>,
-) -> Result<(), AllocError> {
-    if let Some(at) = at {
-        remarks.push(FrameRemark { at, kind })?;
-    }
-    Ok(())
+    let Some(cert) = inputs.cert else {
+        return Ok(Vec::new(alloc));
+    };
+    let mut finder = Finder::new(alloc, inputs, cert, rom)?;
+    finder.find_in_frame(alloc, frame)?;
+    finder.find_in_shapes()?;
+    finder.finish()
 }
 
 /// The lines of remarks on the frame with this name, in which labels name word addresses: `game.frame: remark runs-on 819 SHIP+3`.

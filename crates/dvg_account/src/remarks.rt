@@ -3,7 +3,8 @@
 use crate::beginnings::{Beginning, Beginnings};
 use crate::inputs::Inputs;
 use crate::line::EntryName;
-use crate::shape_walk::{ShapeWalk, from_address};
+use crate::shape_items::from_address;
+use crate::shape_walk::ShapeWalk;
 use dvg_cert::{Cert, Entries};
 use dvg_words::RomImage;
 use std::alloc::{AllocError, Global};
@@ -38,7 +39,7 @@ pub fn remarks_on<E: Entries>(
     let mut remarks = Vec::new(alloc);
     push_some(&mut remarks, faint_in_frame(faint))?;
     if let Some(rom) = rom {
-        let beginnings = Beginnings::new(alloc, inputs.others, inputs.labels)?;
+        let beginnings = Beginnings::new(alloc, rom, inputs.others, inputs.labels)?;
         push_shapes(&mut remarks, rom, cert, entries, &beginnings)?;
     }
     Ok(remarks)

@@ -1,6 +1,6 @@
 -- What a run writes behind the line of a frame. All of it is this project's own.
 use Rattle.std.specs.Prelude.{◌≡◌, ℕ, Bool, true, false, List, [], ◌∷◌, Option, Some, None, codes, string_bytes}
-use Rattle.dvg_account.specs.declared.frame_remarks.FrameRemark.{FrameRemark}
+use Rattle.dvg_account.specs.declared.remarked.FrameRemark.{FrameRemark}
 use Rattle.dvg_spelling.specs.Outcomes.{worse}
 use Rattle.dvg_spelling.specs.Remarks.{RemarkTally, no_remarks, with_kind, remarks_text}
 use Rattle.dvg_check.specs.declared.verdict.Yes.{Yes}

@@ -1,0 +1,33 @@
+//! Calls that lead into the middle of what a label names.
+
+use crate::zeros::{MOST_ITEMS, item_below};
+use dvg_items::Kind;
+use dvg_labels::{Labels, Nearest};
+use dvg_words::RomImage;
+
+/// Whether a call of a word address leads into the middle of what a label names: no label stands there, and the items from the nearest
+/// label before it run through it. A shape without a label of its own, behind what a label names, is no such middle.
+pub fn leads_beside(rom: &RomImage, labels: &Labels, to: u16) -> bool {
+    match labels.name_at(to) {
+        Some(Nearest { distance, .. }) if distance > 0 => match to.checked_sub(distance) {
+            Some(from) => runs_through(rom, from, to),
+            None => false,
+        },
+        _ => false,
+    }
+}
+
+/// Whether the items of a ROM from one word address on come to another, not by a jump, as an item's first word or its second.
+fn runs_through(rom: &RomImage, from: u16, to: u16) -> bool {
+    let mut here = Some(from);
+    for _ in 0..MOST_ITEMS {
+        let Some(item) = item_below(rom, here, to) else {
+            break;
+        };
+        if to < item.at + item.format.words() {
+            return true;
+        }
+        here = item.next_address(Kind::Shape);
+    }
+    here == Some(to)
+}

@@ -1,0 +1,156 @@
+//! How remarks on a frame are found: its list is looked at, and each shape that it comes to, once.
+
+use crate::beginnings::Beginnings;
+use crate::beside::leads_beside;
+use crate::frame_list::list_remarks;
+use crate::frame_remarks::{FrameRemark, RemarkKind};
+use crate::inputs::Inputs;
+use crate::labs_watch::LabsWatch;
+use crate::reached::Reached;
+use crate::shape_items::{ShapeItem, ShapeItems, from_address};
+use crate::shape_walk::ShapeWalk;
+use crate::zeros::MOST_ITEMS;
+use dvg_cert::{Cert, End, Entry, HashIndex, LitBox, MOST_ENTRIES};
+use dvg_labels::Labels;
+use dvg_survey::survey_frame;
+use dvg_words::{FrameImage, FrameOn, RomImage};
+use std::alloc::{AllocError, Global};
+
+/// From how many draws on a shape that lights nothing is remarked: one alone is taken for a space between letters.
+const FIGURE_DRAWS: usize = 2;
+
+/// What remarks are found by, the entries that the frame comes to, and the remarks so far.
+#[derive(Drop)]
+pub struct Finder<'a> {
+    rom: &'a RomImage<'a>,
+    cert: &'a Cert,
+    entries: HashIndex<'a>,
+    labels: Option<&'a Labels>,
+    beginnings: Beginnings<'a>,
+    reached: Reached,
+    remarks: Vec<FrameRemark>,
+}
+
+impl<'a> Finder<'a> {
+    /// Nothing so far, by a certificate.
+    pub fn new(
+        alloc: Global,
+        inputs: &Inputs<'a>,
+        cert: &'a Cert,
+        rom: &'a RomImage<'a>,
+    ) -> Result<Finder<'a>, AllocError> {
+        Ok(Finder {
+            rom,
+            cert,
+            entries: HashIndex::new(alloc, cert)?,
+            labels: inputs.labels,
+            beginnings: Beginnings::new(alloc, rom, inputs.others, inputs.labels)?,
+            reached: Reached::new(alloc),
+            remarks: Vec::new(alloc),
+        })
+    }
+
+    /// Looks at the frame's own list.
+    pub fn find_in_frame(&mut self, alloc: Global, frame: &FrameImage) -> Result<(), AllocError> {
+        let machine = self.rom.machine();
+        let survey = survey_frame(machine, alloc, self.cert, &self.entries, frame)?;
+        self.note_some(RemarkKind::ScaleOver9, survey.faint.first().copied())?;
+        for call in &survey.calls {
+            self.reach(&call.entry)?;
+        }
+        for remark in &list_remarks(alloc, self.rom, &FrameOn::new(machine, frame))? {
+            self.remarks.push(*remark)?;
+        }
+        Ok(())
+    }
+
+    /// Looks at the shapes that the frame comes to.
+    pub fn find_in_shapes(&mut self) -> Result<(), AllocError> {
+        for index in 0..MOST_ENTRIES {
+            let Some(entry) = self.reached.get(index) else {
+                break;
+            };
+            self.find_in_shape(&entry)?;
+        }
+        Ok(())
+    }
+
+    /// Looks at the shape of an entry.
+    fn find_in_shape(&mut self, entry: &Entry) -> Result<(), AllocError> {
+        let mut walk = ShapeWalk::new();
+        let mut watch = LabsWatch::new();
+        let later = from_address(self.cert.entries(), Some(entry.addr));
+        let mut items = ShapeItems::of(entry, later);
+        for _ in 0..MOST_ITEMS {
+            let Some(next) = items.next(self.rom, &self.entries, &self.beginnings) else {
+                break;
+            };
+            walk.note(&next);
+            if let Some(remark) = watch.pass(&next.item) {
+                self.remarks.push(remark)?;
+            }
+            self.reach_from(&next)?;
+        }
+        self.note_walk(entry, &walk)
+    }
+
+    /// Notes what a walk over the shape of an entry found.
+    fn note_walk(&mut self, entry: &Entry, walk: &ShapeWalk) -> Result<(), AllocError> {
+        self.note_some(RemarkKind::RunsOn, walk.into.map(|(into, _)| into))?;
+        self.note_some(RemarkKind::ScaleOver9, walk.first_faint)?;
+        if lights_nothing(entry) && walk.moves >= FIGURE_DRAWS {
+            self.note(RemarkKind::NothingLit, entry.addr)?;
+        }
+        Ok(())
+    }
+
+    /// Comes to the entries to which an item of a shape leads.
+    fn reach_from(&mut self, next: &ShapeItem) -> Result<(), AllocError> {
+        if let Some(called) = next.called {
+            self.reach(&called)?;
+        }
+        if let Some(entry) = next.goes_on {
+            self.reached.add(&entry)?;
+        }
+        Ok(())
+    }
+
+    /// Comes to an entry by a call.
+    fn reach(&mut self, entry: &Entry) -> Result<(), AllocError> {
+        let is_new = self.reached.add(entry)?;
+        match self.labels {
+            Some(labels) if is_new && leads_beside(self.rom, labels, entry.addr) => {
+                self.note(RemarkKind::BesideLabel, entry.addr)
+            }
+            _ => Ok(()),
+        }
+    }
+
+    /// Notes something of a word, if there is one.
+    fn note_some(&mut self, kind: RemarkKind, at: Option<u16>) -> Result<(), AllocError> {
+        match at {
+            Some(at) => self.note(kind, at),
+            None => Ok(()),
+        }
+    }
+
+    /// Notes something of a word.
+    fn note(&mut self, kind: RemarkKind, at: u16) -> Result<(), AllocError> {
+        self.remarks.push(FrameRemark { at, kind })?;
+        Ok(())
+    }
+
+    /// The remarks, in the order of their word addresses, each once.
+    pub fn finish(self) -> Result<Vec<FrameRemark>, AllocError> {
+        let mut remarks = self.remarks;
+        remarks.sort()?;
+        remarks.dedup();
+        Ok(remarks)
+    }
+}
+
+/// Whether an entry claims that its shape lights nothing, at relative places and, since it sets no place, at others. One that sets its
+/// place, or loses it, is taken to light something.
+fn lights_nothing(entry: &Entry) -> bool {
+    matches!((entry.lit, entry.stop), (LitBox::Empty, End::Rel { .. }))
+}

@@ -1,0 +1,36 @@
+//! The entries that a frame comes to.
+
+use dvg_cert::Entry;
+use std::alloc::{AllocError, Global};
+
+/// Entries in the order in which a frame comes to them, each once.
+#[derive(Drop)]
+pub struct Reached {
+    entries: Vec<Entry>,
+}
+
+impl Reached {
+    /// No entry so far.
+    pub fn new(alloc: Global) -> Reached {
+        Reached {
+            entries: Vec::new(alloc),
+        }
+    }
+
+    /// Adds an entry, unless it is there. Answers whether it is new.
+    pub fn add(&mut self, entry: &Entry) -> Result<bool, AllocError> {
+        let is_new = !self
+            .entries
+            .iter()
+            .any(|known| known.is_at(entry.addr, entry.key));
+        if is_new {
+            self.entries.push(*entry)?;
+        }
+        Ok(is_new)
+    }
+
+    /// The entry with this index.
+    pub fn get(&self, index: usize) -> Option<Entry> {
+        self.entries.get(index).copied()
+    }
+}
