@@ -3,7 +3,8 @@
 use crate::beginnings::Beginnings;
 use crate::beside::leads_beside;
 use crate::frame_list::list_remarks;
-use crate::frame_remarks::{FrameRemark, RemarkKind};
+use crate::remarked::FrameRemark;
+use dvg_spelling::RemarkKind;
 use crate::inputs::Inputs;
 use crate::labs_watch::LabsWatch;
 use crate::reached::Reached;

@@ -1,6 +1,7 @@
 //! The list of a frame, as remarks look at it.
 
-use crate::frame_remarks::{FrameRemark, RemarkKind};
+use crate::remarked::FrameRemark;
+use dvg_spelling::RemarkKind;
 use crate::labs_watch::LabsWatch;
 use crate::zeros::{MOST_ITEMS, item_below};
 use dvg_items::{Item, Kind};

@@ -1,6 +1,7 @@
 //! Each LABS of a list or of a shape that has no effect on what is lit.
 
-use crate::frame_remarks::{FrameRemark, RemarkKind};
+use crate::remarked::FrameRemark;
+use dvg_spelling::RemarkKind;
 use dvg_items::Item;
 use dvg_words::Instr;
 

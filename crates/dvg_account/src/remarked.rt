@@ -4,11 +4,7 @@ use crate::finder::Finder;
 use crate::inputs::Inputs;
 use crate::text::Text;
 use dvg_labels::Labels;
-<<<<<<< HEAD
 use dvg_spelling::RemarkKind;
-use dvg_survey::survey_frame;
-=======
->>>>>>> 6c8634119e7c1cbbeaaf58d2cc8e08312352299d
 use dvg_words::{FrameImage, RomImage};
 use std::alloc::{AllocError, Global};
 
