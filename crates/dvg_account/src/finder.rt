@@ -54,7 +54,8 @@ impl<'a> Finder<'a> {
     /// Looks at the frame's own list.
     pub fn find_in_frame(&mut self, alloc: Global, frame: &FrameImage) -> Result<(), AllocError> {
         let machine = self.rom.machine();
-        let survey = survey_frame(machine, alloc, self.cert, &self.entries, frame)?;
+        let entries = HashIndex::new(alloc, self.cert)?;
+        let survey = survey_frame(machine, alloc, self.cert, &entries, frame)?;
         self.note_some(RemarkKind::ScaleOver9, survey.faint.first().copied())?;
         for call in &survey.calls {
             self.reach(&call.entry)?;
