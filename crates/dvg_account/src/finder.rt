@@ -3,16 +3,16 @@
 use crate::beginnings::Beginnings;
 use crate::beside::leads_beside;
 use crate::frame_list::list_remarks;
-use crate::remarked::FrameRemark;
-use dvg_spelling::RemarkKind;
 use crate::inputs::Inputs;
 use crate::labs_watch::LabsWatch;
 use crate::reached::Reached;
+use crate::remarked::FrameRemark;
 use crate::shape_items::{ShapeItem, ShapeItems, from_address};
 use crate::shape_walk::ShapeWalk;
 use crate::zeros::MOST_ITEMS;
 use dvg_cert::{Cert, End, Entry, HashIndex, LitBox, MOST_ENTRIES};
 use dvg_labels::Labels;
+use dvg_spelling::RemarkKind;
 use dvg_survey::survey_frame;
 use dvg_words::{FrameImage, FrameOn, RomImage};
 use std::alloc::{AllocError, Global};

@@ -1,10 +1,10 @@
 //! The list of a frame, as remarks look at it.
 
-use crate::remarked::FrameRemark;
-use dvg_spelling::RemarkKind;
 use crate::labs_watch::LabsWatch;
+use crate::remarked::FrameRemark;
 use crate::zeros::{MOST_ITEMS, item_below};
 use dvg_items::{Item, Kind};
+use dvg_spelling::RemarkKind;
 use dvg_words::{ADDRESS_END, Cell, FrameOn, Instr, RomImage, read_cell};
 use std::alloc::{AllocError, Global};
 
