@@ -13,8 +13,8 @@ use crate::zeros::MOST_ITEMS;
 use dvg_cert::{Cert, End, Entry, HashIndex, LitBox, MOST_ENTRIES};
 use dvg_labels::Labels;
 use dvg_spelling::RemarkKind;
-use dvg_survey::survey_frame;
-use dvg_words::{FrameImage, FrameOn, RomImage};
+use dvg_survey::FrameSurvey;
+use dvg_words::{FrameOn, RomImage};
 use std::alloc::{AllocError, Global};
 
 /// From how many draws on a shape that lights nothing is remarked: one alone is taken for a space between letters.
@@ -33,17 +33,18 @@ pub struct Finder<'a> {
 }
 
 impl<'a> Finder<'a> {
-    /// Nothing so far, by a certificate.
+    /// Nothing so far, by a certificate and the index of its entries.
     pub fn new(
         alloc: Global,
         inputs: &Inputs<'a>,
         cert: &'a Cert,
+        entries: HashIndex<'a>,
         rom: &'a RomImage<'a>,
     ) -> Result<Finder<'a>, AllocError> {
         Ok(Finder {
             rom,
             cert,
-            entries: HashIndex::new(alloc, cert)?,
+            entries,
             labels: inputs.labels,
             beginnings: Beginnings::new(alloc, rom, inputs.others, inputs.labels)?,
             reached: Reached::new(alloc),
@@ -51,15 +52,18 @@ impl<'a> Finder<'a> {
         })
     }
 
-    /// Looks at the frame's own list.
-    pub fn find_in_frame(&mut self, alloc: Global, frame: &FrameImage) -> Result<(), AllocError> {
-        let machine = self.rom.machine();
-        let survey = survey_frame(machine, alloc, self.cert, &self.entries, frame)?;
+    /// Looks at the frame's own list, of which this is the survey.
+    pub fn find_in_frame(
+        &mut self,
+        alloc: Global,
+        frame: &FrameOn,
+        survey: &FrameSurvey,
+    ) -> Result<(), AllocError> {
         self.note_some(RemarkKind::ScaleOver9, survey.faint.first().copied())?;
         for call in &survey.calls {
             self.reach(&call.entry)?;
         }
-        for remark in &list_remarks(alloc, self.rom, &FrameOn::new(machine, frame))? {
+        for remark in &list_remarks(alloc, self.rom, frame)? {
             self.remarks.push(*remark)?;
         }
         Ok(())

@@ -40,6 +40,7 @@ mod swapped;
 mod text;
 mod texts;
 mod time;
+mod unseen;
 mod why;
 mod zeros;
 

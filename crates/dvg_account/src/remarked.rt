@@ -3,9 +3,11 @@
 use crate::finder::Finder;
 use crate::inputs::Inputs;
 use crate::text::Text;
+use dvg_cert::HashIndex;
 use dvg_labels::Labels;
 use dvg_spelling::RemarkKind;
-use dvg_words::{FrameImage, RomImage};
+use dvg_survey::survey_frame;
+use dvg_words::{FrameImage, FrameOn, RomImage};
 use std::alloc::{AllocError, Global};
 
 /// Something in an accepted frame that its author may not have meant, and the word address where it is.
@@ -26,8 +28,10 @@ pub fn frame_remarks(
     let Some(cert) = inputs.cert else {
         return Ok(Vec::new(alloc));
     };
-    let mut finder = Finder::new(alloc, inputs, cert, rom)?;
-    finder.find_in_frame(alloc, frame)?;
+    let entries = HashIndex::new(alloc, cert)?;
+    let survey = survey_frame(rom.machine(), alloc, cert, &entries, frame)?;
+    let mut finder = Finder::new(alloc, inputs, cert, entries, rom)?;
+    finder.find_in_frame(alloc, &FrameOn::new(rom.machine(), frame), &survey)?;
     finder.find_in_shapes()?;
     finder.finish()
 }
