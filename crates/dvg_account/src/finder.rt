@@ -4,11 +4,12 @@ use crate::beginnings::Beginnings;
 use crate::beside::leads_beside;
 use crate::frame_list::list_remarks;
 use crate::inputs::Inputs;
+use crate::item::instruction_at;
 use crate::labs_watch::LabsWatch;
 use crate::reached::Reached;
-use crate::remarked::FrameRemark;
+use crate::remarked::{FrameRemark, in_order};
 use crate::shape_items::{ShapeItem, ShapeItems, from_address};
-use crate::shape_walk::ShapeWalk;
+use crate::shape_walk::{ShapeWalk, has_length};
 use crate::zeros::MOST_ITEMS;
 use dvg_cert::{Cert, End, Entry, HashIndex, LitBox, MOST_ENTRIES};
 use dvg_labels::Labels;
@@ -59,14 +60,12 @@ impl<'a> Finder<'a> {
         frame: &FrameOn,
         survey: &FrameSurvey,
     ) -> Result<(), AllocError> {
-        self.note_some(RemarkKind::ScaleOver9, survey.faint.first().copied())?;
+        self.note_some(RemarkKind::ScaleOver9, first_shrunk(frame, &survey.faint))?;
         for call in &survey.calls {
             self.reach(&call.entry)?;
         }
-        for remark in &list_remarks(alloc, self.rom, frame)? {
-            self.remarks.push(*remark)?;
-        }
-        Ok(())
+        self.remarks
+            .extend_from_slice(&list_remarks(alloc, self.rom, frame)?)
     }
 
     /// Looks at the shapes that the frame comes to.
@@ -102,7 +101,7 @@ impl<'a> Finder<'a> {
     /// Notes what a walk over the shape of an entry found.
     fn note_walk(&mut self, entry: &Entry, walk: &ShapeWalk) -> Result<(), AllocError> {
         self.note_some(RemarkKind::RunsOn, walk.into.map(|(into, _)| into))?;
-        self.note_some(RemarkKind::ScaleOver9, walk.first_faint)?;
+        self.note_some(RemarkKind::ScaleOver9, walk.first_shrunk)?;
         if lights_nothing(entry) && walk.moves >= FIGURE_DRAWS {
             self.note(RemarkKind::NothingLit, entry.addr)?;
         }
@@ -122,9 +121,9 @@ impl<'a> Finder<'a> {
 
     /// Comes to an entry by a call.
     fn reach(&mut self, entry: &Entry) -> Result<(), AllocError> {
-        let is_new = self.reached.add(entry)?;
+        self.reached.add(entry)?;
         match self.labels {
-            Some(labels) if is_new && leads_beside(self.rom, labels, entry.addr) => {
+            Some(labels) if leads_beside(self.rom, labels, entry.addr) => {
                 self.note(RemarkKind::BesideLabel, entry.addr)
             }
             _ => Ok(()),
@@ -147,11 +146,19 @@ impl<'a> Finder<'a> {
 
     /// The remarks, in the order of their word addresses, each once.
     pub fn finish(self) -> Result<Vec<FrameRemark>, AllocError> {
-        let mut remarks = self.remarks;
-        remarks.sort()?;
-        remarks.dedup();
-        Ok(remarks)
+        in_order(self.remarks)
     }
+}
+
+/// The first of these draws of a frame that has a length. One without is a dot at any scale.
+fn first_shrunk(frame: &FrameOn, faint: &[u16]) -> Option<u16> {
+    for at in faint {
+        match instruction_at(frame, *at) {
+            Some(there) if has_length(&there.instr) => return Some(*at),
+            _ => {}
+        }
+    }
+    None
 }
 
 /// Whether an entry claims that its shape lights nothing, at relative places and, since it sets no place, at others. One that sets its

@@ -17,8 +17,8 @@ pub struct FrameRemark {
     pub kind: RemarkKind,
 }
 
-/// The remarks on an accepted frame, by its certificate (inputs.cert is Some; the images are those of the inputs), in the order of their
-/// word addresses.
+/// The remarks on an accepted frame, by the certificate of these inputs; none without one. The ROM and the frame are those of the inputs.
+/// They are in the order of their word addresses, at one address in that of the kinds, and each is there once.
 pub fn frame_remarks(
     alloc: Global,
     inputs: &Inputs,
@@ -34,6 +34,13 @@ pub fn frame_remarks(
     finder.find_in_frame(alloc, &FrameOn::new(rom.machine(), frame), &survey)?;
     finder.find_in_shapes()?;
     finder.finish()
+}
+
+/// Remarks in the order of their word addresses, each once.
+pub fn in_order(mut remarks: Vec<FrameRemark>) -> Result<Vec<FrameRemark>, AllocError> {
+    remarks.sort()?;
+    remarks.dedup();
+    Ok(remarks)
 }
 
 /// The lines of remarks on the frame with this name, in which labels name word addresses: `game.frame: remark runs-on 819 SHIP+3`.
