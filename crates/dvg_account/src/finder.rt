@@ -3,18 +3,19 @@
 use crate::beginnings::Beginnings;
 use crate::beside::leads_beside;
 use crate::frame_list::list_remarks;
-use crate::remarked::FrameRemark;
-use dvg_spelling::RemarkKind;
 use crate::inputs::Inputs;
+use crate::item::instruction_at;
 use crate::labs_watch::LabsWatch;
 use crate::reached::Reached;
+use crate::remarked::{FrameRemark, in_order};
 use crate::shape_items::{ShapeItem, ShapeItems, from_address};
-use crate::shape_walk::ShapeWalk;
+use crate::shape_walk::{ShapeWalk, has_length};
 use crate::zeros::MOST_ITEMS;
 use dvg_cert::{Cert, End, Entry, HashIndex, LitBox, MOST_ENTRIES};
 use dvg_labels::Labels;
-use dvg_survey::survey_frame;
-use dvg_words::{FrameImage, FrameOn, RomImage};
+use dvg_spelling::RemarkKind;
+use dvg_survey::FrameSurvey;
+use dvg_words::{FrameOn, RomImage};
 use std::alloc::{AllocError, Global};
 
 /// From how many draws on a shape that lights nothing is remarked: one alone is taken for a space between letters.
@@ -33,17 +34,18 @@ pub struct Finder<'a> {
 }
 
 impl<'a> Finder<'a> {
-    /// Nothing so far, by a certificate.
+    /// Nothing so far, by a certificate and the index of its entries.
     pub fn new(
         alloc: Global,
         inputs: &Inputs<'a>,
         cert: &'a Cert,
+        entries: HashIndex<'a>,
         rom: &'a RomImage<'a>,
     ) -> Result<Finder<'a>, AllocError> {
         Ok(Finder {
             rom,
             cert,
-            entries: HashIndex::new(alloc, cert)?,
+            entries,
             labels: inputs.labels,
             beginnings: Beginnings::new(alloc, rom, inputs.others, inputs.labels)?,
             reached: Reached::new(alloc),
@@ -51,19 +53,19 @@ impl<'a> Finder<'a> {
         })
     }
 
-    /// Looks at the frame's own list.
-    pub fn find_in_frame(&mut self, alloc: Global, frame: &FrameImage) -> Result<(), AllocError> {
-        let machine = self.rom.machine();
-        let entries = HashIndex::new(alloc, self.cert)?;
-        let survey = survey_frame(machine, alloc, self.cert, &entries, frame)?;
-        self.note_some(RemarkKind::ScaleOver9, survey.faint.first().copied())?;
+    /// Looks at the frame's own list, of which this is the survey.
+    pub fn find_in_frame(
+        &mut self,
+        alloc: Global,
+        frame: &FrameOn,
+        survey: &FrameSurvey,
+    ) -> Result<(), AllocError> {
+        self.note_some(RemarkKind::ScaleOver9, first_shrunk(frame, &survey.faint))?;
         for call in &survey.calls {
             self.reach(&call.entry)?;
         }
-        for remark in &list_remarks(alloc, self.rom, &FrameOn::new(machine, frame))? {
-            self.remarks.push(*remark)?;
-        }
-        Ok(())
+        self.remarks
+            .extend_from_slice(&list_remarks(alloc, self.rom, frame)?)
     }
 
     /// Looks at the shapes that the frame comes to.
@@ -99,7 +101,7 @@ impl<'a> Finder<'a> {
     /// Notes what a walk over the shape of an entry found.
     fn note_walk(&mut self, entry: &Entry, walk: &ShapeWalk) -> Result<(), AllocError> {
         self.note_some(RemarkKind::RunsOn, walk.into.map(|(into, _)| into))?;
-        self.note_some(RemarkKind::ScaleOver9, walk.first_faint)?;
+        self.note_some(RemarkKind::ScaleOver9, walk.first_shrunk)?;
         if lights_nothing(entry) && walk.moves >= FIGURE_DRAWS {
             self.note(RemarkKind::NothingLit, entry.addr)?;
         }
@@ -119,9 +121,9 @@ impl<'a> Finder<'a> {
 
     /// Comes to an entry by a call.
     fn reach(&mut self, entry: &Entry) -> Result<(), AllocError> {
-        let is_new = self.reached.add(entry)?;
+        self.reached.add(entry)?;
         match self.labels {
-            Some(labels) if is_new && leads_beside(self.rom, labels, entry.addr) => {
+            Some(labels) if leads_beside(self.rom, labels, entry.addr) => {
                 self.note(RemarkKind::BesideLabel, entry.addr)
             }
             _ => Ok(()),
@@ -144,11 +146,19 @@ impl<'a> Finder<'a> {
 
     /// The remarks, in the order of their word addresses, each once.
     pub fn finish(self) -> Result<Vec<FrameRemark>, AllocError> {
-        let mut remarks = self.remarks;
-        remarks.sort()?;
-        remarks.dedup();
-        Ok(remarks)
+        in_order(self.remarks)
     }
+}
+
+/// The first of these draws of a frame that has a length. One without is a dot at any scale.
+fn first_shrunk(frame: &FrameOn, faint: &[u16]) -> Option<u16> {
+    for at in faint {
+        match instruction_at(frame, *at) {
+            Some(there) if has_length(&there.instr) => return Some(*at),
+            _ => {}
+        }
+    }
+    None
 }
 
 /// Whether an entry claims that its shape lights nothing, at relative places and, since it sets no place, at others. One that sets its

@@ -1,11 +1,12 @@
 //! The list of a frame, as remarks look at it.
 
-use crate::remarked::FrameRemark;
-use dvg_spelling::RemarkKind;
 use crate::labs_watch::LabsWatch;
+use crate::remarked::FrameRemark;
+use crate::unseen::unseen_list;
 use crate::zeros::{MOST_ITEMS, item_below};
 use dvg_items::{Item, Kind};
-use dvg_words::{ADDRESS_END, Cell, FrameOn, Instr, RomImage, read_cell};
+use dvg_spelling::RemarkKind;
+use dvg_words::{ADDRESS_END, FrameOn, Instr, RomImage};
 use std::alloc::{AllocError, Global};
 
 /// The remarks on the items of a frame's list and on what stands behind it, in their order.
@@ -28,45 +29,20 @@ pub fn list_remarks(
         last = Some(item);
         here = item.next_address(Kind::Frame);
     }
-    if let Some(at) = another_list(rom, frame, last) {
-        remarks.push(FrameRemark {
-            at,
-            kind: RemarkKind::NoJump,
-        })?;
+    if let Some(remark) = remark_behind(rom, frame, last) {
+        remarks.push(remark)?;
     }
     Ok(remarks)
 }
 
-/// The word behind the HALT that ends a list, if another list may begin there, which is never looked at: word 000 is no jump, and a
-/// LABS or a call of a word of the ROM stands there.
-fn another_list(rom: &RomImage, frame: &FrameOn, last: Option<Item>) -> Option<u16> {
-    let Some(
-        Item {
-            at,
-            instr: Instr::Halt,
-            ..
-        },
-    ) = last
-    else {
-        return None;
-    };
-    let begins = match (instr_at(frame, 0), instr_at(frame, at.saturating_add(1))) {
-        (Some(Instr::Jmpl { .. }), _) => false,
-        (_, Some(Instr::Labs { .. })) => true,
-        (_, Some(Instr::Jsrl { to })) => rom.word(to).is_some(),
-        _ => false,
-    };
-    if begins {
-        Some(at.saturating_add(1))
-    } else {
-        None
-    }
-}
-
-/// The instruction at a word address of a frame.
-fn instr_at(frame: &FrameOn, at: u16) -> Option<Instr> {
-    match read_cell(frame, at) {
-        Cell::Holds { instr, .. } => Some(instr),
+/// The remark on another list behind the last item of a list, if that is a HALT.
+fn remark_behind(rom: &RomImage, frame: &FrameOn, last: Option<Item>) -> Option<FrameRemark> {
+    let last = last?;
+    match last.instr {
+        Instr::Halt => Some(FrameRemark {
+            at: unseen_list(rom, frame, last.at)?,
+            kind: RemarkKind::NoJump,
+        }),
         _ => None,
     }
 }

@@ -166,7 +166,7 @@ pub fn callee_of(found: &Found) -> Option<Entry>
 }
 
 /// The instruction at a word address, if there is one.
-fn instruction_at<F: Fetch>(memory: &F, at: u16) -> Option<Instruction>
+pub fn instruction_at<F: Fetch>(memory: &F, at: u16) -> Option<Instruction>
     ensures { result ≡ instruction_at (F.words memory.now) at }
 {
     match read_cell(memory, at) {

@@ -1,8 +1,8 @@
 //! Each LABS of a list or of a shape that has no effect on what is lit.
 
 use crate::remarked::FrameRemark;
-use dvg_spelling::RemarkKind;
 use dvg_items::Item;
+use dvg_spelling::RemarkKind;
 use dvg_words::Instr;
 
 /// What came behind a LABS.

@@ -17,16 +17,16 @@ impl Reached {
         }
     }
 
-    /// Adds an entry, unless it is there. Answers whether it is new.
-    pub fn add(&mut self, entry: &Entry) -> Result<bool, AllocError> {
-        let is_new = !self
+    /// Adds an entry, unless it is there.
+    pub fn add(&mut self, entry: &Entry) -> Result<(), AllocError> {
+        let is_known = self
             .entries
             .iter()
             .any(|known| known.is_at(entry.addr, entry.key));
-        if is_new {
+        if !is_known {
             self.entries.push(*entry)?;
         }
-        Ok(is_new)
+        Ok(())
     }
 
     /// The entry with this index.

@@ -3,9 +3,11 @@
 use crate::finder::Finder;
 use crate::inputs::Inputs;
 use crate::text::Text;
+use dvg_cert::HashIndex;
 use dvg_labels::Labels;
 use dvg_spelling::RemarkKind;
-use dvg_words::{FrameImage, RomImage};
+use dvg_survey::survey_frame;
+use dvg_words::{FrameImage, FrameOn, RomImage};
 use std::alloc::{AllocError, Global};
 
 /// Something in an accepted frame that its author may not have meant, and the word address where it is.
@@ -15,8 +17,8 @@ pub struct FrameRemark {
     pub kind: RemarkKind,
 }
 
-/// The remarks on an accepted frame, by its certificate (inputs.cert is Some; the images are those of the inputs), in the order of their
-/// word addresses.
+/// The remarks on an accepted frame, by the certificate of these inputs; none without one. The ROM and the frame are those of the inputs.
+/// They are in the order of their word addresses, at one address in that of the kinds, and each is there once.
 pub fn frame_remarks(
     alloc: Global,
     inputs: &Inputs,
@@ -26,10 +28,19 @@ pub fn frame_remarks(
     let Some(cert) = inputs.cert else {
         return Ok(Vec::new(alloc));
     };
-    let mut finder = Finder::new(alloc, inputs, cert, rom)?;
-    finder.find_in_frame(alloc, frame)?;
+    let entries = HashIndex::new(alloc, cert)?;
+    let survey = survey_frame(rom.machine(), alloc, cert, &entries, frame)?;
+    let mut finder = Finder::new(alloc, inputs, cert, entries, rom)?;
+    finder.find_in_frame(alloc, &FrameOn::new(rom.machine(), frame), &survey)?;
     finder.find_in_shapes()?;
     finder.finish()
+}
+
+/// Remarks in the order of their word addresses, each once.
+pub fn in_order(mut remarks: Vec<FrameRemark>) -> Result<Vec<FrameRemark>, AllocError> {
+    remarks.sort()?;
+    remarks.dedup();
+    Ok(remarks)
 }
 
 /// The lines of remarks on the frame with this name, in which labels name word addresses: `game.frame: remark runs-on 819 SHIP+3`.

@@ -13,6 +13,8 @@ pub struct ShapeWalk {
     /// The word address of the first lit draw at an effective scale of 10 to 15, and how many there are.
     pub first_faint: Option<u16>,
     pub faint: usize,
+    /// The word address of the first of them that has a length. One without is a dot at any scale.
+    pub first_shrunk: Option<u16>,
     /// How many draws have a length.
     pub moves: usize,
     /// The word address to which the shape runs on, where something else begins: the first other shape, or without one the first
@@ -26,6 +28,7 @@ impl ShapeWalk {
         ShapeWalk {
             first_faint: None,
             faint: 0,
+            first_shrunk: None,
             moves: 0,
             into: None,
         }
@@ -52,12 +55,16 @@ impl ShapeWalk {
 
     /// Notes the next item.
     pub fn note(&mut self, next: &ShapeItem) {
-        if is_faint(&next.item.instr, next.scale) {
+        let faint = is_faint(&next.item.instr, next.scale);
+        if faint {
             self.first_faint = self.first_faint.or(Some(next.item.at));
             self.faint = self.faint.saturating_add(1);
         }
         if has_length(&next.item.instr) {
             self.moves = self.moves.saturating_add(1);
+            if faint {
+                self.first_shrunk = self.first_shrunk.or(Some(next.item.at));
+            }
         }
         if let Some((at, beginning)) = next.meets {
             self.note_beginning(at, beginning);
@@ -74,7 +81,7 @@ impl ShapeWalk {
 }
 
 /// Whether an instruction is a draw with a size other than 0.
-fn has_length(instr: &Instr) -> bool {
+pub fn has_length(instr: &Instr) -> bool {
     match instr {
         Instr::Draw(draw) => draw.dx != 0 || draw.dy != 0,
         _ => false,
