@@ -1,7 +1,7 @@
 //! What is counted of two dumps as far as both go, and which words differ there.
 
 ghost use Rattle.std.specs.Prelude.{◌≡◌, ◌≤◌, count_ones, length, slice_get};
-ghost use Rattle.dvg_dumps.specs.Front.{bits, count, differ, differs_at, falls, front, is_level_where_different, measured, once, word_at, word_differs};
+ghost use Rattle.dvg_dumps.specs.Front.{bits, count, differ, differs_at, falls, front, is_level_where_different, level_if_different, measured, once, word_at, word_differs};
 ghost use Rattle.dvg_dumps.specs.declared.measuring.TheConstants.{MOST_BYTES};
 
 use crate::lines::{Level, has_level, is_high};
@@ -127,13 +127,20 @@ pub fn count(measure: Measure, good: &[u8], other: &[u8]) -> u32
     counted
 }
 
+/// Whether an address line has this level at an address, if the dumps differ there.
+fn level_if_different(good: &[u8], other: &[u8], line: u16, level: Level, at: u16) -> bool
+    ensures { result ≡ level_if_different good.now other.now line level at }
+{
+    !differs_at(good, other, usize::from(at)) || has_level(at, line, level)
+}
+
 /// Whether an address line, given by its weight, has this level wherever the dumps differ.
 pub fn is_level_where_different(good: &[u8], other: &[u8], line: u16, level: Level) -> bool
     requires { length good.now ≤ MOST_BYTES }
     ensures { result ≡ is_level_where_different good.now other.now line level }
 {
     for at in 0..front(good, other) {
-        if differs_at(good, other, at) && !has_level(at as u16, line, level) {
+        if !level_if_different(good, other, line, level, at as u16) {
             return false;
         }
     }

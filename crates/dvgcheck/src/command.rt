@@ -5,9 +5,9 @@ use crate::form::Form;
 use crate::input::Input;
 use crate::labels::{LabelsFault, load_labels};
 use crate::options::{
-    BELONGS_LIST_OPTIONS, BELONGS_OPTIONS, CHECK_OPTIONS, DUMP_OPTIONS, FRAMES_OPTIONS, LABELS_OPTIONS,
-    LIST_OPTIONS, MAKER_OPTIONS, OUTPUT_OPTIONS, RECIPE_CLOCKS_OPTIONS, RECIPE_OPTIONS,
-    RECIPE_OUTPUT_OPTIONS, RECORDS_OPTIONS, Told, WINDOW_OPTIONS,
+    BELONGS_LIST_OPTIONS, BELONGS_OPTIONS, CHECK_OPTIONS, DUMP_OPTIONS, FRAMES_OPTIONS,
+    LABELS_OPTIONS, LIST_OPTIONS, MAKER_OPTIONS, OUTPUT_OPTIONS, RECIPE_CLOCKS_OPTIONS,
+    RECIPE_OPTIONS, RECIPE_OUTPUT_OPTIONS, RECORDS_OPTIONS, Told, WINDOW_OPTIONS,
 };
 use crate::recipe_arguments::{
     BelongsArgs, RecipeArgs, belongs_args, belongs_command, explain_belongs_command,
@@ -403,7 +403,11 @@ fn explain_diff_command<'a>(alloc: Global) -> Result<Command<'a>, AllocError> {
     let command = Command::new(alloc, "diff").about(
         "Explains how another dump differs from a vector ROM, and which single faults make it of that one",
     );
-    let other = needed(alloc, "OTHER", "The dump that is compared with it, of any length");
+    let other = needed(
+        alloc,
+        "OTHER",
+        "The dump that is compared with it, of any length",
+    );
     let command = with_rom(alloc, command)?.arg(other)?;
     Told::All.with(alloc, command, &DUMP_OPTIONS)
 }

@@ -30,9 +30,9 @@ use dvg_cmd::{
     KeptCertificates, Labels, Listing, MakeAnswer, MakeFault, MakeRunFault, NamedFrame, Outcome,
     OwnCertificates, RomMap, Rule, RunFault, ShapeStarts, TextWatch, TimedCertificates, Window,
     all_rules, frames_status_of, load_cert, load_rom, make_frames_status_of, message_of,
-    run_check_in, run_comparison, run_explain_diff, run_explain_make, run_frames, run_frames_given, run_make_frames,
-    run_places, run_rule, run_rules, status_of, write_make_answer, write_make_fault, write_message,
-    write_text,
+    run_check_in, run_comparison, run_explain_diff, run_explain_make, run_frames, run_frames_given,
+    run_make_frames, run_places, run_rule, run_rules, status_of, write_make_answer,
+    write_make_fault, write_message, write_text,
 };
 use frames_fault::FramesFault;
 use input::{Input, Source};
