@@ -1,5 +1,5 @@
 -- Two dumps as far as both go. All of it is this project's own.
-use Rattle.std.specs.Prelude.{ℕ, Bool, true, false, not, zero, suc, List, Option, None, Some, length, min, ◌+◌, ◌*◌, ◌%◌, ◌==◌, ◌&&◌, ◌||◌, if◌then◌else◌, slice_get, count_ones, bit_xor}
+use Rattle.std.specs.Prelude.{ℕ, Bool, true, false, not, zero, suc, List, Option, None, Some, length, min, ◌+◌, ◌*◌, ◌%◌, ◌==◌, ◌&&◌, ◌||◌, slice_get, count_ones, bit_xor}
 use Rattle.dvg_dumps.specs.Lines.{has_level, is_high}
 use Rattle.dvg_dumps.specs.declared.lines.Level.{Level}
 use Rattle.dvg_dumps.specs.declared.measuring.Measure.{Measure}

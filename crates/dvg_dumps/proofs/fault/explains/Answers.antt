@@ -1,4 +1,5 @@
-use Rattle.std.proofs.Common.{arith, common_steps}
+use Rattle.std.proofs.Common.{arith}
+use Rattle.std.proofs.lemmas.Grind.{common_steps}
 use Rattle.dvg_dumps.proofs.Below.{one_false}
 use Rattle.dvg_dumps.specs.Front.{front}
 use Rattle.dvg_dumps.specs.Faults.{explains_at}
