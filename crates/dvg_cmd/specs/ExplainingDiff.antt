@@ -2,7 +2,8 @@
 use Rattle.std.specs.Prelude.{◌≡◌, ◌↔◌, ◌<◌, ◌≤◌, ◌⊎◌, ℕ, Bool, List, [], ◌++◌, length, Option, None, IfSome, is_some}
 use Rattle.std.specs.Io.KnownBytes.{Appends}
 use Rattle.dvg_text.specs.Devices.{AppendsPrefix, TakesOneWrite}
-use Rattle.dvg_dumps.specs.Differences.{Differences, counted}
+use Rattle.dvg_dumps.specs.Differences.{counted}
+use Rattle.dvg_dumps.specs.declared.differences.Differences.{Differences}
 use Rattle.dvg_spelling.specs.Dumps.{dump_line}
 use Rattle.dvg_cmd.specs.Making.{Held}
 

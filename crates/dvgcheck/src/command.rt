@@ -374,7 +374,8 @@ fn diff_command<'a>(alloc: Global) -> Result<Command<'a>, AllocError> {
 }
 
 /// What the help of a command says that is explained.
-const EXPLAIN_HELP: &str = "The first line is that of the command, and so is the exit status";
+const EXPLAIN_HELP: &str =
+    "The first line is that of the command, and so is the exit status; that of diff counts what differs";
 
 fn explain_frames_command<'a>(alloc: Global) -> Result<Command<'a>, AllocError> {
     let command = Command::new(alloc, "frames").about(
