@@ -42,7 +42,9 @@ fn push_bytes(text: &mut Text, bytes: u32) {
 }
 
 /// How long the dumps are, where they differ in that.
-fn push_lengths(text: &mut Text, good: &[u8], other: &[u8]) {
+fn push_lengths(text: &mut Text, good: &[u8], other: &[u8])
+    requires { length good.now ≤ MOST_BYTES }
+{
     if good.len() == other.len() {
         return;
     }
@@ -104,15 +106,15 @@ fn push_address_lines(
     requires { length good.now ≤ MOST_BYTES }
 {
     let lines = lines_below(alloc, front(good, other))?;
-    let mut label = "addresses: A";
+    let mut any = false;
     for line in lines.iter().rev() {
         if let Some(level) = level_of(good, other, *line) {
-            push_line(text, label, *line);
+            push_line(text, if any { ", A" } else { "addresses: A" }, *line);
             text.push(spelled(level, " low", " high"));
-            label = ", A";
+            any = true;
         }
     }
-    if label == ", A" {
+    if any {
         text.push("\n");
     }
     Ok(())
