@@ -22,10 +22,11 @@ _dvgcheck() {
     diff) options='--board --frame --rom --labels -h --help' ;;
     recipe) options='--board --rom --budget --window --clip --labels --clocks --within -o --output --print -h --help' ;;
     belongs) options='--board --rom --labels --records --list --null --only-outside --summary -h --help' ;;
-    explain) options='frames check make belongs recipe help -h --help' ;;
+    explain) options='frames check make diff belongs recipe help -h --help' ;;
     'explain frames') options='--board --rom --cert --budget --window --clip --start --labels --clocks --within --records -h --help' ;;
     'explain check') options='--board --budget --window --clip --exact --labels -h --help' ;;
     'explain make') options='--board --frame --rom --labels -h --help' ;;
+    'explain diff') options='--rom --labels -h --help' ;;
     'explain belongs') options='--board --rom --labels --records -h --help' ;;
     'explain recipe') options='--board --rom --budget --window --clip --labels -h --help' ;;
     rules) options='-h --help' ;;

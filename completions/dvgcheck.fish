@@ -99,6 +99,7 @@ complete -c dvgcheck -n '__dvgcheck_in only explain' -s h -l help -d 'Prints hel
 complete -c dvgcheck -n '__dvgcheck_in only explain' -a frames -d 'Judges frames over a vector ROM'
 complete -c dvgcheck -n '__dvgcheck_in only explain' -a check -d 'Judges a frame by a certificate'
 complete -c dvgcheck -n '__dvgcheck_in only explain' -a make -d 'Makes a certificate of shapes'
+complete -c dvgcheck -n '__dvgcheck_in only explain' -a diff -d 'Tells how a dump differs from a vector ROM'
 complete -c dvgcheck -n '__dvgcheck_in only explain' -a belongs -d 'Tells where frames leave a recipe'
 complete -c dvgcheck -n '__dvgcheck_in only explain' -a recipe -d 'Tells why a recipe is refused, or what is known in it'
 complete -c dvgcheck -n '__dvgcheck_in only explain' -a help -d 'Prints help'
@@ -129,6 +130,10 @@ complete -c dvgcheck -n '__dvgcheck_in explain make' -l frame -r -F -d 'A frame;
 complete -c dvgcheck -n '__dvgcheck_in explain make' -l rom -x -d 'The word addresses of the ROM\'s first and last word'
 complete -c dvgcheck -n '__dvgcheck_in explain make' -l labels -r -F -d 'The labels of the program'
 complete -c dvgcheck -n '__dvgcheck_in explain make' -s h -l help -d 'Prints help'
+
+complete -c dvgcheck -n '__dvgcheck_in explain diff' -l rom -x -d 'The word addresses of the ROM\'s first and last word'
+complete -c dvgcheck -n '__dvgcheck_in explain diff' -l labels -r -F -d 'The labels of the program'
+complete -c dvgcheck -n '__dvgcheck_in explain diff' -s h -l help -d 'Prints help'
 
 complete -c dvgcheck -n '__dvgcheck_in explain belongs' -l board -d 'Changes nothing'
 complete -c dvgcheck -n '__dvgcheck_in explain belongs' -l rom -x -d 'The word addresses of the ROM\'s first and last word'

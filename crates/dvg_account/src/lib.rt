@@ -4,7 +4,7 @@
 //! answer the lines of a verdict, [`made_lines`] and [`unmade_lines`] those of an answer of the maker, [`plain_lines`] those of a
 //! refusal before any item was judged, [`leaving_lines`] that of a frame that leaves a recipe, and their contracts say which lines there
 //! are. Beside each of them stands a call that answers the same account as a text, such as [`verdict_text`]. [`recipe_text`] spells the
-//! lines of a recipe's account, which the caller finds.
+//! lines of a recipe's account, which the caller finds, and [`dump_text`] the account of a dump that differs from a good one.
 #![tactic(auto)]
 
 mod accepted;
@@ -12,6 +12,7 @@ mod answers;
 mod beginnings;
 mod beside;
 mod cure;
+mod dumps;
 mod expecting;
 mod finder;
 mod frame_list;
@@ -47,6 +48,7 @@ mod zeros;
 pub use answers::verdict_lines;
 pub use beginnings::Beginning;
 pub use cure::MakerCure;
+pub use dumps::dump_text;
 pub use inputs::{Inputs, PlainWhy, plain_lines};
 pub use leaving::leaving_lines;
 pub use line::{

@@ -1,6 +1,7 @@
 pub mod Common
 pub mod Pieces
 pub mod Whole
+pub mod DumpLengths
 pub mod Reporting
 pub mod SeveralFrames
 pub mod FramesRuns

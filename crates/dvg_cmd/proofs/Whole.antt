@@ -13,7 +13,7 @@ pub held_told : (remaining : Option (List ℕ)) (prefix : List ℕ) → IfSome r
 held_told remaining prefix = grind (arith)
 
 -- what was read of an input is all of it where it or the input stays below the limit
-read_short : (n : ℕ) (reader : Option (List ℕ)) (prefix : List ℕ) → IsPrefix n reader prefix → length prefix + 1 ≤ n ⊎ length (held_bytes reader prefix) + 1 ≤ n → prefix ≡ held_bytes reader prefix
+pub read_short : (n : ℕ) (reader : Option (List ℕ)) (prefix : List ℕ) → IsPrefix n reader prefix → length prefix + 1 ≤ n ⊎ length (held_bytes reader prefix) + 1 ≤ n → prefix ≡ held_bytes reader prefix
 unfolding limited
 read_short n reader prefix read below = grind (arith, common_steps)
 

@@ -16,4 +16,5 @@ pub mod Records
 pub mod Comparing
 pub mod Private
 pub mod Explaining
+pub mod ExplainingDiff
 pub mod Laws

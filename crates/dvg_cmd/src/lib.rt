@@ -3,12 +3,14 @@
 //! [`run_check`] reads a ROM, a certificate and a frame, judges them as [`check`] does and writes one line, the report of the
 //! verdict. [`run_frames`] and [`run_frames_given`] judge frame after frame. [`run_make`] reads a ROM and writes the certificate
 //! that [`make`](dvg_make::make) makes, [`run_make_frames`] makes for frames, too, and [`run_explain_make`] tells of what is made.
-//! [`run_places`] tells where calls may stand, [`run_comparison`] what a change of a ROM touches, [`run_rules`] what numbers mean.
+//! [`run_places`] tells where calls may stand, [`run_comparison`] what a change of a ROM touches, [`run_explain_diff`] by which faults a dump
+//! differs, [`run_rules`] what numbers mean.
 #![tactic(auto)]
 
 mod comparing;
 mod detail;
 mod entry_lines;
+mod explaining_diff;
 mod explaining_make;
 mod frame_judge;
 mod frame_run;
@@ -110,6 +112,7 @@ pub use dvg_words::RomImage;
 pub use dvg_words::RomMap;
 pub use dvg_words::SCREEN;
 pub use dvg_words::Window;
+pub use explaining_diff::run_explain_diff;
 pub use explaining_make::MakeAnswer;
 pub use explaining_make::run_explain_make;
 pub use explaining_make::write_make_answer;

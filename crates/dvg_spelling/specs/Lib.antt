@@ -1,6 +1,7 @@
 pub mod Arguments
 pub mod Within
 pub mod Each
+pub mod Dumps
 pub mod Faults
 pub mod Messages
 pub mod Outcomes

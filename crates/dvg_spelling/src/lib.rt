@@ -6,6 +6,7 @@
 #![tactic(auto)]
 
 mod arguments;
+mod dumps;
 mod entry_line;
 mod fault;
 mod outcome;
@@ -21,6 +22,7 @@ mod window;
 mod within;
 
 pub use arguments::{map_of, root_of, start_of};
+pub use dumps::{DumpLine, dump_line_of};
 pub use entry_line::EntryLine;
 pub use fault::{FramesRunFault, MakeRunFault, RunFault};
 pub use outcome::{FrameAnswer, FrameOutcome, Outcome, frame_outcome_of, outcome_of};

@@ -5,9 +5,9 @@ use crate::form::Form;
 use crate::input::Input;
 use crate::labels::{LabelsFault, load_labels};
 use crate::options::{
-    BELONGS_LIST_OPTIONS, BELONGS_OPTIONS, CHECK_OPTIONS, FRAMES_OPTIONS, LABELS_OPTIONS,
-    LIST_OPTIONS, MAKER_OPTIONS, OUTPUT_OPTIONS, RECIPE_CLOCKS_OPTIONS, RECIPE_OPTIONS,
-    RECIPE_OUTPUT_OPTIONS, RECORDS_OPTIONS, REMARKS_OPTIONS, Told, WINDOW_OPTIONS,
+    BELONGS_LIST_OPTIONS, BELONGS_OPTIONS, CHECK_OPTIONS, DUMP_OPTIONS, FRAMES_OPTIONS,
+    LABELS_OPTIONS, LIST_OPTIONS, MAKER_OPTIONS, OUTPUT_OPTIONS, RECIPE_CLOCKS_OPTIONS,
+    RECIPE_OPTIONS, RECIPE_OUTPUT_OPTIONS, RECORDS_OPTIONS, REMARKS_OPTIONS, Told, WINDOW_OPTIONS,
 };
 use crate::recipe_arguments::{
     BelongsArgs, RecipeArgs, belongs_args, belongs_command, explain_belongs_command,
@@ -104,6 +104,8 @@ pub enum Request<'a> {
     Places(MakeArgs<'a>, Window),
     /// `diff`, with the other ROM.
     Diff(MakeArgs<'a>, Input<'a>),
+    /// `explain diff`.
+    ExplainDiff(DumpArgs<'a>),
     /// `explain make`.
     ExplainMake(MakeArgs<'a>),
     Recipe(RecipeArgs<'a>),
@@ -321,6 +323,15 @@ pub struct MakeArgs<'a> {
     pub labels: Option<&'a Labels>,
 }
 
+/// The arguments of `explain diff`.
+#[derive(Drop)]
+pub struct DumpArgs<'a> {
+    pub rom: Input<'a>,
+    pub other: Input<'a>,
+    pub map: RomMap,
+    pub labels: Option<&'a Labels>,
+}
+
 /// The arguments of the command line, the program's name first.
 pub fn arguments(rt: &HostRuntime) -> Result<Vec<String>, Usage<'static>> {
     match env::args(rt) {
@@ -409,7 +420,8 @@ fn diff_command<'a>(alloc: Global) -> Result<Command<'a>, AllocError> {
 }
 
 /// What the help of a command says that is explained.
-const EXPLAIN_HELP: &str = "The first line is that of the command, and so is the exit status";
+const EXPLAIN_HELP: &str =
+    "The first line is that of the command, and so is the exit status; that of diff counts what differs";
 
 fn explain_frames_command<'a>(alloc: Global) -> Result<Command<'a>, AllocError> {
     let command = Command::new(alloc, "frames").about(
@@ -434,6 +446,19 @@ fn explain_make_command<'a>(alloc: Global) -> Result<Command<'a>, AllocError> {
     Told::All.with(alloc, command, &MAKER_OPTIONS)
 }
 
+fn explain_diff_command<'a>(alloc: Global) -> Result<Command<'a>, AllocError> {
+    let command = Command::new(alloc, "diff").about(
+        "Explains how another dump differs from a vector ROM, and which single faults make it of that one",
+    );
+    let other = needed(
+        alloc,
+        "OTHER",
+        "The dump that is compared with it, of any length",
+    );
+    let command = with_rom(alloc, command)?.arg(other)?;
+    Told::All.with(alloc, command, &DUMP_OPTIONS)
+}
+
 fn explain_command<'a>(alloc: Global) -> Result<Command<'a>, AllocError> {
     Command::new(alloc, "explain")
         .about(
@@ -445,6 +470,7 @@ fn explain_command<'a>(alloc: Global) -> Result<Command<'a>, AllocError> {
         .subcommand(explain_frames_command(alloc)?)?
         .subcommand(explain_check_command(alloc)?)?
         .subcommand(explain_make_command(alloc)?)?
+        .subcommand(explain_diff_command(alloc)?)?
         .subcommand(explain_belongs_command(alloc)?)?
         .subcommand(Told::All.with(alloc, explain_recipe_command(alloc)?, &RECIPE_OPTIONS)?)
 }
@@ -820,6 +846,20 @@ fn make_args<'a>(
     })
 }
 
+fn dump_args<'a>(
+    rt: &HostRuntime,
+    args: &ArgMatches<'a>,
+    labels: Option<&'a Labels>,
+) -> Result<DumpArgs<'a>, ArgumentFault<'a>> {
+    one_standard_input(args, &["ROM", "OTHER", "labels"])?;
+    Ok(DumpArgs {
+        rom: file_of(rt, args, "ROM"),
+        other: file_of(rt, args, "OTHER"),
+        map: map_of_args(args)?,
+        labels,
+    })
+}
+
 /// The command whose answer is explained.
 fn explain_request<'a>(
     rt: &HostRuntime,
@@ -843,6 +883,7 @@ fn explain_request<'a>(
             None,
             labels,
         )?)),
+        Some(("diff", args)) => Ok(Request::ExplainDiff(dump_args(rt, args, labels)?)),
         Some(("belongs", args)) => {
             let args = belongs_args(rt, args, explained(labels), labels)?;
             Ok(Request::Belongs(args))

@@ -22,17 +22,17 @@ mod records;
 mod together;
 
 use command::{
-    Asked, Certificates, CheckArgs, FrameNames, FramesArgs, MakeArgs, Named, Parsed, Request, Usage,
-    listing_by,
+    Asked, Certificates, CheckArgs, DumpArgs, FrameNames, FramesArgs, MakeArgs, Named, Parsed,
+    Request, Usage, listing_by,
 };
 use dvg_cmd::{
     ASTEROIDS, ClockOptions, Counted, CountedRead, CountedWrite, Detail, FrameOutcome, FramesRunFault,
     KeptCertificates, Labels, Listing, MakeAnswer, MakeFault, MakeRunFault, NamedFrame, Outcome,
     OwnCertificates, Remarking, RomMap, Rule, RunFault, ShapeStarts, TextWatch, TimedCertificates, Window,
     all_rules, frames_status_of, load_cert, load_rom, make_frames_status_of, message_of,
-    run_check_in, run_comparison, run_explain_make, run_frames, run_frames_given, run_make_frames,
-    run_places, run_rule, run_rules, status_of, write_make_answer, write_make_fault, write_message,
-    write_text,
+    run_check_in, run_comparison, run_explain_diff, run_explain_make, run_frames, run_frames_given,
+    run_make_frames, run_places, run_rule, run_rules, status_of, write_make_answer,
+    write_make_fault, write_message, write_text,
 };
 use frames_fault::FramesFault;
 use input::{Input, Source};
@@ -305,6 +305,21 @@ fn diff(rt: &HostRuntime, args: &MakeArgs, other: Input) -> Result<bool, FramesR
     )
 }
 
+/// Opens both dumps, the good one first, and tells how they differ.
+#[inline(never)]
+fn explain_diff(rt: &HostRuntime, args: &DumpArgs) -> Result<bool, FramesRunFault> {
+    let rom = open(rt, args.rom, MakeRunFault::ReadRom)?;
+    let other = open(rt, args.other, MakeRunFault::ReadRom)?;
+    run_explain_diff(
+        rt.alloc(),
+        &mut Counted::new(rom),
+        &mut Counted::new(other),
+        args.map,
+        args.labels,
+        &mut Counted::new(io::writer(rt)),
+    )
+}
+
 /// Opens the files as [`make`] does, and answers what the maker comes to, with an account of it.
 fn make_answer(rt: &HostRuntime, args: &MakeArgs) -> Result<MakeAnswer, FramesRunFault> {
     let (mut rom, mut frames) = open_all(rt, args)?;
@@ -475,7 +490,7 @@ fn tell_make(rt: &HostRuntime, frames: &[Named], end: &Result<(), FramesRunFault
     make_frames_status_of(end)
 }
 
-/// Tells how a comparison ended: 1 if something is touched, and as [`tell_make`] does.
+/// Tells how a comparison ended: 1 if something is touched, or differs, and as [`tell_make`] does.
 fn tell_diff(rt: &HostRuntime, frames: &[Named], end: &Result<bool, FramesRunFault>) -> u8 {
     match end {
         Ok(touched) => u8::from(*touched),
@@ -548,6 +563,7 @@ fn run_parsed<'a>(rt: &HostRuntime, parsed: Parsed<'a>, labels: &'a Option<Label
         Ok(Request::Recipe(args)) => run_recipe(rt, args),
         Ok(Request::Print(recipe, labels)) => run_print_of(rt, &recipe, labels),
         Ok(Request::Belongs(args)) => run_belonging(rt, args),
+        Ok(Request::ExplainDiff(args)) => tell_diff(rt, &[], &explain_diff(rt, &args)),
         Ok(Request::ExplainMake(args)) => explain_make(rt, &args),
         Ok(Request::Rules(rule)) => tell_text(rt, &rules(rt, rule)),
         Err(usage) => tell_usage(rt, &usage),

@@ -95,6 +95,9 @@ pub const WINDOW_OPTIONS: [CommandOption; 2] = [CommandOption::Window, CommandOp
 /// The option of `explain check` besides.
 pub const LABELS_OPTIONS: [CommandOption; 1] = [CommandOption::Labels];
 
+/// The options of `explain diff`.
+pub const DUMP_OPTIONS: [CommandOption; 2] = [CommandOption::Map, CommandOption::Labels];
+
 /// The options of `make` that say where the certificate goes.
 pub const OUTPUT_OPTIONS: [CommandOption; 1] = [CommandOption::Output];
 

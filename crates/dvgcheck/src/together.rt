@@ -18,9 +18,11 @@ impl ReadFrame {
     fn read(rt: &HostRuntime, frame: Named, start: Option<u16>) -> Result<ReadFrame, AllocError> {
         let Named { input, name } = frame;
         let mut buffer = [0; FRAME_READ];
-        let read = input
-            .open(rt)
-            .and_then(|file| read_started(&mut Counted::new(file), start, &mut buffer));
+        let read = input.open(rt).and_then(|file| read_started(
+            &mut Counted::new(file),
+            start,
+            &mut buffer,
+        ));
         let bytes = match read {
             Ok(len) => {
                 let mut bytes = Vec::new(rt.alloc());
