@@ -113,7 +113,10 @@ fn write_listed<W: CountedWrite>(
         (record { name = name.now; answer = answer.now; behind = behind.now })))) }
     ensures count { W.failures out.new ≡ count_after (is_err result) (W.failures out.old) }
 {
-    if !listing.lines.has(behind.frame_outcome(frame_outcome_of(answer))) {
+    if !listing
+        .lines
+        .has(behind.frame_outcome(frame_outcome_of(answer)))
+    {
         return Ok(());
     }
     write_apart(listing.detail, written, out)?;
@@ -142,9 +145,22 @@ fn run_named<J: FrameJudge, R: CountedRead + Drop, W: CountedWrite>(
     ensures same { JudgesAlike (J.judging judge.old) (J.judging judge.new) }
 {
     let NamedFrame { name, reader } = frame;
-    let (answer, behind) =
-        answer_opened(alloc, judge, start, name.as_str(), reader, listing.detail);
-    write_listed(name.as_str(), &answer, &behind, listing, progress.written, out)?;
+    let (answer, behind) = answer_opened(
+        alloc,
+        judge,
+        start,
+        name.as_str(),
+        reader,
+        listing.detail,
+    );
+    write_listed(
+        name.as_str(),
+        &answer,
+        &behind,
+        listing,
+        progress.written,
+        out,
+    )?;
     progress.add(alloc, name, &answer, &behind, listing);
     Ok(())
 }

@@ -23,7 +23,8 @@ use crate::membership::{Membership, membership_line_of, membership_outcome_of};
 use crate::tally::{BelongsTally, belongs_summary_of};
 use dvg_account::leaving_text;
 use dvg_cmd::{
-    Behind, Detail, FRAME_READ, Listing, NamedFrame, PlainWhy, plain_account, read_started, unread_account,
+    Behind, Detail, FRAME_READ, Listing, NamedFrame, PlainWhy, plain_account, read_started,
+    unread_account,
 };
 use dvg_labels::Labels;
 use dvg_recipe::{Leaving, NotMember, belongs, too_long};

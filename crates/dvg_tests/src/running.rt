@@ -6,11 +6,11 @@ use crate::expecting::{FaultRow, expect, expect_faults, expect_same};
 use crate::inputs::{EMPTY, STROKE_FRAME, stroke_rom};
 use devices::SlowReader;
 use dvg_cmd::{
-    ASTEROIDS, Counted, Detail, EntryFault, FrameCall, FrameDetail, FrameOutcome, FramesRunFault, Key, Lines,
-    Listing, Machine, MakeFault, MakeRunFault, Mode, NamedFrame, Outcome, OwnCertificates,
-    RunFault, SCREEN, Window, frames_status_of, make_frames_report_of, make_frames_status_of,
-    make_report_of, make_status_of, map_of, message_of, root_of, run_check, run_frames, run_make,
-    start_of, status_of, window_of,
+    ASTEROIDS, Counted, Detail, EntryFault, FrameCall, FrameDetail, FrameOutcome, FramesRunFault,
+    Key, Lines, Listing, Machine, MakeFault, MakeRunFault, Mode, NamedFrame, Outcome,
+    OwnCertificates, RunFault, SCREEN, Window, frames_status_of, make_frames_report_of,
+    make_frames_status_of, make_report_of, make_status_of, map_of, message_of, root_of, run_check,
+    run_frames, run_make, start_of, status_of, window_of,
 };
 use std::alloc::Global;
 use std::fmt::Debug;

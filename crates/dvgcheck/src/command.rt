@@ -17,9 +17,9 @@ use clap::error::ErrorKind;
 use clap::{Arg, ArgMatches, Command, value_parser};
 use dvg_cmd::{
     ASTEROIDS, CLIPPED, CheckOptions, ClockOptions, DVG_STATES, Detail, FrameDetail, FrameOptions,
-    Key, Labels, LineClocks, Lines, Listing, Machine, Mode, NameEnd, RAM_WORDS,
-    RecordLength, Remarking, RomMap, RootFault, Rule, SCREEN, Timing, Unnamed, Window, limit_of,
-    map_of, record_length_of, root_by, rule_of, start_of, window_of,
+    Key, Labels, LineClocks, Lines, Listing, Machine, Mode, NameEnd, RAM_WORDS, RecordLength,
+    Remarking, RomMap, RootFault, Rule, SCREEN, Timing, Unnamed, Window, limit_of, map_of,
+    record_length_of, root_by, rule_of, start_of, window_of,
 };
 use std::alloc::{AllocError, AllocFailed, Global};
 use std::{env, io};

@@ -26,13 +26,13 @@ use command::{
     Request, Usage, listing_by,
 };
 use dvg_cmd::{
-    ASTEROIDS, ClockOptions, Counted, CountedRead, CountedWrite, Detail, FrameOutcome, FramesRunFault,
-    KeptCertificates, Labels, Listing, MakeAnswer, MakeFault, MakeRunFault, NamedFrame, Outcome,
-    OwnCertificates, Remarking, RomMap, Rule, RunFault, ShapeStarts, TextWatch, TimedCertificates, Window,
-    all_rules, frames_status_of, load_cert, load_rom, make_frames_status_of, message_of,
-    run_check_in, run_comparison, run_explain_diff, run_explain_make, run_frames, run_frames_given,
-    run_make_frames, run_places, run_rule, run_rules, status_of, write_make_answer,
-    write_make_fault, write_message, write_text,
+    ASTEROIDS, ClockOptions, Counted, CountedRead, CountedWrite, Detail, FrameOutcome,
+    FramesRunFault, KeptCertificates, Labels, Listing, MakeAnswer, MakeFault, MakeRunFault,
+    NamedFrame, Outcome, OwnCertificates, Remarking, RomMap, Rule, RunFault, ShapeStarts,
+    TextWatch, TimedCertificates, Window, all_rules, frames_status_of, load_cert, load_rom,
+    make_frames_status_of, message_of, run_check_in, run_comparison, run_explain_diff,
+    run_explain_make, run_frames, run_frames_given, run_make_frames, run_places, run_rule,
+    run_rules, status_of, write_make_answer, write_make_fault, write_message, write_text,
 };
 use frames_fault::FramesFault;
 use input::{Input, Source};
@@ -71,8 +71,9 @@ fn check(rt: &HostRuntime, args: &CheckArgs, detail: Detail) -> Result<Outcome, 
 #[inline(never)]
 fn frames(rt: &HostRuntime, named: Vec<Named>, asked: &Asked) -> Result<FrameOutcome, RunFault> {
     match asked.certificates {
-        Certificates::Made(map, clocks) if asked.has_account() && named.len() > 1 =>
-            { explain_together(rt, asked, map, clocks, named) }
+        Certificates::Made(map, clocks) if asked.has_account() && named.len() > 1 => {
+            explain_together(rt, asked, map, clocks, named)
+        }
         _ => judge_frames(rt, asked, named.into_iter().map(|frame| opened(rt, frame))),
     }
 }
