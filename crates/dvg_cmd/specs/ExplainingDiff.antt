@@ -38,7 +38,8 @@ pub record Told (rom other : Option (List ℕ)) : Type 0 where
 abbrev pub told_text : {rom other : Option (List ℕ)} → Told rom other → List ℕ
 told_text told = dump_line told.differences ++ told.account
 
--- it was written, by one write if it fits one, and nothing else; `writes` and `writes_after` count the writes that took their whole piece
+-- it was written, by one write if it fits one, and nothing else; `writes` and `writes_after` count the writes that took their whole
+-- piece
 pub record TellsDifferences (rom other : Option (List ℕ)) (differ : Bool) (old new : Option (List ℕ)) (writes writes_after : ℕ) : Type 0 where
   pub told : Told rom other
   pub differ_is : differ ≡ is_some told.differences

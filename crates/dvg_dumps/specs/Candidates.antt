@@ -55,7 +55,8 @@ address_inverted line = fault.Address (address.Inverted line) ∷ []
 abbrev pub shifts : ℕ → List DumpFault
 shifts bytes =
     if nat_lt 2 bytes
-    then fault.Address (address.Later 1) ∷ fault.Address (address.Earlier 1) ∷ fault.Address (address.Later 2) ∷ fault.Address (address.Earlier 2) ∷ []
+    then fault.Address (address.Later 1) ∷ fault.Address (address.Earlier 1)
+    ∷ fault.Address (address.Later 2) ∷ fault.Address (address.Earlier 2) ∷ []
     else []
 
 -- where an address line is high or low, all data lines are high or low

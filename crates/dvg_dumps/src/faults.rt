@@ -30,8 +30,8 @@ fn explaining(
     Ok(found)
 }
 
-/// The single faults that make all bytes of the front of the good dump's: just those that are tried and do. Where no byte differs, faults that
-/// change nothing are among them.
+/// The single faults that make all bytes of the front of the good dump's: just those that are tried and do. Where no byte differs, faults
+/// that change nothing are among them.
 pub fn faults_of(alloc: Global, good: &[u8], other: &[u8]) -> Result<Vec<DumpFault>, AllocError>
     requires { length good.now ≤ MOST_BYTES }
     ensures { IfOk result (λ found. found.items ≡ told good.now other.now) }
