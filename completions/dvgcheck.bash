@@ -15,7 +15,7 @@ _dvgcheck() {
   esac
   case $command in
     '') options='frames check make places diff recipe belongs explain rules help -h --help -V --version' ;;
-    frames) options='--board --rom --cert --budget --window --clip --start --labels --clocks --within --records --list --null --only-refused --summary -h --help' ;;
+    frames) options='--board --rom --cert --budget --window --clip --start --labels --clocks --within --remarks --records --list --null --only-refused --summary -h --help' ;;
     check) options='--board --budget --window --clip --exact -h --help' ;;
     make) options='--board --frame --rom --labels -o --output -h --help' ;;
     places) options='--board --frame --rom --labels --window --clip -h --help' ;;

@@ -38,6 +38,7 @@ complete -c dvgcheck -n '__dvgcheck_in frames' -l start -x -d 'Judges each frame
 complete -c dvgcheck -n '__dvgcheck_in frames' -l labels -r -F -d 'The labels of the program'
 complete -c dvgcheck -n '__dvgcheck_in frames' -l clocks -d 'Tells how many clocks accepted frames take'
 complete -c dvgcheck -n '__dvgcheck_in frames' -l within -x -d 'Refuses frames that may take longer'
+complete -c dvgcheck -n '__dvgcheck_in frames' -l remarks -d 'Writes remarks on accepted frames, each as a line'
 complete -c dvgcheck -n '__dvgcheck_in frames' -l records -x -d 'Takes each file as records of so many bytes, each a frame'
 complete -c dvgcheck -n '__dvgcheck_in frames' -l list -r -F -d 'Judges the frames that this file names'
 complete -c dvgcheck -n '__dvgcheck_in frames' -l null -d 'Names in the list end with NUL'
