@@ -15,7 +15,7 @@ _dvgcheck() {
   esac
   case $command in
     '') options='frames check make places diff recipe belongs explain rules help -h --help -V --version' ;;
-    frames) options='--board --rom --cert --budget --window --clip --start --labels --clocks --within --records --list --null --only-refused --summary -h --help' ;;
+    frames) options='--board --rom --cert --budget --window --clip --start --labels --clocks --within --remarks --records --list --null --only-refused --summary -h --help' ;;
     check) options='--board --budget --window --clip --exact -h --help' ;;
     make) options='--board --frame --rom --labels -o --output -h --help' ;;
     places) options='--board --frame --rom --labels --window --clip -h --help' ;;
@@ -23,7 +23,7 @@ _dvgcheck() {
     recipe) options='--board --rom --budget --window --clip --labels --clocks --within -o --output --print -h --help' ;;
     belongs) options='--board --rom --labels --records --list --null --only-outside --summary -h --help' ;;
     explain) options='frames check make diff belongs recipe help -h --help' ;;
-    'explain frames') options='--board --rom --cert --budget --window --clip --start --labels --clocks --within --records -h --help' ;;
+    'explain frames') options='--board --rom --cert --budget --window --clip --start --labels --clocks --within --records --list --null --only-refused --summary -h --help' ;;
     'explain check') options='--board --budget --window --clip --exact --labels -h --help' ;;
     'explain make') options='--board --frame --rom --labels -h --help' ;;
     'explain diff') options='--rom --labels -h --help' ;;

@@ -38,6 +38,7 @@ complete -c dvgcheck -n '__dvgcheck_in frames' -l start -x -d 'Judges each frame
 complete -c dvgcheck -n '__dvgcheck_in frames' -l labels -r -F -d 'The labels of the program'
 complete -c dvgcheck -n '__dvgcheck_in frames' -l clocks -d 'Tells how many clocks accepted frames take'
 complete -c dvgcheck -n '__dvgcheck_in frames' -l within -x -d 'Refuses frames that may take longer'
+complete -c dvgcheck -n '__dvgcheck_in frames' -l remarks -d 'Writes remarks on accepted frames, each as a line'
 complete -c dvgcheck -n '__dvgcheck_in frames' -l records -x -d 'Takes each file as records of so many bytes, each a frame'
 complete -c dvgcheck -n '__dvgcheck_in frames' -l list -r -F -d 'Judges the frames that this file names'
 complete -c dvgcheck -n '__dvgcheck_in frames' -l null -d 'Names in the list end with NUL'
@@ -115,6 +116,10 @@ complete -c dvgcheck -n '__dvgcheck_in explain frames' -l labels -r -F -d 'The l
 complete -c dvgcheck -n '__dvgcheck_in explain frames' -l clocks -d 'Tells how many clocks accepted frames take'
 complete -c dvgcheck -n '__dvgcheck_in explain frames' -l within -x -d 'Refuses frames that may take longer'
 complete -c dvgcheck -n '__dvgcheck_in explain frames' -l records -x -d 'Takes each file as records of so many bytes, each a frame'
+complete -c dvgcheck -n '__dvgcheck_in explain frames' -l list -r -F -d 'Explains the frames that this file names'
+complete -c dvgcheck -n '__dvgcheck_in explain frames' -l null -d 'Names in the list end with NUL'
+complete -c dvgcheck -n '__dvgcheck_in explain frames' -l only-refused -d 'Leaves out the accounts of accepted frames'
+complete -c dvgcheck -n '__dvgcheck_in explain frames' -l summary -d 'Ends with lines of counts'
 complete -c dvgcheck -n '__dvgcheck_in explain frames' -s h -l help -d 'Prints help'
 
 complete -c dvgcheck -n '__dvgcheck_in explain check' -l board -d 'Judges for a board of the DVG'
