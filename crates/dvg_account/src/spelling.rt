@@ -162,7 +162,7 @@ fn push_line(text: &mut Text, telling: Telling, line: &Line) {
         Line::MadeForOther(machine) => push_other_machine(text, *machine),
         Line::ClaimedScales(keys) => push_scales(text, keys),
         Line::CouldStand(lines) => push_could_stand(text, lines),
-        Line::WhatToDo(number) => push_cure(text, telling, *number, ""),
+        Line::WhatToDo(number) => push_cure(text, telling, *number, or_other_rom(*number)),
         Line::EndWithHalt(number) => push_cure(text, telling, *number, OR_HALT),
         Line::MakerCure(cure) => push_maker_cure(text, telling, *cure),
     }
@@ -256,6 +256,16 @@ fn push_cure(text: &mut Text, telling: Telling, number: u8, more: &'static str) 
 
 /// What else may be done about a jump back in the last word of a frame.
 const OR_HALT: &str = ", or, where the list is to end here, end it with HALT";
+
+/// What else may be done where a claim of the certificate doesn't hold.
+fn or_other_rom(number: u8) -> &'static str {
+    match number {
+        26..=33 => {
+            "; this ROM may not be the one for which the certificate was made: compare both ROMs by `dvgcheck explain diff`"
+        }
+        _ => "",
+    }
+}
 
 /// The keys of the entries that the certificate has for the called shape.
 fn push_scales(text: &mut Text, keys: &[Key]) {

@@ -1,6 +1,7 @@
 -- The lines of several frames, one after another, over plain values.
 use Rattle.dvg_cmd.proofs.Common.{◌≡◌, refl, sym, ap, ◌∙◌, subst, ℕ, List, [], ◌∷◌, ◌++◌, Option, append-nil, append_assoc, Appends, AppendsPrefix, joined, FrameDetail, Judging, Line, line_texts, texts_of, gone_on, gone_with, begun, summary_of, listing_texts, IsLineOf, AreLinesOf, ReportsFrames, ReportsFramesPrefix, WritesLineOf, WritesLineOfPrefix, WritesLinesOf}
 use Rattle.dvg_cmd.proofs.LineByLine.{both_sent, both_cut, first_cut}
+use Rattle.dvg_cmd.proofs.Writing.{none_sent}
 use Rattle.dvg_cmd.specs.Private.Sent.{Sent}
 use Rattle.dvg_cmd.specs.declared.listing.Lines.{Lines}
 use Rattle.dvg_cmd.specs.declared.listing.Listing.{Listing}
@@ -25,6 +26,10 @@ module _ {R : Type 0} (remaining : R → Option (List ℕ)) (failures : R → �
   lines_of_on [] [] x line h one = (one, tt)
   lines_of_on (y ∷ taken) (l ∷ lines) x line h one = (h.0, lines_of_on taken lines x line h.1 one)
   lines_of_on taken lines x line h one = absurd h
+
+  -- before the first
+  pub no_lines : (old : Option (List ℕ)) (p : Progress) (writes : ℕ) → WritesLinesOf remaining failures j listing start [] old old p p writes writes
+  no_lines old p writes = record { lines = []; lines_of = tt; sent = none_sent [] refl old writes; progress_is = refl }
 
   module _ (taken : List (NamedFrame R)) (x : NamedFrame R) (old mid new : Option (List ℕ)) (p p_mid : Progress) (writes writes_mid : ℕ)
       (h : WritesLinesOf remaining failures j listing start taken old mid p p_mid writes writes_mid) where

@@ -2,7 +2,8 @@
 use Rattle.std.specs.Prelude.{◌≡◌, ℕ, Bool, true, false, List, [], ◌∷◌, Option, Some, None, codes, string_bytes}
 use Rattle.dvg_account.specs.declared.remarked.FrameRemark.{FrameRemark}
 use Rattle.dvg_spelling.specs.Outcomes.{worse}
-use Rattle.dvg_spelling.specs.Remarks.{RemarkTally, no_remarks, with_kind, remarks_text}
+use Rattle.dvg_spelling.specs.Remarks.{no_remarks, with_kind, remarks_text}
+use Rattle.dvg_spelling.specs.declared.remark.RemarkTally.{RemarkTally}
 use Rattle.dvg_check.specs.declared.verdict.Yes.{Yes}
 use Rattle.dvg_spelling.specs.declared.outcome.FrameAnswer.{FrameAnswer}
 use Rattle.dvg_spelling.specs.declared.outcome.FrameOutcome.{FrameOutcome}
@@ -34,7 +35,7 @@ AreRemarks what = Unit {0}
 
 -- remarks stand behind the line of each accepted frame, and of no other
 abbrev pub AreRemarksOn : Option Yes → BehindFrame → Type 0
-AreRemarksOn (Some yes) what = AreRemarks what
+AreRemarksOn (Some accepted) what = AreRemarks what
 AreRemarksOn None what = what ≡ behind.Answer behinds.Nothing
 
 -- what a detail asks for behind the line of an answer

@@ -74,7 +74,7 @@ fn behind_answer(
     detail: FrameDetail,
 ) -> BehindFrame
     requires { IsBehind (answer_detail detail) behind }
-    ensures { IsBehindFrame detail answer.now result }
+    ensures { IsBehindFrame detail.entry answer.now result }
 {
     match (detail, answer) {
         (FrameDetail::Remarks(remarking), FrameAnswer::Judged(Ok(_)) | FrameAnswer::Timed(_)) => {

@@ -6,6 +6,7 @@ ghost use Rattle.dvg_cmd.specs.Remarking.{AreRemarks, answer_detail, has_account
 use crate::detail::{Behind, Detail};
 use crate::frame_judge::{OwnCertificates, images_for};
 use dvg_account::{FrameRemark, Inputs, frame_remarks, remarks_text};
+use dvg_cert::Cert;
 use dvg_check::Mode;
 use dvg_labels::Labels;
 use dvg_spelling::FrameOutcome;
@@ -18,13 +19,13 @@ pub enum FrameDetail<'a> {
     Answer(Detail<'a>),
     /// The remarks on an accepted frame, each as a line. If there is no memory for them, the run writes `remarks: out of memory` in their
     /// place, and its outcome says so.
-    Remarks(Remarking<'a>),
+    Remarks(&'a Remarking<'a>),
 }
 
 impl<'a> FrameDetail<'a> {
     /// What is asked of the judge of the frame.
     pub fn of_answer(self) -> Detail<'a>
-        ensures { result ≡ answer_detail self }
+        ensures { result ≡ answer_detail self.entry }
     {
         match self {
             FrameDetail::Answer(detail) => detail,
@@ -34,7 +35,7 @@ impl<'a> FrameDetail<'a> {
 
     /// Whether an account is written.
     pub fn has_account(self) -> bool
-        ensures { result ≡ has_account self }
+        ensures { result ≡ has_account self.entry }
     {
         match self {
             FrameDetail::Answer(Detail::Account(_)) => true,
@@ -110,31 +111,37 @@ impl<'a> Remarking<'a> {
     }
 
     fn find(&self, alloc: Global, name: &str, frame: &[u8]) -> Result<FrameRemarks, AllocError> {
-        let found = self.find_on(alloc, frame)?;
+        let found = match self.own.made_for(alloc, frame)? {
+            Some(cert) => remarks_by(alloc, &self.own, &cert, frame, self.labels)?,
+            None => Vec::new(alloc),
+        };
         let text = remarks_text(alloc, name, found.as_slice(), self.labels)?;
         Ok(FrameRemarks { found, text })
     }
+}
 
-    fn find_on(&self, alloc: Global, frame: &[u8]) -> Result<Vec<FrameRemark>, AllocError> {
-        let own = &self.own;
-        let (Some(cert), Ok((image, rom))) = (
-            own.made_for(alloc, frame)?,
-            images_for(own.machine, own.rom, own.map, frame, own.budget),
-        ) else {
-            return Ok(Vec::new(alloc));
-        };
-        let inputs = Inputs {
-            machine: own.machine,
-            rom: own.rom,
-            map: Some(own.map),
-            cert: Some(&cert),
-            frame,
-            budget: own.budget,
-            window: own.window,
-            mode: Mode::Exact,
-            labels: self.labels,
-            others: own.others,
-        };
-        frame_remarks(alloc, &inputs, &rom, &image)
+/// The remarks on a frame by the certificate that is made for it so.
+fn remarks_by<'a>(
+    alloc: Global,
+    own: &OwnCertificates<'a>,
+    cert: &'a Cert,
+    frame: &'a [u8],
+    labels: Option<&'a Labels>,
+) -> Result<Vec<FrameRemark>, AllocError> {
+    let inputs = Inputs {
+        machine: own.machine,
+        rom: own.rom,
+        map: Some(own.map),
+        cert: Some(cert),
+        frame,
+        budget: own.budget,
+        window: own.window,
+        mode: Mode::Exact,
+        labels,
+        others: own.others,
+    };
+    match images_for(own.machine, own.rom, own.map, frame, own.budget) {
+        Ok((image, rom)) => frame_remarks(alloc, &inputs, &rom, &image),
+        Err(_) => Ok(Vec::new(alloc)),
     }
 }

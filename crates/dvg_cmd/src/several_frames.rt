@@ -84,10 +84,10 @@ fn write_apart<W: CountedWrite>(
     written: bool,
     out: &mut W,
 ) -> Result<(), WriteFault>
-    ensures sent { OnOk result (Sent (blank_line (has_account detail) written) (W.contents out.old) (W.contents out.new)
+    ensures sent { OnOk result (Sent (blank_line (has_account detail.entry) written) (W.contents out.old) (W.contents out.new)
         (W.whole_writes out.old) (W.whole_writes out.new)) }
     ensures prefix { OnErr result (AppendsPrefix (W.contents out.old) (W.contents out.new)
-        (joined (blank_line (has_account detail) written))) }
+        (joined (blank_line (has_account detail.entry) written))) }
     ensures count { W.failures out.new ≡ count_after (is_err result) (W.failures out.old) }
 {
     if detail.has_account() && written {

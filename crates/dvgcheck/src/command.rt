@@ -17,7 +17,7 @@ use clap::error::ErrorKind;
 use clap::{Arg, ArgMatches, Command, value_parser};
 use dvg_cmd::{
     ASTEROIDS, CLIPPED, CheckOptions, ClockOptions, DVG_STATES, Detail, FrameDetail, FrameOptions,
-    Key, Labels, LineClocks, Lines, Listing, Machine, Mode, NameEnd, OwnCertificates, RAM_WORDS,
+    Key, Labels, LineClocks, Lines, Listing, Machine, Mode, NameEnd, RAM_WORDS,
     RecordLength, Remarking, RomMap, RootFault, Rule, SCREEN, Timing, Unnamed, Window, limit_of,
     map_of, record_length_of, root_by, rule_of, start_of, window_of,
 };
@@ -262,22 +262,33 @@ impl<'a> Asked<'a> {
         matches!(self.listing.detail, Wanted::Answer(Detail::Account(_)))
     }
 
-    /// What is written of the frames, where certificates for them are made so.
-    pub fn listing_over(&self, own: OwnCertificates<'a>) -> Listing<FrameDetail<'a>> {
-        let Listing {
-            detail,
-            lines,
-            summary,
-        } = self.listing;
-        let detail = match detail {
-            Wanted::Answer(detail) => FrameDetail::Answer(detail),
-            Wanted::Remarks(labels) => FrameDetail::Remarks(Remarking { own, labels }),
-        };
-        Listing {
-            detail,
-            lines,
-            summary,
+    /// The labels by which remarks name addresses, if there are any.
+    pub fn remark_labels(&self) -> Option<&'a Labels> {
+        match self.listing.detail {
+            Wanted::Remarks(labels) => labels,
+            Wanted::Answer(_) => None,
         }
+    }
+}
+
+/// What is written of frames, where remarks are found so.
+pub fn listing_by<'a>(
+    wanted: Listing<Wanted<'a>>,
+    remarking: &'a Remarking<'a>,
+) -> Listing<FrameDetail<'a>> {
+    let Listing {
+        detail,
+        lines,
+        summary,
+    } = wanted;
+    let detail = match detail {
+        Wanted::Answer(detail) => FrameDetail::Answer(detail),
+        Wanted::Remarks(_) => FrameDetail::Remarks(remarking),
+    };
+    Listing {
+        detail,
+        lines,
+        summary,
     }
 }
 

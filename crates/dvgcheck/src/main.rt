@@ -23,11 +23,12 @@ mod together;
 
 use command::{
     Asked, Certificates, CheckArgs, FrameNames, FramesArgs, MakeArgs, Named, Parsed, Request, Usage,
+    listing_by,
 };
 use dvg_cmd::{
     ASTEROIDS, ClockOptions, Counted, CountedRead, CountedWrite, Detail, FrameOutcome, FramesRunFault,
     KeptCertificates, Labels, Listing, MakeAnswer, MakeFault, MakeRunFault, NamedFrame, Outcome,
-    OwnCertificates, RomMap, Rule, RunFault, ShapeStarts, TextWatch, TimedCertificates, Window,
+    OwnCertificates, Remarking, RomMap, Rule, RunFault, ShapeStarts, TextWatch, TimedCertificates, Window,
     all_rules, frames_status_of, load_cert, load_rom, make_frames_status_of, message_of,
     run_check_in, run_comparison, run_explain_make, run_frames, run_frames_given, run_make_frames,
     run_places, run_rule, run_rules, status_of, write_make_answer, write_make_fault, write_message,
@@ -118,7 +119,11 @@ fn judge_by_own<R: CountedRead + Drop, I: Iterator<Item = NamedFrame<R>> + Drop>
     let mut out = Counted::new(io::writer(rt));
     let start = asked.options.start;
     let own = own_certificates(asked, rom, map, others);
-    let listing = asked.listing_over(own);
+    let remarking = Remarking {
+        own,
+        labels: asked.remark_labels(),
+    };
+    let listing = listing_by(asked.listing, &remarking);
     let detail = listing.detail.of_answer();
     match clocks {
         Some(clocks) => {
@@ -211,7 +216,10 @@ fn judge_frames<R: CountedRead + Drop, I: Iterator<Item = NamedFrame<R>> + Drop>
                 Ok(cert) => cert.map(),
                 Err(_) => ASTEROIDS,
             };
-            let own = own_certificates(asked, rom.as_slice(), map, None);
+            let remarking = Remarking {
+                own: own_certificates(asked, rom.as_slice(), map, None),
+                labels: asked.remark_labels(),
+            };
             run_frames_given(
                 rt.alloc(),
                 rom.as_slice(),
@@ -219,7 +227,7 @@ fn judge_frames<R: CountedRead + Drop, I: Iterator<Item = NamedFrame<R>> + Drop>
                 &watch,
                 &asked.options,
                 frames,
-                asked.listing_over(own),
+                listing_by(asked.listing, &remarking),
                 &mut Counted::new(io::writer(rt)),
             )
         }

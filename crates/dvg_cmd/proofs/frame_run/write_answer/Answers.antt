@@ -1,4 +1,4 @@
-use Rattle.dvg_cmd.proofs.Common.{arith, common_steps, append-nil, ◌≡◌, ◌++◌, rules, refl}
+use Rattle.dvg_cmd.proofs.Common.{arith, common_steps, append_assoc}
 use Rattle.dvg_cmd.proofs.Writing.{line_cut, one_line}
 use Rattle.dvg_cmd.proofs.frame_run.write_answer.Goals as goal
 
