@@ -1,5 +1,9 @@
 //! How remarks on a frame are found: its list is looked at, and each shape that it comes to, once.
 
+ghost use Rattle.std.specs.Prelude.{IfOk};
+ghost use Rattle.std.specs.List.Sorted.{IsStrictlySortedBy};
+ghost use Rattle.dvg_account.specs.contracts.remarked.FrameRemarkOrd.TheImpl.{ghosts as orders};
+
 use crate::beginnings::Beginnings;
 use crate::beside::leads_beside;
 use crate::frame_list::list_remarks;
@@ -145,7 +149,9 @@ impl<'a> Finder<'a> {
     }
 
     /// The remarks, in the order of their word addresses, each once.
-    pub fn finish(self) -> Result<Vec<FrameRemark>, AllocError> {
+    pub fn finish(self) -> Result<Vec<FrameRemark>, AllocError>
+        ensures { IfOk result (λ remarks. IsStrictlySortedBy orders.cmp remarks.items) }
+    {
         in_order(self.remarks)
     }
 }

@@ -1,5 +1,9 @@
 //! What the author of an accepted frame may not have meant, by the kind and the word address. It changes no answer.
 
+ghost use Rattle.std.specs.Prelude.{IfOk};
+ghost use Rattle.std.specs.List.Sorted.{IsStrictlySortedBy};
+ghost use Rattle.dvg_account.specs.contracts.remarked.FrameRemarkOrd.TheImpl.{ghosts as orders};
+
 use crate::finder::Finder;
 use crate::inputs::Inputs;
 use crate::text::Text;
@@ -24,7 +28,9 @@ pub fn frame_remarks(
     inputs: &Inputs,
     rom: &RomImage,
     frame: &FrameImage,
-) -> Result<Vec<FrameRemark>, AllocError> {
+) -> Result<Vec<FrameRemark>, AllocError>
+    ensures { IfOk result (λ remarks. IsStrictlySortedBy orders.cmp remarks.items) }
+{
     let Some(cert) = inputs.cert else {
         return Ok(Vec::new(alloc));
     };
@@ -36,11 +42,13 @@ pub fn frame_remarks(
     finder.finish()
 }
 
-/// Remarks in the order of their word addresses, each once.
-pub fn in_order(mut remarks: Vec<FrameRemark>) -> Result<Vec<FrameRemark>, AllocError> {
-    remarks.sort()?;
-    remarks.dedup();
-    Ok(remarks)
+/// Values in their order, each once.
+pub fn in_order<T: Ord + Drop>(mut values: Vec<T>) -> Result<Vec<T>, AllocError>
+    ensures { IfOk result (λ sorted. IsStrictlySortedBy T.cmp sorted.items) }
+{
+    values.sort()?;
+    values.dedup();
+    Ok(values)
 }
 
 /// The lines of remarks on the frame with this name, in which labels name word addresses: `game.frame: remark runs-on 819 SHIP+3`.
