@@ -1,5 +1,5 @@
 -- What a run says of two dumps of a ROM, and what it writes. All of it is this project's own.
-use Rattle.std.specs.Prelude.{◌≡◌, ◌↔◌, ◌<◌, ◌≤◌, ◌⊎◌, ℕ, Bool, List, [], ◌++◌, length, Option, None, IfSome, is_some}
+use Rattle.std.specs.Prelude.{◌≡◌, ◌↔◌, ◌<◌, ◌≤◌, ℕ, Bool, List, [], ◌++◌, length, Option, None, IfSome, is_some}
 use Rattle.std.specs.Io.KnownBytes.{Appends}
 use Rattle.dvg_text.specs.Devices.{AppendsPrefix, TakesOneWrite}
 use Rattle.dvg_dumps.specs.Differences.{counted}

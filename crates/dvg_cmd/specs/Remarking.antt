@@ -8,7 +8,7 @@ use Rattle.dvg_check.specs.declared.verdict.Yes.{Yes}
 use Rattle.dvg_spelling.specs.declared.outcome.FrameAnswer.{FrameAnswer}
 use Rattle.dvg_spelling.specs.declared.outcome.FrameOutcome.{FrameOutcome}
 use Rattle.dvg_spelling.specs.declared.outcome.FrameOutcome.TheVariants as frame
-use Rattle.dvg_cmd.specs.Detail.{Detail, Behind, IsBehind, behind_text, frame_outcome_behind}
+use Rattle.dvg_cmd.specs.Detail.{Detail, IsBehind, behind_text, frame_outcome_behind}
 use Rattle.dvg_cmd.specs.declared.detail.Detail.TheVariants as details
 use Rattle.dvg_cmd.specs.declared.detail.Behind.TheVariants as behinds
 use Rattle.dvg_cmd.specs.Frames.{yes_in}

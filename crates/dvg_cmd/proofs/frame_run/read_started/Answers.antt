@@ -1,4 +1,4 @@
-use Rattle.std.proofs.Common.{arith, take, length, ◌≡◌, ℕ, List, IfSome, sym, subst}
+use Rattle.std.proofs.Common.{arith, take, ℕ, List}
 use Rattle.std.proofs.lemmas.Grind.{common_steps}
 use Rattle.dvg_cmd.specs.Private.Reading.{IsPrefix, limited}
 use Rattle.dvg_cmd.proofs.Answers.{read_from}

@@ -1,7 +1,7 @@
 use Rattle.dvg_cmd.proofs.Common.{◌≡◌, arith, common_steps, subst, sym, true, AppendsPrefix, joined, has_account}
 use Rattle.dvg_cmd.specs.SeveralFrames.{blank_line, summary_texts}
 use Rattle.dvg_cmd.specs.Private.Sent.{Sent}
-use Rattle.dvg_cmd.proofs.LineByLine.{both_cut, both_sent, first_cut, on_err}
+use Rattle.dvg_cmd.proofs.LineByLine.{both_cut, both_sent}
 use Rattle.dvg_cmd.proofs.Writing.{on_fail, on_ok, summary_shown}
 use Rattle.dvg_cmd.proofs.several_frames.write_summary.Goals as goal
 
