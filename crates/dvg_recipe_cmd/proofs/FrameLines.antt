@@ -1,6 +1,7 @@
 -- The lines of frames, one after another.
 use Rattle.dvg_recipe_cmd.proofs.Common.{◌≡◌, refl, sym, ap, ◌∙◌, ℕ, List, [], ◌∷◌, ◌++◌, Option, Appends, AppendsPrefix, joined, TakeOneWriteEach, FrameOutcome, worse}
 use Rattle.dvg_cmd.specs.declared.detail.Behind.{Behind}
+use Rattle.dvg_cmd.specs.declared.detail.Detail.{Detail}
 use Rattle.dvg_cmd.specs.declared.listing.Listing.{Listing}
 use Rattle.dvg_cmd.specs.declared.several_frames.NamedFrame.{NamedFrame}
 use Rattle.dvg_words.specs.Memory.{Rom}
