@@ -850,7 +850,7 @@ fn dump_args<'a>(
     rt: &HostRuntime,
     args: &ArgMatches<'a>,
     labels: Option<&'a Labels>,
-) -> Result<DumpArgs<'a>, ArgumentFault<'a>> {
+) -> Result<DumpArgs<'a>, Usage<'a>> {
     one_standard_input(args, &["ROM", "OTHER", "labels"])?;
     Ok(DumpArgs {
         rom: file_of(rt, args, "ROM"),

@@ -105,12 +105,12 @@ fn explain_together(
 
 /// Judges frames by certificates of their own over this ROM, with their clocks, if these are asked for.
 #[inline(never)]
-fn judge_by_own<R: CountedRead + Drop, I: Iterator<Item = NamedFrame<R>> + Drop>(
+fn judge_by_own<'a, R: CountedRead + Drop, I: Iterator<Item = NamedFrame<R>> + Drop>(
     rt: &HostRuntime,
-    asked: &Asked,
-    rom: &[u8],
+    asked: &Asked<'a>,
+    rom: &'a [u8],
     map: RomMap,
-    others: Option<&ShapeStarts>,
+    others: Option<&'a ShapeStarts>,
     clocks: Option<ClockOptions>,
     frames: I,
 ) -> Result<FrameOutcome, RunFault>
@@ -119,19 +119,20 @@ fn judge_by_own<R: CountedRead + Drop, I: Iterator<Item = NamedFrame<R>> + Drop>
 {
     let mut out = Counted::new(io::writer(rt));
     let start = asked.options.start;
-    let own = own_certificates(asked, rom, map, others);
     let remarking = Remarking {
-        own,
+        own: own_certificates(asked, rom, map, others),
         labels: asked.remark_labels(),
     };
     let listing = listing_by(asked.listing, &remarking);
     let detail = listing.detail.of_answer();
     match clocks {
         Some(clocks) => {
+            let own = own_certificates(asked, rom, map, others);
             let mut judge = TimedCertificates::new(rt.alloc(), own, clocks, detail);
             run_frames(rt.alloc(), &mut judge, start, frames, listing, &mut out)
         }
         None => {
+            let own = own_certificates(asked, rom, map, others);
             let mut judge = KeptCertificates::new(rt.alloc(), own, detail);
             run_frames(rt.alloc(), &mut judge, start, frames, listing, &mut out)
         }
