@@ -7,6 +7,7 @@ use crate::making::{made_lines, unmade_lines};
 use crate::own::{frame_lines, own_lines};
 use crate::spelling::{Telling, text_of};
 use crate::swapped::{Swapped, find_swapped};
+use crate::text::Text;
 use crate::time::{slow_lines, time_lines};
 use dvg_cert::{Cert, CertFault};
 use dvg_check::{Refusal, RomFinding, Yes};
@@ -168,6 +169,17 @@ pub fn certificate_text(
     };
     let lines = plain_lines(machine, alloc, fault.number(), why)?;
     text_of(alloc, Telling::of_given(None), &lines, labels)
+}
+
+/// A word address as accounts spell it: with the label that names it, if one does, as in `SHIP+3 (819)`.
+pub fn address_text(
+    alloc: Global,
+    addr: u16,
+    labels: Option<&Labels>,
+) -> Result<String, AllocError> {
+    let mut text = Text::new(alloc, labels);
+    text.push_address(addr);
+    text.finish()
 }
 
 /// The account of [`made_lines`] as a text.

@@ -49,6 +49,17 @@ module _ (all : List (List ℕ)) (old : Option (List ℕ)) (writes : ℕ) where
     pub one_cut : AppendsPrefix mid new piece → AppendsPrefix old new (joined all)
     one_cut written = grind (arith, rules, common_steps, joined, (first_cut (h.done ++ line ∷ []) rest old new (both_cut h.done (line ∷ []) old mid new writes writes_mid writes_mid h.sent (subst (AppendsPrefix mid new) (sym first) written))), (both_cut h.done (line ∷ []) old mid new writes writes_mid writes_mid h.sent (subst (AppendsPrefix mid new) (sym first) written)), first_cut, both_cut)
 
+  -- the next of them was sent, or a prefix of it
+  module _ (left : List (List ℕ)) (line : List ℕ) (rest : List (List ℕ)) (next : left ≡ line ∷ rest) (mid new : Option (List ℕ)) (writes_mid : ℕ) (h : SentTo left mid writes_mid) where
+    whole_then : (h.done ++ line ∷ []) ++ rest ≡ all
+    whole_then = append_assoc h.done (line ∷ []) rest ∙ ap (λ ls. h.done ++ ls) (sym next) ∙ h.whole
+
+    pub line_sent : (writes_after : ℕ) → Sent (line ∷ []) mid new writes_mid writes_after → SentTo rest new writes_after
+    line_sent writes_after sent = record { done = h.done ++ line ∷ []; sent = both_sent h.done (line ∷ []) old mid new writes writes_mid writes_after h.sent sent; whole = whole_then }
+
+    pub cut_line : AppendsPrefix mid new (joined (line ∷ [])) → AppendsPrefix old new (joined all)
+    cut_line cut = subst (λ ls. AppendsPrefix old new (joined ls)) whole_then (first_cut (h.done ++ line ∷ []) rest old new (both_cut h.done (line ∷ []) old mid new writes writes_mid writes_mid h.sent cut))
+
 -- ---- the lines of things, each by one of these texts
 
 module _ {A : Type 0} (line_of : A → List ℕ) (things : List A) (n : ℕ) where

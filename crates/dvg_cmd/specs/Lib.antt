@@ -7,6 +7,7 @@ pub mod Most
 pub mod SafeFrames
 pub mod Kept
 pub mod Frames
+pub mod Called
 pub mod Remarking
 pub mod SeveralFrames
 pub mod Making

@@ -11,6 +11,7 @@ use Rattle.dvg_spelling.specs.declared.outcome.FrameOutcome.TheVariants as frame
 use Rattle.dvg_cmd.specs.Detail.{Detail, IsBehind, behind_text, frame_outcome_behind}
 use Rattle.dvg_cmd.specs.declared.detail.Detail.TheVariants as details
 use Rattle.dvg_cmd.specs.declared.detail.Behind.TheVariants as behinds
+use Rattle.dvg_cmd.specs.Called.{CalledCount, with_called}
 use Rattle.dvg_cmd.specs.Frames.{yes_in}
 pub use Rattle.dvg_cmd.specs.declared.remarking.FrameDetail.{FrameDetail}
 pub use Rattle.dvg_cmd.specs.declared.remarking.FrameDetail.TheVariants as detail
@@ -31,6 +32,7 @@ has_account (detail.Remarks remarking) = false
 -- remarks, or that there was no memory for them
 abbrev pub AreRemarks : BehindFrame → Type 0
 AreRemarks (behind.Answer what) = ⊥
+AreRemarks (behind.Called what called) = ⊥
 AreRemarks what = Unit {0}
 
 -- remarks stand behind the line of each accepted frame, and of no other
@@ -41,18 +43,21 @@ AreRemarksOn None what = what ≡ behind.Answer behinds.Nothing
 -- what a detail asks for behind the line of an answer
 abbrev pub IsBehindFrame : FrameDetail → FrameAnswer → BehindFrame → Type 0
 IsBehindFrame (detail.Answer asked) answer (behind.Answer what) = IsBehind asked what
+IsBehindFrame (detail.Answer asked) answer (behind.Called what called) = IsBehind asked what
 IsBehindFrame (detail.Answer asked) answer what = ⊥
 IsBehindFrame (detail.Remarks remarking) answer what = AreRemarksOn (yes_in answer) what
 
 -- the text that is written behind the line
 abbrev pub text_behind_frame : BehindFrame → List ℕ
 text_behind_frame (behind.Answer what) = behind_text what
+text_behind_frame (behind.Called what called) = behind_text what
 text_behind_frame (behind.Remarks remarks) = string_bytes remarks.text
 text_behind_frame behind.NoRemarks = codes "remarks: out of memory\n"
 
 -- the outcome, from that of the line
 abbrev pub outcome_behind_frame : BehindFrame → FrameOutcome → FrameOutcome
 outcome_behind_frame (behind.Answer what) line = frame_outcome_behind what line
+outcome_behind_frame (behind.Called what called) line = frame_outcome_behind what line
 outcome_behind_frame (behind.Remarks remarks) line = line
 outcome_behind_frame behind.NoRemarks line = worse line frame.NoMemory
 
@@ -77,3 +82,10 @@ remarked_with tally what = tally
 abbrev pub remarks_texts : Option RemarkTally → List (List ℕ)
 remarks_texts None = []
 remarks_texts (Some t) = remarks_text t ∷ []
+
+-- ---- the summary of called shapes
+
+-- with what stands behind a line
+abbrev pub called_with : List CalledCount → BehindFrame → List CalledCount
+called_with counts (behind.Called what called) = with_called counts called
+called_with counts what = counts

@@ -18,13 +18,14 @@ use Rattle.dvg_spelling.specs.Outcomes.{plain_outcome}
 use Rattle.dvg_spelling.specs.Tally.{no_lines, with_answer as counted, summary_text}
 use Rattle.dvg_spelling.specs.declared.outcome.FrameOutcome.TheVariants as outcome
 use Rattle.dvg_cmd.specs.Detail.{Detail}
-use Rattle.dvg_cmd.specs.Remarking.{FrameDetail, BehindFrame, IsBehindFrame, has_account, outcome_behind_frame, remarked_with, remarks_texts, text_behind_frame}
+use Rattle.dvg_cmd.specs.Remarking.{FrameDetail, BehindFrame, IsBehindFrame, called_with, has_account, outcome_behind_frame, remarked_with, remarks_texts, text_behind_frame}
 use Rattle.dvg_cmd.specs.declared.listing.Lines.{Lines}
 use Rattle.dvg_cmd.specs.declared.listing.Lines.TheVariants as which
 use Rattle.dvg_cmd.specs.declared.listing.Listing.{Listing}
 use Rattle.dvg_cmd.specs.declared.several_frames.NamedFrame.{NamedFrame}
 use Rattle.dvg_cmd.specs.declared.progress.Progress.{Progress}
 use Rattle.dvg_cmd.specs.declared.summary.FramesSummary.{FramesSummary}
+use Rattle.dvg_cmd.specs.Called.{called_texts}
 use Rattle.dvg_cmd.specs.Most.{most_texts, with_frame}
 use Rattle.dvg_cmd.specs.Runs.{Outcome, WritesReport, WritesReportPrefix}
 use Rattle.dvg_cmd.specs.Frames.{FrameAnswer, Unread, FrameOutcome, frame_outcome_of, worse, frame_line, is_unread, Judging, AnswersFrame, judged_over}
@@ -59,7 +60,7 @@ is_written shown end = true
 
 -- what is known of no frame
 abbrev pub no_frames : FramesSummary
-no_frames = record { tally = no_lines; most = None; remarks = None }
+no_frames = record { tally = no_lines; most = None; remarks = None; called = [] }
 
 -- what a line adds to what is known, whether it is written or not
 abbrev pub summed_with : FramesSummary → Line → FramesSummary
@@ -68,11 +69,13 @@ summed_with s line =
       tally = counted s.tally line.answer;
       most = with_frame s.most line.name line.answer;
       remarks = remarked_with s.remarks line.behind;
+      called = called_with s.called line.behind;
     }
 
--- the texts that tell it: the frames that take most, how many remarks there are, and how many lines say what
+-- the texts that tell it: the frames that take most, how many remarks there are, which shapes refused frames call, and how many lines
+-- say what
 abbrev pub summary_texts : FramesSummary → List (List ℕ)
-summary_texts s = most_texts s.most ++ remarks_texts s.remarks ++ summary_text s.tally ∷ []
+summary_texts s = most_texts s.most ++ remarks_texts s.remarks ++ called_texts s.called ++ summary_text s.tally ∷ []
 
 -- before the first frame
 abbrev pub begun : Progress

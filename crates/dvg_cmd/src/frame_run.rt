@@ -1,20 +1,24 @@
 //! The answer to one frame that a reader holds, and its line.
 
-ghost use Rattle.std.specs.Prelude.{◌≡◌, ◌≤◌, ◌∷◌, [], take, IfOk, OnOk, OnErr, is_err};
+ghost use Rattle.std.specs.Prelude.{◌≡◌, ◌≤◌, ◌∷◌, [], None, take, IfOk, OnOk, OnErr, is_err};
 ghost use Rattle.dvg_text.specs.Devices.{AppendsPrefix, count_after};
 ghost use Rattle.dvg_cmd.specs.Detail.{IsBehind};
 ghost use Rattle.dvg_cmd.specs.Remarking.{IsBehindFrame, answer_detail, outcome_behind_frame, text_behind_frame};
+ghost use Rattle.dvg_cmd.specs.declared.detail.Detail.TheVariants as details;
+ghost use Rattle.dvg_cmd.specs.declared.remarking.FrameDetail.TheVariants as frame_details;
 ghost use Rattle.dvg_cmd.specs.Runs.{MOST_FRAME_READ, IsReadTo};
 ghost use Rattle.dvg_cmd.specs.Frames.{JudgesAlike, ReadsFrame, AnswersFrame, is_unread};
 ghost use Rattle.dvg_cmd.specs.SeveralFrames.{joined, line_text};
 ghost use Rattle.dvg_cmd.specs.Private.Sent.{Sent};
 
+use crate::called::{Called, called_by, name_of};
 use crate::detail::{Behind, Detail};
 use crate::frame_judge::FrameJudge;
 use crate::reading::read_prefix;
 use crate::remarking::{BehindFrame, FrameDetail};
 use crate::start::start_at;
-use dvg_account::{PlainWhy, plain_text};
+use dvg_account::{PlainWhy, address_text, plain_text};
+use dvg_labels::Labels;
 use dvg_spelling::{FrameAnswer, frame_report_of};
 use dvg_text::{CountedRead, CountedWrite, WriteFault, write_lines};
 use dvg_words::Machine;
@@ -67,6 +71,7 @@ pub fn unread_account(machine: Machine, alloc: Global, detail: Detail) -> Behind
 /// What the detail asks for behind the line of the answer to a frame of this name, behind which the judge's own detail is this.
 fn behind_answer(
     alloc: Global,
+    machine: Machine,
     name: &str,
     frame: &[u8],
     answer: &FrameAnswer,
@@ -80,7 +85,38 @@ fn behind_answer(
         (FrameDetail::Remarks(remarking), FrameAnswer::Judged(Ok(_)) | FrameAnswer::Timed(_)) => {
             remarking.on(alloc, name, frame)
         }
+        (FrameDetail::Answer(Detail::Account(labels)), _) => {
+            behind_call(alloc, machine, frame, answer, behind, labels)
+        }
         _ => BehindFrame::Answer(behind),
+    }
+}
+
+/// An account, with the shape that the item calls because of which the frame is refused, if it is a call; or that there was no memory.
+fn behind_call(
+    alloc: Global,
+    machine: Machine,
+    frame: &[u8],
+    answer: &FrameAnswer,
+    behind: Behind,
+    labels: Option<&Labels>,
+) -> BehindFrame
+    requires { IsBehind (details.Account None) behind }
+    ensures { IsBehindFrame (frame_details.Answer (details.Account None)) answer.now result }
+{
+    let Some((number, shape)) = called_by(machine, frame, answer) else {
+        return BehindFrame::Answer(behind);
+    };
+    match address_text(alloc, shape, labels) {
+        Ok(text) => BehindFrame::Called(
+            behind,
+            Called {
+                number,
+                shape,
+                name: name_of(text.as_str()),
+            },
+        ),
+        Err(_) => BehindFrame::Answer(Behind::NoMemory),
     }
 }
 
@@ -106,7 +142,8 @@ pub fn answer_of<J: FrameJudge, R: CountedRead>(
         Ok(len) => {
             let read = &buffer[..len];
             let (answer, behind) = judge.answer(alloc, read, detail.of_answer());
-            let behind = behind_answer(alloc, name, read, &answer, behind, detail);
+            let machine = judge.machine();
+            let behind = behind_answer(alloc, machine, name, read, &answer, behind, detail);
             (answer, behind)
         }
         Err(_) => (

@@ -7,6 +7,7 @@
 //! differs, [`run_rules`] what numbers mean.
 #![tactic(auto)]
 
+mod called;
 mod comparing;
 mod detail;
 mod entry_lines;

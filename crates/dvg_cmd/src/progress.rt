@@ -37,11 +37,11 @@ impl Progress {
         alloc: Global,
         name: String,
         answer: &FrameAnswer,
-        behind: &BehindFrame,
+        behind: BehindFrame,
         listing: Listing<FrameDetail>,
     )
         ensures { self.new ≡ gone_with listing.entry.lines self.old
-            (record { name = string_bytes name; answer = answer.now; behind = behind.now }) }
+            (record { name = string_bytes name; answer = answer.now; behind = behind }) }
     {
         let outcome = behind.frame_outcome(frame_outcome_of(answer));
         if listing.lines.has(outcome) {

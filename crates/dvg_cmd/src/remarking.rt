@@ -3,6 +3,7 @@
 ghost use Rattle.std.specs.Prelude.{◌≡◌};
 ghost use Rattle.dvg_cmd.specs.Remarking.{AreRemarks, answer_detail, has_account, outcome_behind_frame, text_behind_frame};
 
+use crate::called::Called;
 use crate::detail::{Behind, Detail};
 use crate::frame_judge::{OwnCertificates, images_for};
 use dvg_account::{FrameRemark, Inputs, frame_remarks, remarks_text};
@@ -66,6 +67,8 @@ pub struct FrameRemarks {
 pub enum BehindFrame {
     /// What is told of the answer.
     Answer(Behind),
+    /// What is told of a refusal because of an item that calls this shape.
+    Called(Behind, Called),
     Remarks(FrameRemarks),
     /// That there was no memory for the remarks.
     NoRemarks,
@@ -80,7 +83,7 @@ impl BehindFrame {
         ensures { result.now ≡ text_behind_frame self.now }
     {
         match self {
-            BehindFrame::Answer(behind) => behind.text(),
+            BehindFrame::Answer(behind) | BehindFrame::Called(behind, _) => behind.text(),
             BehindFrame::Remarks(remarks) => remarks.text.as_str(),
             BehindFrame::NoRemarks => NO_REMARKS,
         }
@@ -91,7 +94,7 @@ impl BehindFrame {
         ensures { result ≡ outcome_behind_frame self.now line }
     {
         match self {
-            BehindFrame::Answer(behind) => behind.frame_outcome(line),
+            BehindFrame::Answer(behind) | BehindFrame::Called(behind, _) => { behind.frame_outcome(line) }
             BehindFrame::Remarks(_) => line,
             BehindFrame::NoRemarks => line.or_worse(FrameOutcome::NoMemory),
         }

@@ -161,7 +161,7 @@ fn run_named<J: FrameJudge, R: CountedRead + Drop, W: CountedWrite>(
         progress.written,
         out,
     )?;
-    progress.add(alloc, name, &answer, &behind, listing);
+    progress.add(alloc, name, &answer, behind, listing);
     Ok(())
 }
 

@@ -3,11 +3,12 @@
 ghost use Rattle.std.specs.Prelude.{◌≡◌, ◌∷◌, [], OnErr, OnOk, is_err, string_bytes};
 ghost use Rattle.dvg_text.specs.Devices.{AppendsPrefix, count_after};
 ghost use Rattle.dvg_spelling.specs.Tally.{summary_text};
-ghost use Rattle.dvg_cmd.specs.Remarking.{remarked_with, remarks_texts, with_remarks};
+ghost use Rattle.dvg_cmd.specs.Remarking.{called_with, remarked_with, remarks_texts, with_remarks};
 ghost use Rattle.dvg_cmd.specs.Most.{most_texts, with_frame};
 ghost use Rattle.dvg_cmd.specs.SeveralFrames.{joined, no_frames, summary_texts, summed_with};
 ghost use Rattle.dvg_cmd.specs.Private.Sent.{Sent};
 
+use crate::called::CalledTally;
 use crate::most::MostTaken;
 use crate::remarking::BehindFrame;
 use dvg_account::FrameRemark;
@@ -24,6 +25,8 @@ pub struct FramesSummary {
     pub most: Option<MostTaken>,
     /// How many remarks of which kind there are on them, if remarks were looked for on one.
     pub remarks: Option<RemarkTally>,
+    /// How many are refused by which number at calls of which shape, where accounts are written.
+    pub called: CalledTally,
 }
 
 /// With a frame of this name and answer.
@@ -55,6 +58,18 @@ fn add_remarks(tally: &mut Option<RemarkTally>, behind: &BehindFrame)
         let mut counted = tally.unwrap_or(RemarkTally::new());
         count_remarks(&mut counted, remarks.found.as_slice());
         *tally = Some(counted);
+    }
+}
+
+/// With the shape that the item calls because of which a frame is refused, if that is told.
+fn add_called(tally: &mut CalledTally, behind: BehindFrame)
+    ensures { tally.new ≡ called_with tally.old behind }
+{
+    match behind {
+        BehindFrame::Called(_behind, called) => tally.add(called),
+        BehindFrame::Answer(_behind) => {}
+        BehindFrame::Remarks(_remarks) => {}
+        BehindFrame::NoRemarks => {}
     }
 }
 
@@ -110,15 +125,17 @@ impl FramesSummary {
             tally: Tally::new(),
             most: None,
             remarks: None,
+            called: CalledTally::new(),
         }
     }
 
     /// Takes in a frame of this name, whose line tells this answer, with this behind it, whether it is written or not.
-    pub fn add(&mut self, alloc: Global, name: String, answer: &FrameAnswer, behind: &BehindFrame)
-        ensures { self.new ≡ summed_with self.old (record { name = string_bytes name; answer = answer.now; behind = behind.now }) }
+    pub fn add(&mut self, alloc: Global, name: String, answer: &FrameAnswer, behind: BehindFrame)
+        ensures { self.new ≡ summed_with self.old (record { name = string_bytes name; answer = answer.now; behind = behind }) }
     {
         self.tally.add(answer);
-        add_remarks(&mut self.remarks, behind);
+        add_remarks(&mut self.remarks, &behind);
+        add_called(&mut self.called, behind);
         add_to_most(alloc, &mut self.most, name, answer);
     }
 
@@ -132,6 +149,7 @@ impl FramesSummary {
     {
         write_most(&self.most, out)?;
         write_remarks(&self.remarks, out)?;
+        self.called.write(out)?;
         write_tally(&self.tally, out)
     }
 }

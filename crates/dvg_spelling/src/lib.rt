@@ -34,7 +34,7 @@ pub use report::{
 };
 pub use rules::{Rule, all_rules, own_rule_of, rule_of, text_of_rule, text_of_rules};
 pub use status::{frames_status_of, make_frames_status_of, make_status_of, message_of, status_of};
-pub use tally::{Summary, Tally, summary_of};
+pub use tally::{Summary, Tally, answer_number, push_count, summary_of};
 pub use touched::touched_line_of;
 pub use window::window_of;
 pub use within::limit_of;

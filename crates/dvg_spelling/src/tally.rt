@@ -27,7 +27,7 @@ pub struct Tally {
 }
 
 /// The number of a refusal, or 0 if the answer is none.
-fn answer_number(answer: &FrameAnswer) -> u8
+pub fn answer_number(answer: &FrameAnswer) -> u8
     ensures { result ≡ answer_number answer.now }
 {
     match answer {

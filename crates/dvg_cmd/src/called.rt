@@ -1,0 +1,192 @@
+//! Which shapes are called by the items with which frames are refused, how often, and the lines that tell it.
+
+ghost use Rattle.std.specs.Prelude.{◌≡◌, ◌≤◌, ◌∷◌, [], None, Some, IfNone, IfSome, OnErr, OnOk, is_err, length};
+ghost use Rattle.dvg_words.specs.Memory.{IsFrameLength, words_of};
+ghost use Rattle.dvg_text.specs.Devices.{AppendsPrefix, count_after};
+ghost use Rattle.dvg_cmd.specs.Called.{called_by, called_text, called_texts, is_before, is_counted, place_in, refused_at, with_called};
+ghost use Rattle.dvg_cmd.specs.SeveralFrames.{joined};
+ghost use Rattle.dvg_cmd.specs.Private.Sent.{Sent};
+
+use arrayvec::ArrayVec;
+use dvg_check::Refusal;
+use dvg_make::FrameRefusal;
+use dvg_spelling::{FrameAnswer, Summary, answer_number, push_count};
+use dvg_text::{CountedWrite, WriteFault, push_bytes, write_lines};
+use dvg_words::{Cell, FrameImage, FrameOn, Instr, Machine, read_cell};
+use std::marker::Model;
+
+/// How accounts spell a word address: a label has at most 80 bytes.
+pub type AddressName = ArrayVec<u8, 96>;
+
+/// A shape that is called by the item with which a frame is refused.
+#[derive(Default, Drop)]
+pub struct Called {
+    /// The number of the refusal.
+    pub number: u8,
+    /// The word address of the shape.
+    pub shape: u16,
+    /// How accounts spell that address.
+    pub name: AddressName,
+}
+
+/// How many frames are refused by this number at a call of this shape.
+#[derive(Default, Drop)]
+pub struct CalledCount {
+    pub called: Called,
+    /// It stops at 4,294,967,295.
+    pub count: u32,
+}
+
+/// How many frames are refused by which number at calls of which shape, in the order of the numbers, and then of the shapes. Of more than
+/// 64 the first 64 that come are counted.
+#[derive(Drop)]
+pub struct CalledTally {
+    counts: ArrayVec<CalledCount, 64>,
+}
+
+impl Model for CalledTally {
+    ghost use Rattle.std.specs.Prelude.{List};
+    ghost use Rattle.dvg_cmd.specs.declared.called.CalledCount.{CalledCount};
+
+    ghost Value = { List CalledCount };
+
+    ghost view = { λ t. t.counts.items };
+}
+
+/// At which word address a frame is refused because of an item, if it is.
+fn refused_at(answer: &FrameAnswer) -> Option<u16>
+    ensures { result ≡ refused_at answer.now }
+{
+    match answer {
+        FrameAnswer::Judged(Err(FrameRefusal::Make { at, .. })) => Some(*at),
+        FrameAnswer::Judged(Err(FrameRefusal::Check(Refusal::Frame(fault)))) => Some(fault.word),
+        FrameAnswer::Slow { at } => Some(*at),
+        _ => None,
+    }
+}
+
+/// The number by which a frame is refused, and the shape that the item calls by which it is, if that is a call.
+pub fn called_by(machine: Machine, frame: &[u8], answer: &FrameAnswer) -> Option<(u8, u16)>
+    ensures some { IfSome result (λ called. called_by machine (words_of frame.now) answer.now ≡ Some called) }
+    ensures none { IfNone result (IsFrameLength (length frame.now) → called_by machine (words_of frame.now) answer.now ≡ None) }
+{
+    let at = refused_at(answer)?;
+    let frame = FrameImage::from_bytes(frame).ok()?;
+    match read_cell(&FrameOn::new(machine, &frame), at) {
+        Cell::Holds {
+            instr: Instr::Jsrl { to },
+            ..
+        } => Some((answer_number(answer), to)),
+        _ => None,
+    }
+}
+
+/// An address as accounts spell it, of which the first 96 bytes are kept.
+pub fn name_of(text: &str) -> AddressName {
+    let bytes = text.as_bytes();
+    let mut name = AddressName::new();
+    push_bytes(&mut name, &bytes[..bytes.len().min(96)]);
+    name
+}
+
+/// Whether a count comes before that of this number and shape.
+fn is_before(count: &CalledCount, number: u8, shape: u16) -> bool
+    ensures { result ≡ is_before count.now number shape }
+{
+    (count.called.number, count.called.shape) < (number, shape)
+}
+
+/// How many of these counts come before that of this number and shape.
+fn place_of(counts: &[CalledCount], number: u8, shape: u16) -> usize
+    ensures place { result ≡ place_in counts.now number shape }
+    ensures within { result ≤ length counts.now }
+{
+    for at in 0..counts.len() {
+        if !is_before(&counts[at], number, shape) {
+            return at;
+        }
+    }
+    counts.len()
+}
+
+/// Whether the count at a place is that of this number and shape.
+fn is_counted(counts: &[CalledCount], at: usize, called: &Called) -> bool
+    ensures { result ≡ is_counted counts.now at called.now }
+{
+    match counts.get(at) {
+        Some(there) => {
+            there.called.number == called.number && there.called.shape == called.shape
+        }
+        None => false,
+    }
+}
+
+/// Counts a frame that is refused so.
+fn count_called(counts: &mut ArrayVec<CalledCount, 64>, called: Called)
+    ensures { counts.new.items ≡ with_called counts.old.items called }
+{
+    let at = place_of(counts.as_slice(), called.number, called.shape);
+    if is_counted(counts.as_slice(), at, &called) {
+        let there = &mut counts.as_mut_slice()[at];
+        there.count = there.count.saturating_add(1);
+    } else if !counts.is_full() {
+        counts.insert(at, CalledCount { called, count: 1 });
+    }
+}
+
+impl CalledCount {
+    /// Writes its line.
+    fn write<W: CountedWrite>(&self, out: &mut W) -> Result<(), WriteFault>
+        ensures sent { OnOk result (Sent (called_text self.now ∷ []) (W.contents out.old) (W.contents out.new) (W.whole_writes out.old)
+            (W.whole_writes out.new)) }
+        ensures prefix { OnErr result (AppendsPrefix (W.contents out.old) (W.contents out.new) (joined (called_text self.now ∷ []))) }
+        ensures count { W.failures out.new ≡ count_after (is_err result) (W.failures out.old) }
+    {
+        let mut head = Summary::new();
+        push_count(&mut head, b"refused-", u32::from(self.called.number));
+        push_count(&mut head, b"=", self.count);
+        push_bytes(&mut head, b" calling ");
+        write_lines(head.as_slice(), self.called.name.as_slice(), b"\n", out)
+    }
+}
+
+/// Writes a line for each of these counts.
+fn write_counts<W: CountedWrite>(counts: &[CalledCount], out: &mut W) -> Result<(), WriteFault>
+    ensures sent { OnOk result (Sent (called_texts counts.now) (W.contents out.old) (W.contents out.new) (W.whole_writes out.old)
+        (W.whole_writes out.new)) }
+    ensures prefix { OnErr result (AppendsPrefix (W.contents out.old) (W.contents out.new) (joined (called_texts counts.now))) }
+    ensures count { W.failures out.new ≡ count_after (is_err result) (W.failures out.old) }
+{
+    for count in counts {
+        count.write(out)?;
+    }
+    Ok(())
+}
+
+impl CalledTally {
+    /// Of no frame.
+    pub fn new() -> CalledTally
+        ensures { result ≡ [] }
+    {
+        CalledTally {
+            counts: ArrayVec::new(),
+        }
+    }
+
+    /// Counts a frame that is refused so.
+    pub fn add(&mut self, called: Called)
+        ensures { self.new ≡ with_called self.old called }
+    {
+        count_called(&mut self.counts, called);
+    }
+
+    /// Writes a line for each count.
+    pub fn write<W: CountedWrite>(&self, out: &mut W) -> Result<(), WriteFault>
+        ensures sent { OnOk result (Sent (called_texts self.now) (W.contents out.old) (W.contents out.new) (W.whole_writes out.old)
+            (W.whole_writes out.new)) }
+        ensures prefix { OnErr result (AppendsPrefix (W.contents out.old) (W.contents out.new) (joined (called_texts self.now))) }
+        ensures count { W.failures out.new ≡ count_after (is_err result) (W.failures out.old) }
+    {
+        write_counts(self.counts.as_slice(), out)
+    }
+}
