@@ -3,7 +3,7 @@
 ghost use Rattle.std.specs.Prelude.{◌≡◌, ◌≤◌, ◌∷◌, [], None, Some, IfNone, IfSome, OnErr, OnOk, is_err, length};
 ghost use Rattle.dvg_words.specs.Memory.{IsFrameLength, words_of};
 ghost use Rattle.dvg_text.specs.Devices.{AppendsPrefix, count_after};
-ghost use Rattle.dvg_cmd.specs.Called.{called_by, called_text, called_texts, is_before, is_counted, place_in, refused_at, with_called};
+ghost use Rattle.dvg_cmd.specs.Called.{again_at, called_by, called_text, called_texts, is_before, is_counted, place_in, refused_at, with_called};
 ghost use Rattle.dvg_cmd.specs.SeveralFrames.{joined};
 ghost use Rattle.dvg_cmd.specs.Private.Sent.{Sent};
 
@@ -121,14 +121,23 @@ fn is_counted(counts: &[CalledCount], at: usize, called: &Called) -> bool
     }
 }
 
+/// Adds one to the count at a place, if there is one.
+fn count_again(counts: &mut [CalledCount], at: usize)
+    ensures { counts.new ≡ again_at counts.old at }
+{
+    if at < counts.len() {
+        let there = &mut counts[at];
+        there.count = there.count.saturating_add(1);
+    }
+}
+
 /// Counts a frame that is refused so.
 fn count_called(counts: &mut ArrayVec<CalledCount, 64>, called: Called)
     ensures { counts.new.items ≡ with_called counts.old.items called }
 {
     let at = place_of(counts.as_slice(), called.number, called.shape);
     if is_counted(counts.as_slice(), at, &called) {
-        let there = &mut counts.as_mut_slice()[at];
-        there.count = there.count.saturating_add(1);
+        count_again(counts.as_mut_slice(), at);
     } else if !counts.is_full() {
         counts.insert(at, CalledCount { called, count: 1 });
     }
