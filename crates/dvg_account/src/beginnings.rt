@@ -51,7 +51,11 @@ impl<'a> Beginnings<'a> {
     }
 }
 
-/// Whether a label stands at a word address itself.
+/// Whether a label stands at a word address itself. The cheap local labels of ca65, which begin with `@`, name places within what another
+/// label names.
 fn stands_at(labels: &Labels, at: u16) -> bool {
-    matches!(labels.name_at(at), Some(Nearest { distance: 0, .. }))
+    match labels.name_at(at) {
+        Some(Nearest { distance: 0, name }) => name.first() != Some(&b'@'),
+        _ => false,
+    }
 }

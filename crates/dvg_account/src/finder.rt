@@ -94,6 +94,7 @@ impl<'a> Finder<'a> {
                 break;
             };
             walk.note(&next);
+            self.note_some(RemarkKind::RunsOn, next.meets.map(|(at, _)| at))?;
             if let Some(remark) = watch.pass(&next.item) {
                 self.remarks.push(remark)?;
             }
@@ -104,7 +105,6 @@ impl<'a> Finder<'a> {
 
     /// Notes what a walk over the shape of an entry found.
     fn note_walk(&mut self, entry: &Entry, walk: &ShapeWalk) -> Result<(), AllocError> {
-        self.note_some(RemarkKind::RunsOn, walk.into.map(|(into, _)| into))?;
         self.note_some(RemarkKind::ScaleOver9, walk.first_shrunk)?;
         if lights_nothing(entry) && walk.moves >= FIGURE_DRAWS {
             self.note(RemarkKind::NothingLit, entry.addr)?;

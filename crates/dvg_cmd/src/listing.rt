@@ -38,6 +38,7 @@ pub struct Listing<D> {
     /// Which frames have a line.
     pub lines: Lines,
     /// Whether a last line says how many frames were accepted, refused by each number, not to be read, and out of memory, whether
-    /// they have a line or not; and, where lines tell clocks, three lines before it which accepted frames take most.
+    /// they have a line or not. Before it: where lines tell clocks, three lines name the accepted frames that take most; with remarks, a
+    /// line counts them; with accounts, lines count the refused frames by the shapes that they call.
     pub summary: bool,
 }

@@ -9,7 +9,7 @@ use crate::summary::FramesSummary;
 use dvg_spelling::{FrameAnswer, FrameOutcome, frame_outcome_of};
 use std::alloc::Global;
 
-/// What is known of the frames so far.
+/// How far a run has come: what its summary will tell, and what came of its frames.
 #[derive(Drop)]
 pub struct Progress {
     pub summary: FramesSummary,

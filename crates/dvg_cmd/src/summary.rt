@@ -16,12 +16,12 @@ use dvg_spelling::{FrameAnswer, RemarkTally, Tally, remarks_line_of, summary_of}
 use dvg_text::{CountedWrite, WriteFault, write_lines};
 use std::alloc::Global;
 
-/// What is known of the frames so far.
+/// What the summary will tell of the frames so far.
 #[derive(Drop)]
 pub struct FramesSummary {
     /// How many lines say what of them.
     pub tally: Tally,
-    /// Which take most, of those whose lines tell clocks.
+    /// The frames that take most, of those whose lines tell clocks.
     pub most: Option<MostTaken>,
     /// How many remarks of which kind there are on them, if remarks were looked for on one.
     pub remarks: Option<RemarkTally>,

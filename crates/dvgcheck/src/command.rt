@@ -421,7 +421,7 @@ fn diff_command<'a>(alloc: Global) -> Result<Command<'a>, AllocError> {
 
 /// What the help of a command says that is explained.
 const EXPLAIN_HELP: &str =
-    "The first line is that of the command, and so is the exit status; that of diff counts what differs";
+    "The first line and the exit status are those of the command; of diff the line counts what differs, and the status is 1 if anything does";
 
 fn explain_frames_command<'a>(alloc: Global) -> Result<Command<'a>, AllocError> {
     let command = Command::new(alloc, "frames").about(
@@ -448,12 +448,12 @@ fn explain_make_command<'a>(alloc: Global) -> Result<Command<'a>, AllocError> {
 
 fn explain_diff_command<'a>(alloc: Global) -> Result<Command<'a>, AllocError> {
     let command = Command::new(alloc, "diff").about(
-        "Explains how another dump differs from a vector ROM, and which single faults make it of that one",
+        "Tells how another dump differs from a vector ROM, and which single faults would turn the ROM into it",
     );
     let other = needed(
         alloc,
         "OTHER",
-        "The dump that is compared with it, of any length",
+        "The dump that is compared with it, of 1 to 4096 bytes",
     );
     let command = with_rom(alloc, command)?.arg(other)?;
     Told::All.with(alloc, command, &DUMP_OPTIONS)

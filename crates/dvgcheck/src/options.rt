@@ -205,7 +205,7 @@ impl CommandOption {
                 "Takes the certificate's words and depths as exact, not as bounds",
             CommandOption::Frame => "A frame; its calls become roots, too",
             CommandOption::Labels =>
-                "The labels of the program, which name addresses in accounts, roots and starts",
+                "The labels of the program, which name addresses in accounts, remarks, roots and starts",
             CommandOption::List =>
                 "Judges the frames that this file names, one a line, in place of FRAME",
             CommandOption::Map =>
