@@ -125,8 +125,8 @@ pub fn board_line(alloc: Global, inputs: &Inputs) -> Result<Option<Line>, AllocE
     }
 }
 
-/// The lines of what is accepted of these inputs, of which these are the images, as far as their bytes are of the right length
-/// (this project's own).
+/// The lines of an accepted verdict on these inputs (this project's own). The images are those of the inputs; an input of a wrong length
+/// has none.
 pub fn accepted_lines(
     alloc: Global,
     inputs: &Inputs,

@@ -11,7 +11,7 @@ use dvg_check::{Refusal, RomFinding, Yes};
 use dvg_words::{FrameImage, RomImage};
 use std::alloc::{AllocError, Global};
 
-/// The lines of a verdict on these inputs, of which these are the images, as far as their bytes are of the right length.
+/// The lines of a verdict on these inputs. The images are those of the inputs; an input of a wrong length has none.
 fn lines_of(
     alloc: Global,
     inputs: &Inputs,

@@ -15,8 +15,8 @@ use dvg_words::{FrameImage, RomImage};
 use std::alloc::{AllocError, Global};
 use std::slice;
 
-/// The lines of what the frame of these inputs comes to by its own certificate, which is in the place of theirs, and in the mode
-/// `Exact` (this project's own). The ROM and the frame are those of the inputs.
+/// The lines of the verdict on the inputs' frame by the certificate that is made for it, in the mode `Exact` (this project's own). Any
+/// certificate of the inputs is ignored. The ROM and the frame are those of the inputs.
 pub fn own_lines(
     alloc: Global,
     inputs: &Inputs,

@@ -25,8 +25,8 @@ use dvg_survey::{Losses, find_chain, frame_losses, shape_losses};
 use dvg_words::{FrameImage, FrameOn, Machine, RomImage};
 use std::alloc::{AllocError, Global};
 
-/// The lines of a refusal of these inputs, of which these are the images, as far as their bytes are of the right length. This is the
-/// cause, if it is because of an item.
+/// The lines of a refusal of these inputs. The images are those of the inputs; an input of a wrong length has none. A refusal because of
+/// an item has a cause.
 pub fn refused_lines(
     alloc: Global,
     inputs: &Inputs,

@@ -37,7 +37,7 @@ pub enum CertificateOf {
     Frame,
 }
 
-/// What the words of an account depend on: whose the certificate is, and of which input the bytes are to be swapped, if they are.
+/// What the words of an account depend on: who made the certificate, and which input has its bytes swapped, if one has.
 #[derive(Clone, Copy)]
 pub struct Telling {
     pub cert: CertificateOf,

@@ -38,10 +38,9 @@ fn swap_words(alloc: Global, bytes: &[u8]) -> Result<Vec<u8>, AllocError>
     Ok(other)
 }
 
-/// Of which input the bytes have to be swapped for these inputs, which are refused, to be accepted: by their certificate, or
-/// without one by the frame's own; `None` if no swap gets them accepted (only tested). A frame that is HALT alone once its own
-/// bytes are swapped is not told: every word whose low byte begins with the digit B is a HALT once swapped. They are judged anew
-/// for each swap.
+/// The input, of these refused ones, whose bytes have to be swapped for all to be accepted: by their certificate, or without one by the
+/// frame's own. `None` if no swap gets them accepted (only tested). A frame that is HALT alone once its own bytes are swapped is not told:
+/// every word whose low byte begins with the digit B is a HALT once swapped. The inputs are judged anew for each swap.
 pub fn find_swapped(alloc: Global, inputs: &Inputs) -> Result<Option<Swapped>, AllocError>
     ensures { IfOk result (λ found. IfSome found (IsAcceptedSwapped inputs.now)) }
 {

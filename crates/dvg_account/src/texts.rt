@@ -18,7 +18,7 @@ use dvg_make::{FrameRefusal, JudgedFrame, MakeAccount, own_verdict};
 use dvg_words::{FrameImage, Machine, RomImage};
 use std::alloc::{AllocError, Global};
 
-/// Of which input the bytes are to be swapped, where inputs are refused because of an item, and accepted so.
+/// Where inputs are refused because of an item: the input that gets them accepted once its bytes are swapped.
 fn swapped_for(
     alloc: Global,
     inputs: &Inputs,

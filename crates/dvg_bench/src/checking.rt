@@ -100,8 +100,8 @@ pub fn check_entries(alloc: Global, filled: Filled, times: u32) -> Result<u64> {
     Ok(items_of(filled.filling, &cert))
 }
 
-/// Checks the bytes of such a ROM, the text of such a certificate and a frame of HALT alone so many times, and gives how many
-/// items the shapes have together.
+/// Checks a filled ROM, its certificate's text and a frame that is HALT alone, `times` times. Gives how many items all shapes of the ROM
+/// have.
 pub fn check_bytes(alloc: Global, filled: Filled, times: u32) -> Result<u64> {
     let (rom, cert) = filled.made(alloc)?;
     let text = text_of(alloc, &cert)?;

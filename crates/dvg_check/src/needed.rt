@@ -130,7 +130,7 @@ impl Needed {
         }
     }
 
-    /// Adds the keys behind a word address: those at which the tails that are needed here need the tail behind them.
+    /// The tails that are needed at a word address need the tail behind their first item. Adds the keys at which they need it.
     fn add_behind<E: Entries>(&mut self, rom: &RomImage, entries: &E, at: u16)
         requires entries { IsSomeCertificate (E.list entries.now) }
         requires near { at < ADDRESS_END }

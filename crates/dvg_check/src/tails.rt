@@ -24,8 +24,8 @@ use dvg_words::{RomImage, Window};
 /// The tails that were made last.
 type Tails = [Option<Kept<Tail>>; SLOTS];
 
-/// The tail from an item on, at a key. `None` where the tail behind it was not made, or the item may not stand there. The ROM, in
-/// which the item stands, serves the contract alone.
+/// The tail from an item on, at a key. `None` where the tail behind it was not made, or the item may not stand there. Only the
+/// contract speaks of the ROM: the item stands in it.
 fn tail_at<E: Entries>(
     window: &Window,
     rom: &RomImage,

@@ -10,7 +10,7 @@ ghost use Rattle.dvg_items.specs.Least.{IsLeast};
 use dvg_cert::{End, LitBox};
 use dvg_items::{LitExtent, relative_corners, widened};
 
-/// The least box of what this one is the least box of, and of what an item lights from a relative place.
+/// Widens the least box of some lit places to the least box of these and of what an item lights from a relative place.
 pub fn boxed(lit: &LitBox, extent: &LitExtent, place: &End) -> LitBox
     requires place { IsNearPlace ADDRESS_END place.now }
     requires extent { IsNearExtent extent.now }

@@ -117,8 +117,8 @@ impl PartialEntry {
         Ok((seen.step(Kind::Shape), lit))
     }
 
-    /// The whole entry, by the tail from the next item on. `None` if what the tail lights would lie at an unknown place, or if
-    /// the depth, or one word more than the words, would pass the limit.
+    /// Joins the tail that starts at the next item, and gives the whole entry. `None` if the tail would light something at an unknown
+    /// place, or if the entry's depth or its words, with one word more, would pass their limit.
     #[inline(never)]
     #[tactic(auto, using(crate::proofs::Joining::ends_by))]
     fn end_by(&self, machine: Machine, tail: &Entry) -> Option<Entry>

@@ -153,7 +153,7 @@ fn membership_read<R: CountedRead + Drop>(
     }
 }
 
-/// Writes the line of a frame, and a text behind it, if the listing has it; answers what they come to in any case.
+/// Writes the line of a frame and the text behind it, if the listing has them. Gives their outcome, written or not.
 fn write_listed<W: CountedWrite>(
     name: &str,
     membership: Membership,

@@ -1,4 +1,4 @@
-//! How many lines say what of frames and a recipe, and the line that tells it.
+//! Counts the lines of frames by what they say of a recipe, and spells the line with these counts.
 
 ghost use Rattle.std.specs.Prelude.{◌≡◌, true};
 ghost use Rattle.dvg_text.specs.Devices.{count_after};
@@ -7,7 +7,7 @@ ghost use Rattle.dvg_recipe_cmd.specs.Answers.{belongs_summary_text, with_member
 use crate::line::Line;
 use crate::membership::Membership;
 
-/// How many lines say what of frames. Each count stops at 4,294,967,295.
+/// How many frames belong to a recipe, how many don't, and how many could not be judged. Each count stops at 4,294,967,295.
 #[derive(Clone, Copy, Debug, PartialEq, Eq)]
 pub struct BelongsTally {
     /// How many frames belong.

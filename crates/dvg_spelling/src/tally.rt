@@ -1,4 +1,4 @@
-//! How many lines say what of frames, and the line that tells it.
+//! Counts the lines of frames by what they say, and spells the line with these counts.
 
 ghost use Rattle.std.specs.Prelude.{◌≡◌, ◌+◌, ◌≤◌, ◌<◌, ◌++◌, true, length, codes, decimal};
 ghost use Rattle.dvg_text.specs.Devices.{count_after};
@@ -13,7 +13,8 @@ use itoa::Buffer;
 /// A summary, with its LF: 30 bytes at most for each number's count, and 80 for the other three.
 pub type Summary = ArrayVec<u8, 7760>;
 
-/// How many lines say what of frames. Each count stops at 4,294,967,295.
+/// How many lines of frames say `accepted`, `refused` with each number, `cannot read` and `out of memory`. Each count stops at
+/// 4,294,967,295.
 #[derive(Clone, Copy, Debug, PartialEq, Eq)]
 pub struct Tally {
     /// How many accepted lines.

@@ -44,10 +44,9 @@ fn told_of_readers(alloc: Global, inputs: [&[u8]; 3], most: usize) -> ([u32; 3],
     ([rom.0, frame.0, cert.0], [rom.1, frame.1, cert.1])
 }
 
-/// Lengths of a ROM, a frame and a certificate of zeros, how many bytes are given a read, how often each is read, and how many of its bytes
-/// nobody reads. An input
-/// is read to its end, which is met once, or to one byte past its limit. A certificate that is refused is read no further than its
-/// first piece, but as far as the others where the frame was refused before it.
+/// Each row has the lengths of a ROM, a frame and a certificate of zeros; how many bytes a read gives; how often each input is read; and how
+/// many bytes of each are left. An input is read to its end, which is met once, or to one byte past its limit. A certificate that is
+/// refused is read no further than its first piece, but as far as the others where the frame was refused before it.
 const LENGTHS: &[([usize; 3], usize, [u32; 3], [usize; 3])] = &[
     ([0, 0, 0], 1, [1, 1, 1], [0, 0, 0]),
     ([2047, 10, 0], 1, [2048, 11, 1], [0, 0, 0]),

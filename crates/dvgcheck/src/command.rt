@@ -976,8 +976,8 @@ fn usage_of<'a>(alloc: Global, error: &clap::Error) -> Result<Usage<'a>, AllocEr
     })
 }
 
-/// What `clap` says of arguments that it refuses, or that ask for help or the version: what it says of the marked ones, which it
-/// refuses, too.
+/// What `clap` says of arguments that it refuses, or that ask for help or the version. It is given the marked arguments, which it refuses
+/// as well.
 fn refused<'a>(alloc: Global, arguments: &[String]) -> Result<Usage<'a>, AllocError> {
     let marked = marked(alloc, arguments)?;
     match command(alloc)?.try_get_matches_from(&marked) {
