@@ -12,7 +12,6 @@ use Rattle.dvg_make.specs.declared.judging.FrameRefusal.TheVariants.{Make, Check
 use Rattle.dvg_spelling.specs.declared.outcome.FrameAnswer.{FrameAnswer}
 use Rattle.dvg_spelling.specs.declared.outcome.FrameAnswer.TheVariants.{Judged, Slow}
 use Rattle.dvg_spelling.specs.Each.{of_each}
-use Rattle.dvg_spelling.specs.Tally.{answer_number}
 pub use Rattle.dvg_cmd.specs.declared.called.Called.{Called}
 pub use Rattle.dvg_cmd.specs.declared.called.CalledCount.{CalledCount}
 
@@ -28,19 +27,13 @@ abbrev pub shape_called : Cell → Option ℕ
 shape_called (cell.Holds format (Jsrl to)) = Some to
 shape_called there = None
 
--- the number of the refusal and the shape that the item calls
-abbrev pub numbered : ℕ → Option ℕ → Option (ℕ × ℕ)
-numbered number None = None
-numbered number (Some shape) = Some (number, shape)
+-- the shape that the item calls because of which a frame of these words is refused
+abbrev pub called_at : Machine → List ℕ → Option ℕ → Option ℕ
+called_at machine words None = None
+called_at machine words (Some at) = shape_called (cell_at (frame_word machine words) at)
 
--- where an item is at fault, by what stands there
-abbrev pub called_at : Machine → List ℕ → FrameAnswer → Option ℕ → Option (ℕ × ℕ)
-called_at machine words answer None = None
-called_at machine words answer (Some at) = numbered (answer_number answer) (shape_called (cell_at (frame_word machine words) at))
-
--- of an answer to the words of a frame
-abbrev pub called_by : Machine → List ℕ → FrameAnswer → Option (ℕ × ℕ)
-called_by machine words answer = called_at machine words answer (refused_at answer)
+abbrev pub called_by : Machine → List ℕ → FrameAnswer → Option ℕ
+called_by machine words answer = called_at machine words (refused_at answer)
 
 -- whether a count comes before that of a number and a shape: by its number, and then by its shape
 abbrev pub is_before : CalledCount → ℕ → ℕ → Bool

@@ -2,6 +2,7 @@
 use Rattle.std.specs.Prelude.{◌≡◌, ℕ, Bool, true, false, List, [], ◌∷◌, Option, Some, None, codes, string_bytes}
 use Rattle.dvg_account.specs.declared.remarked.FrameRemark.{FrameRemark}
 use Rattle.dvg_spelling.specs.Outcomes.{worse}
+use Rattle.dvg_spelling.specs.Tally.{answer_number}
 use Rattle.dvg_spelling.specs.Remarks.{no_remarks, with_kind, remarks_text}
 use Rattle.dvg_spelling.specs.declared.remark.RemarkTally.{RemarkTally}
 use Rattle.dvg_check.specs.declared.verdict.Yes.{Yes}
@@ -11,7 +12,8 @@ use Rattle.dvg_spelling.specs.declared.outcome.FrameOutcome.TheVariants as frame
 use Rattle.dvg_cmd.specs.Detail.{Detail, IsBehind, behind_text, frame_outcome_behind}
 use Rattle.dvg_cmd.specs.declared.detail.Detail.TheVariants as details
 use Rattle.dvg_cmd.specs.declared.detail.Behind.TheVariants as behinds
-use Rattle.dvg_cmd.specs.Called.{CalledCount, with_called}
+use Rattle.dvg_cmd.specs.Called.{CalledCount, called_by, with_called}
+use Rattle.dvg_words.specs.declared.machine.Machine.{Machine}
 use Rattle.dvg_cmd.specs.Frames.{yes_in}
 pub use Rattle.dvg_cmd.specs.declared.remarking.FrameDetail.{FrameDetail}
 pub use Rattle.dvg_cmd.specs.declared.remarking.FrameDetail.TheVariants as detail
@@ -40,12 +42,17 @@ abbrev pub AreRemarksOn : Option Yes → BehindFrame → Type 0
 AreRemarksOn (Some accepted) what = AreRemarks what
 AreRemarksOn None what = what ≡ behind.Answer behinds.Nothing
 
--- what a detail asks for behind the line of an answer
+-- what a detail asks for behind the line of an answer; a called shape is counted by the number of the refusal
 abbrev pub IsBehindFrame : FrameDetail → FrameAnswer → BehindFrame → Type 0
 IsBehindFrame (detail.Answer asked) answer (behind.Answer what) = IsBehind asked what
-IsBehindFrame (detail.Answer asked) answer (behind.Called what called) = IsBehind asked what
+IsBehindFrame (detail.Answer asked) answer (behind.Called what called) = IsBehind asked what × (called.number ≡ answer_number answer)
 IsBehindFrame (detail.Answer asked) answer what = ⊥
 IsBehindFrame (detail.Remarks remarking) answer what = AreRemarksOn (yes_in answer) what
+
+-- a called shape is that of the item because of which a frame of these words is refused
+abbrev pub TellsCall : Machine → List ℕ → FrameAnswer → BehindFrame → Type 0
+TellsCall machine words answer (behind.Called what called) = called_by machine words answer ≡ Some called.shape
+TellsCall machine words answer what = Unit {0}
 
 -- the text that is written behind the line
 abbrev pub text_behind_frame : BehindFrame → List ℕ

@@ -10,7 +10,7 @@ ghost use Rattle.dvg_cmd.specs.Private.Sent.{Sent};
 use arrayvec::ArrayVec;
 use dvg_check::Refusal;
 use dvg_make::FrameRefusal;
-use dvg_spelling::{FrameAnswer, Summary, answer_number, push_count};
+use dvg_spelling::{FrameAnswer, Summary, push_count};
 use dvg_text::{CountedWrite, WriteFault, push_bytes, write_lines};
 use dvg_words::{Cell, FrameImage, FrameOn, Instr, Machine, read_cell};
 use std::marker::Model;
@@ -65,9 +65,9 @@ fn refused_at(answer: &FrameAnswer) -> Option<u16>
     }
 }
 
-/// The number by which a frame is refused, and the shape that the item calls by which it is, if that is a call.
-pub fn called_by(machine: Machine, frame: &[u8], answer: &FrameAnswer) -> Option<(u8, u16)>
-    ensures some { IfSome result (λ called. called_by machine (words_of frame.now) answer.now ≡ Some called) }
+/// The word address of the shape that the item calls because of which a frame is refused, if it is a call.
+pub fn called_by(machine: Machine, frame: &[u8], answer: &FrameAnswer) -> Option<u16>
+    ensures some { IfSome result (λ shape. called_by machine (words_of frame.now) answer.now ≡ Some shape) }
     ensures none { IfNone result (IsFrameLength (length frame.now) → called_by machine (words_of frame.now) answer.now ≡ None) }
 {
     let at = refused_at(answer)?;
@@ -76,7 +76,7 @@ pub fn called_by(machine: Machine, frame: &[u8], answer: &FrameAnswer) -> Option
         Cell::Holds {
             instr: Instr::Jsrl { to },
             ..
-        } => Some((answer_number(answer), to)),
+        } => Some(to),
         _ => None,
     }
 }

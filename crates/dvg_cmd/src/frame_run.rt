@@ -1,9 +1,10 @@
 //! The answer to one frame that a reader holds, and its line.
 
 ghost use Rattle.std.specs.Prelude.{◌≡◌, ◌≤◌, ◌∷◌, [], None, take, IfOk, OnOk, OnErr, is_err};
+ghost use Rattle.dvg_words.specs.Memory.{words_of};
 ghost use Rattle.dvg_text.specs.Devices.{AppendsPrefix, count_after};
 ghost use Rattle.dvg_cmd.specs.Detail.{IsBehind};
-ghost use Rattle.dvg_cmd.specs.Remarking.{IsBehindFrame, answer_detail, outcome_behind_frame, text_behind_frame};
+ghost use Rattle.dvg_cmd.specs.Remarking.{IsBehindFrame, TellsCall, answer_detail, outcome_behind_frame, text_behind_frame};
 ghost use Rattle.dvg_cmd.specs.declared.detail.Detail.TheVariants as details;
 ghost use Rattle.dvg_cmd.specs.declared.remarking.FrameDetail.TheVariants as frame_details;
 ghost use Rattle.dvg_cmd.specs.Runs.{MOST_FRAME_READ, IsReadTo};
@@ -19,7 +20,7 @@ use crate::remarking::{BehindFrame, FrameDetail};
 use crate::start::start_at;
 use dvg_account::{PlainWhy, address_text, plain_text};
 use dvg_labels::Labels;
-use dvg_spelling::{FrameAnswer, frame_report_of};
+use dvg_spelling::{FrameAnswer, answer_number, frame_report_of};
 use dvg_text::{CountedRead, CountedWrite, WriteFault, write_lines};
 use dvg_words::Machine;
 use std::alloc::Global;
@@ -79,7 +80,8 @@ fn behind_answer(
     detail: FrameDetail,
 ) -> BehindFrame
     requires { IsBehind (answer_detail detail) behind }
-    ensures { IsBehindFrame detail.entry answer.now result }
+    ensures behind { IsBehindFrame detail.entry answer.now result }
+    ensures called { TellsCall machine (words_of frame.now) answer.now result }
 {
     match (detail, answer) {
         (FrameDetail::Remarks(remarking), FrameAnswer::Judged(Ok(_)) | FrameAnswer::Timed(_)) => {
@@ -102,16 +104,17 @@ fn behind_call(
     labels: Option<&Labels>,
 ) -> BehindFrame
     requires { IsBehind (details.Account None) behind }
-    ensures { IsBehindFrame (frame_details.Answer (details.Account None)) answer.now result }
+    ensures behind { IsBehindFrame (frame_details.Answer (details.Account None)) answer.now result }
+    ensures called { TellsCall machine (words_of frame.now) answer.now result }
 {
-    let Some((number, shape)) = called_by(machine, frame, answer) else {
+    let Some(shape) = called_by(machine, frame, answer) else {
         return BehindFrame::Answer(behind);
     };
     match address_text(alloc, shape, labels) {
         Ok(text) => BehindFrame::Called(
             behind,
             Called {
-                number,
+                number: answer_number(answer),
                 shape,
                 name: name_of(text.as_str()),
             },
