@@ -29,7 +29,7 @@ fn lines_of(
     }
 }
 
-/// The lines of a verdict on these inputs, of which this is the cause, if it is a refusal because of an item (this project's own).
+/// The lines of a verdict on these inputs (this project's own). A refusal because of an item has a cause.
 pub fn verdict_lines(
     alloc: Global,
     inputs: &Inputs,

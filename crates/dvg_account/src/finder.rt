@@ -1,4 +1,4 @@
-//! How remarks on a frame are found: its list is looked at, and each shape that it comes to, once.
+//! Finds the remarks on a frame: looks at its list, and once at each shape that it reaches.
 
 ghost use Rattle.std.specs.Prelude.{IfOk};
 ghost use Rattle.std.specs.List.Sorted.{IsStrictlySortedBy};
@@ -25,7 +25,7 @@ use std::alloc::{AllocError, Global};
 /// From how many draws on a shape that lights nothing is remarked: one alone is taken for a space between letters.
 const FIGURE_DRAWS: usize = 2;
 
-/// What remarks are found by, the entries that the frame comes to, and the remarks so far.
+/// What the remarks are found by, the entries that the frame reaches, and the remarks so far.
 #[derive(Drop)]
 pub struct Finder<'a> {
     rom: &'a RomImage<'a>,
@@ -57,7 +57,7 @@ impl<'a> Finder<'a> {
         })
     }
 
-    /// Looks at the frame's own list, of which this is the survey.
+    /// Looks at the frame's own list. The survey is this list's.
     pub fn find_in_frame(
         &mut self,
         alloc: Global,
@@ -72,7 +72,7 @@ impl<'a> Finder<'a> {
             .extend_from_slice(&list_remarks(alloc, self.rom, frame)?)
     }
 
-    /// Looks at the shapes that the frame comes to.
+    /// Looks at the shapes that the frame reaches.
     pub fn find_in_shapes(&mut self) -> Result<(), AllocError> {
         for index in 0..MOST_ENTRIES {
             let Some(entry) = self.reached.get(index) else {

@@ -1,4 +1,4 @@
-//! The stroke of a called shape that is told beside a refusal of the call.
+//! The stroke of a called shape that an account names where the call is refused.
 
 ghost use Rattle.std.specs.Prelude.{option_copied};
 ghost use Rattle.dvg_account.specs.Furthest.{TellsFurthest};

@@ -47,7 +47,7 @@ pub enum PlainWhy {
     FrameLength { bytes: usize },
     /// The budget is so many words.
     Budget(u32),
-    /// This line of the certificate is refused, and so much is told of it.
+    /// This line of the certificate is refused, and so much is known of why.
     Line { line: u32, why: Option<LineWhy> },
 }
 

@@ -15,7 +15,7 @@ use dvg_items::{Item, Kind, Known};
 use dvg_survey::Losses;
 use dvg_words::{Cell, Fetch, is_long, read_cell};
 
-/// The item of a refusal, with what is known before it, if that is told.
+/// The item of a refusal, and what is known before it, where the account says that.
 #[derive(Clone, Copy)]
 pub struct RefusedItem {
     pub kind: Kind,
@@ -43,7 +43,7 @@ impl RefusedItem {
         RefusedItem::with(memory, kind, first, at, Some(before), callee)
     }
 
-    /// The call of a frame at a word address, of which nothing else is told.
+    /// The call of a frame at a word address. The account says nothing else of it.
     pub fn call<F: Fetch>(memory: &F, at: u16) -> RefusedItem
         ensures { IsItemWith Frame (F.words memory.now) at None None result }
     {

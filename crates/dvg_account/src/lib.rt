@@ -1,4 +1,4 @@
-//! The account of an answer: what is told behind its line.
+//! The account of an answer: the lines behind the answer's own.
 //!
 //! An account is a list of [`Line`]s, each with the value that it tells. [`verdict_lines`], [`frame_lines`] and [`own_lines`]
 //! answer the lines of a verdict, [`made_lines`] and [`unmade_lines`] those of an answer of the maker, [`plain_lines`] those of a

@@ -28,7 +28,7 @@ pub enum Line {
     Why(Why),
     /// The stroke by which a called shape reaches furthest past the edge.
     Furthest(Item),
-    /// The word that is meant if the called word address is that of a byte.
+    /// The word that is meant if the called number is a byte's address.
     ByteAddress { at: u16, word: u16 },
     /// A jump that may lead into the middle of an instruction.
     JumpsInto(Middle),
@@ -54,7 +54,7 @@ pub enum Line {
     MadeForOther(Machine),
     /// The keys of the entries that the certificate has for the called shape.
     ClaimedScales(Vec<Key>),
-    /// The lines of a recipe's text, counted from 1, of which an item could stand where a frame leaves the recipe.
+    /// The lines of a recipe's text, counted from 1, that allow an item where a frame leaves the recipe.
     CouldStand(Vec<u32>),
     /// What to do about this number.
     WhatToDo(u8),
@@ -64,7 +64,7 @@ pub enum Line {
     MakerCure(MakerCure),
 }
 
-/// Which item of an account is told: the one by which something is refused, or the one at which the making of an entry stops, which
+/// Which item a line is about: the one by which something is refused, or the one at which the making of an entry stops, which
 /// a frame's call needs.
 #[derive(Clone, Copy)]
 pub enum Role {

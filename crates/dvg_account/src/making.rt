@@ -149,7 +149,7 @@ fn push_item(lines: &mut Lines, role: Role, item: &Option<RefusedItem>)
     }
 }
 
-/// The line of this sentence: that of a frame's call says where the making stops.
+/// The line of this sentence. For a frame's call it says where the making stops.
 fn why_line(call: Option<FrameCall>, at: u16, why: Option<Why>) -> Option<Line>
     ensures { result ≡ why_line call at why }
 {

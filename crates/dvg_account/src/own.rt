@@ -59,7 +59,7 @@ fn lines_by(
     judged_lines(alloc, &by_own, rom, frame, &judged.verdict)
 }
 
-/// The lines of a verdict on these inputs, of which these are the images, that comes with the cause of a refusal.
+/// The lines of a verdict on these inputs that comes with the cause of a refusal. The images are those of the inputs.
 fn judged_lines(
     alloc: Global,
     inputs: &Inputs,
@@ -85,8 +85,8 @@ fn judged_lines(
     }
 }
 
-/// The lines of a verdict on a frame, of which this is the cause, if it is a refusal because of an item (this project's own). A
-/// refusal of the maker is told as one for memory: `own_lines` tells it.
+/// The lines of a verdict on a frame (this project's own). A refusal because of an item has a cause. A
+/// refusal of the maker has the lines of one for memory: `own_lines` has its own.
 pub fn frame_lines(
     alloc: Global,
     inputs: &Inputs,

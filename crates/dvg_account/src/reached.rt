@@ -1,9 +1,9 @@
-//! The entries that a frame comes to.
+//! The entries that a frame reaches.
 
 use dvg_cert::Entry;
 use std::alloc::{AllocError, Global};
 
-/// Entries in the order in which a frame comes to them, each once.
+/// Entries in the order in which a frame reaches them, each once.
 #[derive(Drop)]
 pub struct Reached {
     entries: Vec<Entry>,

@@ -22,11 +22,11 @@ pub struct KnownBefore {
 pub enum RecipeLine {
     /// In which turn, counted from 1, the repeat of a line is where a frame breaks a rule.
     Turn { turn: u16, line: u32 },
-    /// How many words the frame has that shows why the recipe is refused, of which the account follows.
+    /// How many words the frame has that shows why the recipe is refused. Its account follows.
     Shown { words: usize },
     /// That no frame was found that shows why.
     NothingShown,
-    /// How many words the longest list takes of its area, of which the word addresses of the first and the last word are these.
+    /// How many words the longest list takes, and the word addresses of its area's first and last word.
     Room { first: u16, last: u16, words: u32 },
     /// The line that may take the most words, turns and called shapes counted, and how many.
     TakesMost { line: u32, words: u32 },

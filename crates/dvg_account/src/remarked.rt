@@ -22,7 +22,7 @@ pub struct FrameRemark {
 }
 
 /// The remarks on an accepted frame, by the certificate of these inputs; none without one. The ROM and the frame are those of the inputs.
-/// They are in the order of their word addresses, at one address in that of the kinds, and each is there once.
+/// They are in the order of their word addresses, those at one address in the order of the kinds, each once.
 pub fn frame_remarks(
     alloc: Global,
     inputs: &Inputs,

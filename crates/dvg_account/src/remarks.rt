@@ -63,7 +63,7 @@ fn faint_in_shape(shape: EntryName, walk: &ShapeWalk) -> Option<Remark> {
     })
 }
 
-/// Adds the remarks on the shapes. Where one runs on is told at its first scale alone.
+/// Adds the remarks on the shapes. A shape that runs on has this remark at its first scale alone.
 fn push_shapes<E: Entries>(
     remarks: &mut Vec<Remark>,
     rom: &RomImage,

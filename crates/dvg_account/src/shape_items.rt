@@ -30,7 +30,7 @@ pub struct ShapeItems<'a> {
 }
 
 impl<'a> ShapeItems<'a> {
-    /// Those of an entry, among these entries of its certificate, in their order, of which none is left out that begins behind it.
+    /// The items of an entry's shape. `entries` are those of its certificate that begin behind it, in their order, and maybe some before.
     pub fn of(entry: &Entry, entries: &'a [Entry]) -> ShapeItems<'a> {
         ShapeItems {
             here: Some(entry.addr),

@@ -34,7 +34,7 @@ impl ShapeWalk {
         }
     }
 
-    /// The walk over the shape of an entry, among these entries of its certificate, of which none is left out that begins behind it.
+    /// The walk over the shape of an entry. `later` are the entries of its certificate that begin behind it, and maybe some before.
     pub fn over<E: Entries>(
         rom: &RomImage,
         entries: &E,

@@ -97,7 +97,7 @@ fn push_swapped(text: &mut Text, swapped: Swapped) {
     text.push(" swapped it is accepted: the low byte comes first\n");
 }
 
-/// The inputs of which the bytes are to be swapped.
+/// The input whose bytes are to be swapped.
 fn whose_bytes(swapped: Swapped) -> &'static str {
     match swapped {
         Swapped::Frame => "the frame",
@@ -120,7 +120,7 @@ fn push_to_do(text: &mut Text, telling: Telling, cures: &[&str]) {
     text.push("\n");
 }
 
-/// What is told of a number.
+/// The text of a number's rule.
 fn rule_by(cert: CertificateOf, number: u8) -> Option<Rule> {
     match cert {
         CertificateOf::User => rule_of(number),
@@ -199,7 +199,7 @@ fn push_making_stops(text: &mut Text, at: u16, why: &Why) {
     text.push("\n");
 }
 
-/// The word that a called address means as that of a byte.
+/// The word that a called number means if it is a byte's address.
 fn push_byte_address(text: &mut Text, at: u16, word: u16) {
     text.push("byte address: taken as one, ");
     text.push_hex_address(at);
@@ -282,7 +282,7 @@ fn push_scales(text: &mut Text, keys: &[Key]) {
     });
 }
 
-/// The lines of a recipe of which an item could stand somewhere.
+/// The lines of a recipe that allow an item here.
 fn push_could_stand(text: &mut Text, lines: &[u32]) {
     for line in lines {
         push_count(text, "could stand: recipe line ", *line, "");
@@ -628,7 +628,7 @@ fn push_remark(text: &mut Text, remark: &Remark) {
     }
 }
 
-/// The shape, or the frame, of which something is told.
+/// The shape or the frame that a line is about.
 fn push_of(text: &mut Text, shape: Option<EntryName>) {
     match shape {
         Some(shape) => text.push_entry_name(shape.addr, shape.key),

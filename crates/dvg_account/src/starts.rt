@@ -21,7 +21,7 @@ impl ShapeStarts {
         Ok(ShapeStarts { begins })
     }
 
-    /// Adds those of a certificate.
+    /// Adds where the shapes of a certificate begin.
     pub fn add(&mut self, cert: &Cert) {
         for entry in cert.entries() {
             if let Some(begins) = self.begins.get_mut(usize::from(entry.addr)) {

@@ -59,7 +59,7 @@ pub fn find_swapped(alloc: Global, inputs: &Inputs) -> Result<Option<Swapped>, A
     }
 }
 
-/// The counts of these bytes of a ROM and of a frame, if they are accepted in the place of those of the inputs.
+/// The counts of a yes on these bytes of a ROM and of a frame, in the place of the inputs' own.
 fn accepted(
     alloc: Global,
     inputs: &Inputs,

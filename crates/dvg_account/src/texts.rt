@@ -155,7 +155,7 @@ pub fn leaving_text(
     text_of(alloc, Telling::of_own(None), &lines, labels)
 }
 
-/// The account of the refusal of a certificate's text, of which the watch saw the pieces, as a text of [`plain_lines`].
+/// The account of a certificate's text that is refused, as a text of [`plain_lines`]. The watch saw the pieces of that text.
 pub fn certificate_text(
     machine: Machine,
     alloc: Global,

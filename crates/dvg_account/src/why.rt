@@ -86,7 +86,7 @@ pub enum ClaimWhy {
     DepthDiffers(Difference<u8>),
 }
 
-/// What a shape comes to, and what its entry claims.
+/// What a shape does, and what its entry claims.
 #[derive(Clone, Copy)]
 pub struct Difference<T> {
     pub actual: T,

@@ -50,7 +50,7 @@ impl Way {
     }
 }
 
-/// Whether the words at an address, as far as they are there, are those of a VCTR of zeros.
+/// Whether a VCTR of zeros stands at an address, or its first word alone where there is no second.
 fn are_zeros<F: Fetch>(words: &F, at: u16) -> bool {
     matches!(words_at(words, at), Words::One(0) | Words::Two(0, 0))
 }

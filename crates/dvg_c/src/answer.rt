@@ -1,4 +1,4 @@
-//! What a judgement comes to, in plain numbers.
+//! The answer of a judgement, in plain numbers.
 
 ghost use Rattle.std.specs.Prelude.{◌≡◌, ◌≢◌, Ok};
 ghost use Rattle.dvg_c.specs.Told.{bad_number, told_key, numbered, told_yes, told_refusal, told, told_fault, told_own, told_timed, yes_of};
@@ -8,7 +8,7 @@ use dvg_check::{Refusal, Yes};
 use dvg_clocks::ClockRange;
 use dvg_make::{EntryFault, FrameRefusal, MakeFault};
 
-/// What a judgement comes to. A field that its number doesn't speak of is 0.
+/// The answer of a judgement. A field that its number doesn't speak of is 0.
 #[repr(C)]
 #[derive(Clone, Copy)]
 pub struct Answer {
@@ -53,7 +53,7 @@ pub const SHORT_BUFFER: u8 = 84;
 /// The number of a want of memory for a text.
 pub const NO_TEXT_MEMORY: u8 = 85;
 
-/// The number of lengths that don't add up to that of the bytes.
+/// 86: the lengths don't add up to the length of the bytes.
 pub const BAD_LENGTHS: u8 = 86;
 
 /// The number of a bad mode.
@@ -154,7 +154,7 @@ pub fn refused(refusal: &Refusal) -> Answer
     }
 }
 
-/// What a verdict comes to.
+/// The answer of a verdict.
 pub fn answer_of(verdict: &Result<Yes, Refusal>) -> Answer
     ensures value { result ≡ told verdict.now }
     ensures accepted { result.number ≡ 0 → verdict.now ≡ Ok (yes_of result) }
@@ -176,7 +176,7 @@ pub fn unmade(why: EntryFault) -> Answer
     }
 }
 
-/// What a verdict on a frame by its own certificate comes to.
+/// The answer of a verdict on a frame by its own certificate.
 pub fn own_answer(verdict: &Result<Yes, FrameRefusal>) -> Answer
     ensures value { result ≡ told_own verdict.now }
     ensures accepted { result.number ≡ 0 → verdict.now ≡ Ok (yes_of result) }
@@ -192,7 +192,7 @@ pub fn own_answer(verdict: &Result<Yes, FrameRefusal>) -> Answer
     }
 }
 
-/// What a verdict on a frame by its own certificate comes to, with the clocks of an accepted frame, if they were counted.
+/// The answer of a verdict on a frame by its own certificate, with the clocks of an accepted frame, if they were counted.
 pub fn timed_answer(verdict: &Result<Yes, FrameRefusal>, clocks: &Option<ClockRange>) -> Answer
     ensures value { result ≡ told_timed verdict.now clocks.now }
     ensures accepted { result.number ≡ 0 → verdict.now ≡ Ok (yes_of result) }

@@ -40,7 +40,7 @@ use std::alloc::Global;
 /// The version of the program and of this library, 2.0.0: its first number times 10,000, its second times 100, and its third.
 pub const VERSION: u32 = 20_000;
 
-/// The version with which the library was built, as the header's `DVGCHECK_VERSION` tells that of the header.
+/// The version with which the library was built. The header's `DVGCHECK_VERSION` is the version of the header.
 #[unsafe(no_mangle)]
 pub extern "C" fn dvgcheck_version() -> u32
     ensures { result ≡ VERSION }

@@ -27,7 +27,7 @@ pub enum Unmade {
     Machine,
     /// No ROM lies there.
     Map,
-    /// The lengths of the frames don't add up to that of their bytes.
+    /// The lengths of the frames don't add up to the length of their bytes.
     Lengths,
     /// There was no memory, other than the maker's.
     Memory,
@@ -119,7 +119,7 @@ pub fn made_text(
     }
 }
 
-/// What a fault of the maker's run comes to.
+/// The answer of a fault of the maker's run.
 fn run_answer(fault: &FramesRunFault) -> Answer
     ensures { result ≡ told_run fault.now }
 {
@@ -167,7 +167,7 @@ fn unmade_frame(unmade: &Unmade) -> usize
     }
 }
 
-/// What is told where there is no certificate.
+/// The answer where there is no certificate.
 #[tactic(auto, using(std::proofs::lemmas::Bool::Decides::nat_tests))]
 pub fn no_certificate(unmade: &Unmade) -> TextAnswer
     ensures { (buffer : List ℕ) → TellsMade (Err unmade.now) buffer buffer result }

@@ -19,7 +19,7 @@ use dvg_recipe_text::read_recipe;
 use dvg_words::{Machine, RomMap};
 use std::alloc::Global;
 
-/// What a recipe, or a frame that may belong to it, comes to. A field that its number doesn't speak of is 0.
+/// The answer of a recipe, or of a frame that may belong to it. A field that its number doesn't speak of is 0.
 #[repr(C)]
 #[derive(Clone, Copy)]
 pub struct RecipeAnswer {
@@ -115,7 +115,7 @@ fn refused_recipe(no: &RecipeNo) -> RecipeAnswer
     }
 }
 
-/// What a verdict on a recipe comes to.
+/// The answer of a verdict on a recipe.
 pub fn recipe_answer_of(verdict: &Result<RecipeYes, RecipeNo>) -> RecipeAnswer
     ensures value { result ≡ told_recipe verdict.now }
     ensures accepted { result.number ≡ 0 → verdict.now ≡ Ok (recipe_yes_of result) }

@@ -5,7 +5,7 @@ ghost use Rattle.dvg_c.specs.Texts.{IsPut};
 
 use crate::answer::{Answer, SHORT_BUFFER};
 
-/// What a call that writes a text comes to.
+/// The answer of a call that writes a text.
 #[repr(C)]
 #[derive(Clone, Copy)]
 pub struct TextAnswer {

@@ -1,4 +1,4 @@
-//! Which shapes are called by the items with which frames are refused, how often, and the lines that tell it.
+//! Counts the shapes that refused frames call at the item that is refused, and writes a line for each.
 
 ghost use Rattle.std.specs.Prelude.{◌≡◌, ◌≤◌, ◌∷◌, [], None, Some, IfNone, IfSome, OnErr, OnOk, is_err, length};
 ghost use Rattle.dvg_words.specs.Memory.{IsFrameLength, words_of};
@@ -37,8 +37,8 @@ pub struct CalledCount {
     pub count: u32,
 }
 
-/// How many frames are refused by which number at calls of which shape, in the order of the numbers, and then of the shapes. Of more than
-/// 64 the first 64 that come are counted.
+/// Counts refused frames by number and by the shape that is called there, in the order of the numbers and then of the shapes. The first 64
+/// pairs that come are counted, further ones are not.
 #[derive(Drop)]
 pub struct CalledTally {
     counts: ArrayVec<CalledCount, 64>,
@@ -53,7 +53,7 @@ impl Model for CalledTally {
     ghost view = { λ t. t.counts.items };
 }
 
-/// At which word address a frame is refused because of an item, if it is.
+/// The word address of the item because of which a frame is refused, if there is one.
 fn refused_at(answer: &FrameAnswer) -> Option<u16>
     ensures { result ≡ refused_at answer.now }
 {
@@ -65,7 +65,7 @@ fn refused_at(answer: &FrameAnswer) -> Option<u16>
     }
 }
 
-/// The word address of the shape that the item calls because of which a frame is refused, if it is a call.
+/// A frame is refused because of an item: the word address of the shape that this item calls, if it is a call.
 pub fn called_by(machine: Machine, frame: &[u8], answer: &FrameAnswer) -> Option<u16>
     ensures some { IfSome result (λ shape. called_by machine (words_of frame.now) answer.now ≡ Some shape) }
     ensures none { IfNone result (IsFrameLength (length frame.now) → called_by machine (words_of frame.now) answer.now ≡ None) }
@@ -81,7 +81,7 @@ pub fn called_by(machine: Machine, frame: &[u8], answer: &FrameAnswer) -> Option
     }
 }
 
-/// An address as accounts spell it, of which the first 96 bytes are kept.
+/// The first 96 bytes of an address as accounts spell it.
 pub fn name_of(text: &str) -> AddressName {
     let bytes = text.as_bytes();
     let mut name = AddressName::new();
@@ -89,14 +89,14 @@ pub fn name_of(text: &str) -> AddressName {
     name
 }
 
-/// Whether a count comes before that of this number and shape.
+/// Whether a count comes before the count of this number and shape.
 fn is_before(count: &CalledCount, number: u8, shape: u16) -> bool
     ensures { result ≡ is_before count.now number shape }
 {
     (count.called.number, count.called.shape) < (number, shape)
 }
 
-/// How many of these counts come before that of this number and shape.
+/// How many of these counts come before the count of this number and shape.
 fn place_of(counts: &[CalledCount], number: u8, shape: u16) -> usize
     ensures place { result ≡ place_in counts.now number shape }
     ensures within { result ≤ length counts.now }
@@ -109,7 +109,7 @@ fn place_of(counts: &[CalledCount], number: u8, shape: u16) -> usize
     counts.len()
 }
 
-/// Whether the count at a place is that of this number and shape.
+/// Whether the count of this number and shape stands at a place.
 fn is_counted(counts: &[CalledCount], at: usize, called: &Called) -> bool
     ensures { result ≡ is_counted counts.now at called.now }
 {

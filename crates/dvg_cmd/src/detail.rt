@@ -67,7 +67,7 @@ impl Behind {
         }
     }
 
-    /// What the line of a frame that comes to this and the text come to.
+    /// The outcome of a frame's line and of this text behind it.
     pub fn frame_outcome(&self, line: FrameOutcome) -> FrameOutcome
         ensures { result ≡ frame_outcome_behind self.now line }
     {

@@ -19,7 +19,7 @@ use dvg_text::{CountedRead, CountedWrite, write_lines};
 use dvg_words::RomMap;
 use std::alloc::Global;
 
-/// What was read of a dump, if it has from 1 byte to those of the longest ROM.
+/// What was read of a dump, if its length is from 1 byte to the longest ROM's.
 fn dump_of(bytes: &RomBytes) -> Result<&[u8], FramesRunFault>
     ensures { MatchResult result
         (λ dump. IsDumpLength (length bytes.now.items) × (dump.now ≡ bytes.now.items))

@@ -181,7 +181,7 @@ fn write_make_line_and<W: CountedWrite>(
 }
 
 /// Writes the line of an answer of [`run_explain_make`], and behind it its account, or that there was no memory for one. The name
-/// before the line is that of the frame to blame, and has no control characters; it is empty if no frame is to blame.
+/// before the line names the frame to blame, and has no control characters; it is empty if no frame is to blame.
 pub fn write_make_answer<W: CountedWrite>(
     name: &str,
     answer: &MakeAnswer,

@@ -40,7 +40,8 @@ pub trait FrameJudge {
     /// What must hold of it before it judges with this detail.
     ghost valid: { Self → Detail → Type 0 };
 
-    /// What is an answer to the bytes of a frame, and what is told of why one is refused; which ROM frames call, which part of the screen may be lit, and in which mode counts are judged.
+    /// What is an answer to the bytes of a frame, and what is known of why one is refused; which ROM frames call, which part of the
+    /// screen may be lit, and in which mode counts are judged.
     ghost judging: { Self → Judging };
 
     /// The machine that accounts name.
@@ -146,8 +147,8 @@ impl<'a> OwnCertificates<'a> {
         }
     }
 
-    /// The certificate that is made for a frame over a ROM, if one can be made. Takes memory as [`explain_judging`] does; an `Err` says that
-    /// there was none.
+    /// The certificate that is made for a frame over a ROM, if one can be made. Takes memory as [`explain_judging`] does; an `Err` says
+    /// that there was none.
     pub fn made_for(
         &self,
         alloc: Global,

@@ -94,7 +94,8 @@ fn behind_answer(
     }
 }
 
-/// An account, with the shape that the item calls because of which the frame is refused, if it is a call; or that there was no memory.
+/// An account. If the frame is refused because of a call, the called shape comes with it. If there is no memory to name the shape, there
+/// is no account either.
 fn behind_call(
     alloc: Global,
     machine: Machine,

@@ -30,7 +30,7 @@ pub fn write_message<W: CountedWrite>(message: &str, out: &mut W) -> Result<(), 
     Ok(write_lines(message.as_bytes(), b"\n", &[], out)?)
 }
 
-/// Writes the line of a maker's run that made no certificate. The name before it is that of the frame to blame, and has no control
+/// Writes the line of a maker's run that made no certificate. The name before it names the frame to blame, and has no control
 /// characters; it is empty if no frame is to blame.
 pub fn write_make_fault<W: CountedWrite>(
     name: &str,

@@ -41,7 +41,7 @@ fn keep(name: &mut NameBytes, byte: u8)
 
 /// The next name that a list holds, or `None` at its end. It is read through the byte behind it, which the last name may lack; of a
 /// name over 4096 bytes 4097 are kept. A name may be empty.
-/// An error is that of a read that failed, or that 2^64 - 1 bytes were read and none of them is the byte behind a name.
+/// An error says that a read failed, or that 2^64 - 1 bytes were read and none of them is the byte behind a name.
 #[tactic(auto, using(crate::proofs::Naming::first_byte, crate::proofs::Naming::one_byte))]
 pub fn read_name<R: CountedRead>(list: &mut R, end: NameEnd) -> io::Result<Option<NameBytes>>
     ensures name { IfOk result (λ name. ReadsNext (end_byte end) (R.remaining list.old) (R.remaining list.new)

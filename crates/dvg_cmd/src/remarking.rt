@@ -1,4 +1,4 @@
-//! What a run writes behind the line of a frame: what is told of its answer, or the remarks on an accepted frame.
+//! What a run writes behind the line of a frame: an account of its answer, or the remarks on an accepted frame.
 
 ghost use Rattle.std.specs.Prelude.{◌≡◌};
 ghost use Rattle.dvg_cmd.specs.Remarking.{AreRemarks, answer_detail, has_account, outcome_behind_frame, text_behind_frame};
@@ -63,9 +63,9 @@ pub struct FrameRemarks {
 /// What is written behind the line of a frame.
 #[derive(Drop)]
 pub enum BehindFrame {
-    /// What is told of the answer.
+    /// The account of the answer, if one is asked for.
     Answer(Behind),
-    /// What is told of a refusal because of an item that calls this shape.
+    /// The account of a refusal because of an item that calls this shape.
     Called(Behind, Called),
     Remarks(FrameRemarks),
     /// That there was no memory for the remarks.
@@ -87,7 +87,7 @@ impl BehindFrame {
         }
     }
 
-    /// What the line of a frame that comes to this and the text come to.
+    /// The outcome of a frame's line and of this text behind it.
     pub fn frame_outcome(&self, line: FrameOutcome) -> FrameOutcome
         ensures { result ≡ outcome_behind_frame self.now line }
     {

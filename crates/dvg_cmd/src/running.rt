@@ -112,7 +112,7 @@ pub fn read_verdict<R: CountedRead>(
     ensures read { IfOk result (λ judged. IsReadFor judged.verdict (R.remaining cert.old) (R.remaining cert.new)) }
     ensures count { R.failures cert.new ≡ count_after (is_err result) (R.failures cert.old) }
 {
-    // The law by which the refusal of what was read is that of the whole text.
+    // By this law the refusal of what was read is the refusal of the whole text.
     prefix_refusal();
     let frame = match frame_of(frame, options.budget) {
         Ok(frame) => frame,
@@ -142,7 +142,7 @@ pub fn read_verdict<R: CountedRead>(
     }
 }
 
-/// What the detail asks for behind the refusal of a certificate's text, of which the watch saw the pieces.
+/// What the detail asks for behind the refusal of a certificate's text. The watch saw the pieces of that text.
 pub fn text_account(
     machine: Machine,
     alloc: Global,

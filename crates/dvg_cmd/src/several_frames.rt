@@ -257,7 +257,7 @@ struct Given<'a> {
 }
 
 impl<'a> Given<'a> {
-    /// What the detail asks for behind the line of a refusal of the ROM or of a shape, of which this is the cause.
+    /// What the detail asks for behind the line of a refusal of the ROM or of a shape, with this cause.
     fn refusal_account(&self, alloc: Global, cause: &RomFinding, detail: Detail<'a>) -> Behind
         requires { RefusesShapes self.now.options.now.machine self.now.options.now.window self.now.rom.now self.now.cert.now
             (refusal_of cause.now) }

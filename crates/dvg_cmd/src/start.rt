@@ -3,7 +3,7 @@
 ghost use Rattle.std.specs.Prelude.{◌≡◌, length};
 ghost use Rattle.dvg_cmd.specs.Start.{jumped, started};
 
-/// Puts a jump to this word address, or to that of its lower twelve bits, at word 000, where there is such a word.
+/// Puts a jump to the lower twelve bits of this word address at word 000, if the frame has this word.
 fn put_jump(bytes: &mut [u8], to: u16)
     ensures bytes { bytes.new ≡ jumped to bytes.old }
     ensures len { length bytes.new ≡ length bytes.old }

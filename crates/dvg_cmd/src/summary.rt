@@ -23,9 +23,9 @@ pub struct FramesSummary {
     pub tally: Tally,
     /// The frames that take most, of those whose lines tell clocks.
     pub most: Option<MostTaken>,
-    /// How many remarks of which kind there are on them, if remarks were looked for on one.
+    /// How many remarks of each kind there are on them, if the run looks for remarks.
     pub remarks: Option<RemarkTally>,
-    /// How many are refused by which number at calls of which shape, where accounts are written.
+    /// Where accounts are written: how many are refused by each number at calls of each shape.
     pub called: CalledTally,
 }
 
@@ -61,7 +61,7 @@ fn add_remarks(tally: &mut Option<RemarkTally>, behind: &BehindFrame)
     }
 }
 
-/// With the shape that the item calls because of which a frame is refused, if that is told.
+/// Counts the shape that a refused frame calls, if it comes with the account.
 fn add_called(tally: &mut CalledTally, behind: BehindFrame)
     ensures { tally.new ≡ called_with tally.old behind }
 {

@@ -96,7 +96,7 @@ impl<'a> TimedCertificates<'a> {
     }
 }
 
-/// The answer that a verdict with clocks comes to, as a line tells it.
+/// The answer of a verdict with clocks, as a line tells it.
 fn timed_answer(timed: Result<TimedYes, TimedRefusal>, line: LineClocks) -> FrameAnswer
     ensures { result ≡ told_with line (timed_answer timed) }
 {

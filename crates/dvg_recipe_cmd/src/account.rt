@@ -63,7 +63,7 @@ fn known_of(hull: &Hull) -> KnownBefore {
     }
 }
 
-/// Adds a line of what may be known before a piece for each scale that may be known there. `line` is that of the piece.
+/// Adds, for each scale that may be known before a piece, a line of what may be known there. `line` is the piece's line.
 fn push_before(
     line: u32,
     piece: &SeenPiece,
@@ -135,7 +135,7 @@ fn text_behind(behind: &Behind) -> Result<&str, AllocError> {
     }
 }
 
-/// The account of a recipe that is refused with a number which is not about a frame: these lines, and behind them what is told of the number.
+/// The account of a recipe that is refused with a number which is not about a frame: these lines, and behind them the number's rule.
 fn plain_text(
     alloc: Global,
     lines: &[RecipeLine],
@@ -160,7 +160,7 @@ fn too_long_text(
     plain_text(alloc, &lines, 57, labels)
 }
 
-/// The account of a recipe of which this piece is stuck: what may be known before it.
+/// The account of a recipe that is stuck at this piece: what may be known before it.
 fn stuck_text(
     alloc: Global,
     read: &ReadRecipe,

@@ -61,7 +61,7 @@ pub fn ready<'a>(given: &Recorded<'a>) -> Result<(&'a ReadRecipe, RomImage<'a>),
     }
 }
 
-/// The account of a frame that leaves a recipe: the item there, and the lines of which an item could stand there.
+/// The account of a frame that leaves a recipe: the item there, and the lines of the recipe that allow an item there.
 fn leaving_account(
     alloc: Global,
     read: &ReadRecipe,
@@ -76,7 +76,7 @@ fn leaving_account(
     leaving_text(alloc, frame, leaving.at, lines, labels)
 }
 
-/// What the detail asks for behind the line of a frame of which this was found out.
+/// What the detail asks for behind the line of a frame with this membership.
 fn account_of(
     alloc: Global,
     read: &ReadRecipe,

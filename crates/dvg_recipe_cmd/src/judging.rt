@@ -283,7 +283,7 @@ fn ready<'a>(
     Ok((read, image))
 }
 
-/// What is told of a refusal before the frames of a recipe were judged.
+/// The answer of a refusal before the frames of a recipe were judged.
 fn plain_why(explained: &Explained, no: &RecipeNo) -> PlainWhy {
     match no {
         RecipeNo::BudgetRange => PlainWhy::Budget(explained.options.budget),
@@ -347,7 +347,7 @@ pub fn judge_text(
     }
 }
 
-/// The answer that an accepted recipe comes to, as its line tells it.
+/// The answer of an accepted recipe, as its line tells it.
 fn told_yes(timed: TimedRecipeYes, line: LineClocks) -> RecipeAnswer
     ensures { result ≡ told_yes line timed }
 {

@@ -197,7 +197,7 @@ pub fn make_frames_report_of(fault: &FramesRunFault) -> Report
     report.ended()
 }
 
-/// The line of what the maker comes to, with its LF: how many entries it makes, or the line of why it makes none. 64 bytes at most.
+/// The line of a maker's answer, with its LF: how many entries it makes, or why it makes none. 64 bytes at most.
 /// Takes no memory.
 pub fn make_line_of(made: &Result<u32, FramesRunFault>) -> Report
     ensures text { result ≡ make_line_text made.now }

@@ -1,4 +1,4 @@
-//! What is told of each number, in the words of docs/RULES.md.
+//! The text of each rule, in the words of docs/RULES.md.
 
 use crate::rules::Rule;
 
@@ -479,26 +479,26 @@ pub const MEMORY: Rule = Rule {
     cure: "give the program more memory",
 };
 
-/// What is told of 1 where no certificate was given.
+/// The text of rule 1 where no certificate was given.
 pub const OWN_ROM_LENGTH: Rule = Rule {
     meaning: "the ROM has not exactly two bytes for each word address of its map: 2048 bytes, unless `--rom` says that it lies elsewhere",
     cure: "dump the whole vector ROM, and nothing else; where it lies elsewhere, say so by `--rom`",
     ..ROM_LENGTH
 };
 
-/// What is told of 25 where no certificate was given.
+/// The text of rule 25 where no certificate was given.
 pub const OWN_SHAPE_OUTSIDE_WINDOW: Rule = Rule {
     cure: "move the place of the LABS, or draw smaller; without `--clip`, give `--board --clip`, or a wider `--window` where it is smaller than the screen",
     ..SHAPE_OUTSIDE_WINDOW
 };
 
-/// What is told of 46 where no certificate was given.
+/// The text of rule 46 where no certificate was given.
 pub const OWN_FRAME_OUTSIDE_WINDOW: Rule = Rule {
     cure: "move the place, or draw a smaller size or scale; see that a called shape is drawn as you mean it; without `--clip`, give `--board --clip`, or a wider `--window` where it is smaller than the screen; dark moves may leave it",
     ..FRAME_OUTSIDE_WINDOW
 };
 
-/// What is told of 48 where no certificate was given.
+/// The text of rule 48 where no certificate was given.
 pub const OWN_FRAME_OVER_BUDGET: Rule = Rule {
     cure: "shorten the list, or allow more words by `--budget`",
     ..FRAME_OVER_BUDGET

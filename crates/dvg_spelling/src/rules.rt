@@ -8,7 +8,7 @@ use crate::rule_table as table;
 use itoa::Buffer;
 use std::alloc::{AllocError, Global};
 
-/// A number, and what is told of it.
+/// A number and its text.
 #[derive(Clone, Copy, Debug)]
 pub struct Rule {
     pub number: u8,
@@ -27,7 +27,7 @@ pub struct Rule {
 /// What comes after the greatest of the numbers.
 const NUMBERS_END: u8 = 75;
 
-/// What is told of this number.
+/// The text of this number.
 pub fn rule_of(number: u8) -> Option<Rule>
     ensures some { IfSome result (λ rule. rule.number ≡ number) }
     ensures known { is_some result ≡ is_rule_number number }
@@ -40,7 +40,7 @@ pub fn rule_of(number: u8) -> Option<Rule>
         .or(device_rule(number))
 }
 
-/// What is told of this number where no certificate was given, so that none has to be changed.
+/// The text of this number where no certificate was given: its cure changes none.
 pub fn own_rule_of(number: u8) -> Option<Rule>
     ensures some { IfSome result (λ rule. rule.number ≡ number) }
     ensures known { is_some result ≡ is_rule_number number }
@@ -198,7 +198,7 @@ fn push_labelled(text: &mut String, label: &str, told: &str) -> Result<(), Alloc
     text.push_str("\n")
 }
 
-/// Adds all that is told of a rule.
+/// Adds the whole text of a rule.
 fn push_rule(text: &mut String, rule: &Rule) -> Result<(), AllocError>
     ensures { OnOk result (string_bytes text.new ≡ string_bytes text.old ++ rule_text rule.now) }
 {
@@ -208,7 +208,7 @@ fn push_rule(text: &mut String, rule: &Rule) -> Result<(), AllocError>
     push_labelled(text, "What to do", rule.cure)
 }
 
-/// What is told of each number, in their order.
+/// The texts of all numbers, in their order.
 pub fn all_rules(alloc: Global) -> Result<Vec<Rule>, AllocError>
     ensures { IfOk result (λ rules. of_each (λ rule. rule.number) rules.items ≡ numbers_below NUMBERS_END) }
 {
@@ -230,7 +230,7 @@ pub fn text_of_rules(alloc: Global, rules: &[Rule]) -> Result<String, AllocError
     Ok(text)
 }
 
-/// All that is told of a rule: its number and what it means, its line, what gets it, and what to do, a line for each.
+/// The whole text of a rule, a line for each part: its number and meaning, the line with it, what gets it, and what to do.
 pub fn text_of_rule(alloc: Global, rule: &Rule) -> Result<String, AllocError>
     ensures { IfOk result (λ text. string_bytes text ≡ rule_text rule.now) }
 {

@@ -163,7 +163,7 @@ impl Task {
         }
     }
 
-    /// Its command, of whose options `clap` is told these.
+    /// Its command, with these options for `clap`.
     fn command<'a>(self, alloc: Global, told: Told) -> Result<Command<'a>, AllocError> {
         let command = self.bare_command(alloc)?;
         match self {
@@ -533,7 +533,7 @@ pub fn budget_of_args<'a>(args: &ArgMatches<'a>) -> u32 {
     args.get_one::<u32>("budget").unwrap_or(USUAL_BUDGET)
 }
 
-/// Where the ROM lies: what `--rom` says, or where that of Asteroids does.
+/// Where the ROM lies: what `--rom` says, or where the ROM of Asteroids lies.
 pub fn map_of_args<'a>(args: &ArgMatches<'a>) -> Result<RomMap, ArgumentFault<'a>> {
     match args.get_str("rom") {
         Some(map) => map_of(map).ok_or(ArgumentFault::Word(Form::Map, map)),
@@ -697,7 +697,7 @@ fn record_length_of_args<'a>(
     }
 }
 
-/// The frames that the arguments name, with what the detail asks for behind each line of those of the command line.
+/// The frames that the arguments name. The detail asks for accounts of those of the command line.
 pub fn frame_names<'a>(
     rt: &HostRuntime,
     args: &ArgMatches<'a>,
@@ -1063,7 +1063,7 @@ impl<'a> Parsed<'a> {
         }
     }
 
-    /// What the arguments ask for, by these labels. All of them are read before a file but that of the labels is opened.
+    /// What the arguments ask for, by these labels. All arguments are read before any file but the labels is opened.
     pub fn request(
         &self,
         rt: &HostRuntime,

@@ -138,7 +138,7 @@ fn in_capitals(alloc: Global, digits: &str) -> Result<String, AllocError> {
     Ok(capitals)
 }
 
-/// The map of a ROM from the processor's address of its first byte to that of a byte of its last word, with a slash between.
+/// The map of a ROM: the processor's addresses of its first byte and of a byte of its last word, with a slash between.
 fn map_of_processor(text: &str) -> Option<RomMap> {
     let (first, last) = text.split_once('/')?;
     let first = processor_offset(first)?;

@@ -77,7 +77,7 @@ impl Read for Source {
 /// A reader of bytes that were read before.
 pub type Kept = Counted<Cursor<Vec<u8>>>;
 
-/// The frame with this name of which these bytes were read, or which can't be opened or read.
+/// The frame with this name: the bytes that were read of it, or that it can't be opened or read.
 pub fn kept_frame(name: String, bytes: Option<Vec<u8>>) -> NamedFrame<Kept> {
     NamedFrame {
         name,

@@ -322,7 +322,7 @@ fn explain_diff(rt: &HostRuntime, args: &DumpArgs) -> Result<bool, FramesRunFaul
     )
 }
 
-/// Opens the files as [`make`] does, and answers what the maker comes to, with an account of it.
+/// Opens the files as [`make`] does, and answers the maker's answer with its account.
 fn make_answer(rt: &HostRuntime, args: &MakeArgs) -> Result<MakeAnswer, FramesRunFault> {
     let (mut rom, mut frames) = open_all(rt, args)?;
     run_explain_make(
@@ -336,7 +336,7 @@ fn make_answer(rt: &HostRuntime, args: &MakeArgs) -> Result<MakeAnswer, FramesRu
     )
 }
 
-/// Writes what the maker comes to, with an account of it, and answers the exit status.
+/// Writes the maker's answer with its account, and answers the exit status.
 #[inline(never)]
 fn explain_make(rt: &HostRuntime, args: &MakeArgs) -> u8 {
     match make_answer(rt, args) {
@@ -396,7 +396,7 @@ fn run_maker<W: CountedWrite>(
     )
 }
 
-/// Writes what is told of this rule, the table of all if none.
+/// Writes the text of this rule, or without one the table of all rules.
 #[inline(never)]
 fn rules(rt: &HostRuntime, rule: Option<Rule>) -> Result<(), RunFault> {
     let mut out = Counted::new(io::writer(rt));

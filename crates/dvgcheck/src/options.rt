@@ -324,7 +324,7 @@ fn valued<'a>(
         .help(help)
 }
 
-/// Which options of a subcommand `clap` is told of.
+/// Which options of a subcommand `clap` knows.
 #[derive(Clone, Copy)]
 pub enum Told<'w> {
     All,
@@ -340,7 +340,7 @@ impl<'w> Told<'w> {
         }
     }
 
-    /// The command with those of these options that `clap` is told of.
+    /// The command with those of these options that `clap` knows.
     pub fn with<'a>(
         self,
         alloc: Global,

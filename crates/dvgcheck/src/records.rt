@@ -109,7 +109,7 @@ impl<'a> Records<'a> {
         }
     }
 
-    /// The record with this number of a file as a frame, of which these bytes were read, or which can't be read.
+    /// The record with this number of a file, as a frame: the bytes that were read of it, or that it can't be read.
     fn frame(
         &mut self,
         alloc: Global,
