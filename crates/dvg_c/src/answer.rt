@@ -53,7 +53,7 @@ pub const SHORT_BUFFER: u8 = 84;
 /// The number of a want of memory for a text.
 pub const NO_TEXT_MEMORY: u8 = 85;
 
-/// 86: the lengths don't add up to the length of the bytes.
+/// The number of lengths that don't add up to the length of the bytes.
 pub const BAD_LENGTHS: u8 = 86;
 
 /// The number of a bad mode.
