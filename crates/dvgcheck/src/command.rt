@@ -4,17 +4,11 @@ use crate::escaping::{escaped, marked, shown};
 use crate::form::Form;
 use crate::input::Input;
 use crate::labels::{LabelsFault, load_labels};
-use crate::options::{
-    BELONGS_LIST_OPTIONS, BELONGS_OPTIONS, CHECK_OPTIONS, DUMP_OPTIONS, FRAMES_OPTIONS,
-    LABELS_OPTIONS, LIST_OPTIONS, MAKER_OPTIONS, OUTPUT_OPTIONS, RECIPE_CLOCKS_OPTIONS,
-    RECIPE_OPTIONS, RECIPE_OUTPUT_OPTIONS, RECORDS_OPTIONS, REMARKS_OPTIONS, Told, WINDOW_OPTIONS,
-};
-use crate::recipe_arguments::{
-    BelongsArgs, RecipeArgs, belongs_args, belongs_command, explain_belongs_command,
-    explain_recipe_command, recipe_args, recipe_command,
-};
+use crate::options::Told;
+use crate::recipe_arguments::{BelongsArgs, RecipeArgs, belongs_args, recipe_args};
+use crate::subcommand::{Subcommand, Task, Verb, command};
+use clap::ArgMatches;
 use clap::error::ErrorKind;
-use clap::{Arg, ArgMatches, Command, value_parser};
 use dvg_cmd::{
     ASTEROIDS, CLIPPED, CheckOptions, ClockOptions, DVG_STATES, Detail, FrameDetail, FrameOptions,
     Key, Labels, LineClocks, Lines, Listing, Machine, Mode, NameEnd, RAM_WORDS, RecordLength,
@@ -115,102 +109,6 @@ pub enum Request<'a> {
     Belongs(BelongsArgs<'a>),
     /// `rules` with the rule of this number, or with all rules.
     Rules(Option<Rule>),
-}
-
-/// What `--version` says behind the program's name: its version, and the logic with which it is proved.
-const VERSION: &str = "2.0.0\nproved with logic dac8208d650f15bf";
-
-/// A subcommand.
-#[derive(Clone, Copy)]
-enum Task {
-    Frames,
-    Check,
-    Make,
-    Places,
-    Diff,
-    Recipe,
-    Belongs,
-    Explain,
-    Rules,
-}
-
-impl Task {
-    const ALL: [Task; 9] = [
-        Task::Frames,
-        Task::Check,
-        Task::Make,
-        Task::Places,
-        Task::Diff,
-        Task::Recipe,
-        Task::Belongs,
-        Task::Explain,
-        Task::Rules,
-    ];
-
-    /// The subcommand with this name.
-    fn named(name: &str) -> Option<Task> {
-        match name {
-            "frames" => Some(Task::Frames),
-            "check" => Some(Task::Check),
-            "make" => Some(Task::Make),
-            "places" => Some(Task::Places),
-            "diff" => Some(Task::Diff),
-            "recipe" => Some(Task::Recipe),
-            "belongs" => Some(Task::Belongs),
-            "explain" => Some(Task::Explain),
-            "rules" => Some(Task::Rules),
-            _ => None,
-        }
-    }
-
-    /// Its command, with these options for `clap`.
-    fn command<'a>(self, alloc: Global, told: Told) -> Result<Command<'a>, AllocError> {
-        let command = self.bare_command(alloc)?;
-        match self {
-            Task::Frames => {
-                let command = told.with(alloc, command, &FRAMES_OPTIONS)?;
-                let command = told.with(alloc, command, &REMARKS_OPTIONS)?;
-                let command = told.with(alloc, command, &RECORDS_OPTIONS)?;
-                told.with(alloc, command, &LIST_OPTIONS)
-            }
-            Task::Check => told.with(alloc, command, &CHECK_OPTIONS),
-            Task::Make => {
-                let command = told.with(alloc, command, &MAKER_OPTIONS)?;
-                told.with(alloc, command, &OUTPUT_OPTIONS)
-            }
-            Task::Places => {
-                let command = told.with(alloc, command, &MAKER_OPTIONS)?;
-                told.with(alloc, command, &WINDOW_OPTIONS)
-            }
-            Task::Diff => told.with(alloc, command, &MAKER_OPTIONS),
-            Task::Recipe => {
-                let command = told.with(alloc, command, &RECIPE_OPTIONS)?;
-                let command = told.with(alloc, command, &RECIPE_CLOCKS_OPTIONS)?;
-                told.with(alloc, command, &RECIPE_OUTPUT_OPTIONS)
-            }
-            Task::Belongs => {
-                let command = told.with(alloc, command, &BELONGS_OPTIONS)?;
-                let command = told.with(alloc, command, &RECORDS_OPTIONS)?;
-                told.with(alloc, command, &BELONGS_LIST_OPTIONS)
-            }
-            Task::Explain | Task::Rules => Ok(command),
-        }
-    }
-
-    /// Its command without its options.
-    fn bare_command<'a>(self, alloc: Global) -> Result<Command<'a>, AllocError> {
-        match self {
-            Task::Frames => frames_command(alloc),
-            Task::Check => check_command(alloc),
-            Task::Make => make_command(alloc),
-            Task::Places => places_command(alloc),
-            Task::Diff => diff_command(alloc),
-            Task::Recipe => recipe_command(alloc),
-            Task::Belongs => belongs_command(alloc),
-            Task::Explain => explain_command(alloc),
-            Task::Rules => rules_command(alloc),
-        }
-    }
 }
 
 /// A file to read, and its name as lines show it.
@@ -344,170 +242,8 @@ pub fn arguments(rt: &HostRuntime) -> Result<Vec<String>, Usage<'static>> {
 /// The arguments of `make`, of `explain make` and of `places` that name files to read.
 const MAKER_FILES: [&str; 3] = ["ROM", "frame", "labels"];
 
-pub const INPUT_HELP: &str = "One of the files that are read may be -, which is standard input";
-
-pub const ROM_HELP: &str = "The vector ROM: two bytes for each of its words, low byte first";
-
-pub const FRAME_HELP: &str = "The frame: 2 to 2048 bytes of vector RAM, from word 000 on";
-
 /// How many words a frame may take if `--budget` does not say.
 const USUAL_BUDGET: u32 = 20_000;
-
-/// The argument of one or more frames, which a list of names may replace.
-pub fn frames_argument<'a>(alloc: Global) -> Result<Arg<'a>, AllocError> {
-    let frames = Arg::new(alloc, "FRAME").help(FRAME_HELP).num_args(1..);
-    frames
-        .required_unless_present("list")?
-        .conflicts_with("list")
-}
-
-/// The command with the argument ROM, and what its help says of files.
-pub fn with_rom<'a>(alloc: Global, command: Command<'a>) -> Result<Command<'a>, AllocError> {
-    command
-        .after_help(INPUT_HELP)
-        .arg(needed(alloc, "ROM", ROM_HELP))
-}
-
-fn frames_command<'a>(alloc: Global) -> Result<Command<'a>, AllocError> {
-    let command = Command::new(alloc, "frames").about(
-        "Judges frames over a vector ROM, each by a certificate made for it, and prints a line for each",
-    );
-    with_rom(alloc, command)?.arg(frames_argument(alloc)?)
-}
-
-fn check_command<'a>(alloc: Global) -> Result<Command<'a>, AllocError> {
-    let command = Command::new(alloc, "check").about(
-        "Judges a frame over a vector ROM and its certificate, and prints the report",
-    );
-    with_rom(alloc, command)?
-        .arg(needed(alloc, "CERT", "The certificate of the ROM's shapes"))?
-        .arg(needed(alloc, "FRAME", FRAME_HELP))
-}
-
-fn roots_argument<'a>(alloc: Global) -> Arg<'a> {
-    Arg::new(alloc, "ROOT")
-        .help(
-            "A shape that a program calls: its address, a slash, and a scale of 0 to 15 or any, as 800/0",
-        )
-        .num_args(1..)
-}
-
-fn make_command<'a>(alloc: Global) -> Result<Command<'a>, AllocError> {
-    let command = Command::new(alloc, "make").about(
-        "Prints the certificate of shapes of a vector ROM, and of all that they call",
-    );
-    with_rom(alloc, command)?.arg(roots_argument(alloc))
-}
-
-fn places_command<'a>(alloc: Global) -> Result<Command<'a>, AllocError> {
-    let command = Command::new(alloc, "places").about(
-        "Prints where calls of shapes of a vector ROM, and of all that they call, stay within the window",
-    );
-    with_rom(alloc, command)?.arg(roots_argument(alloc))
-}
-
-fn diff_command<'a>(alloc: Global) -> Result<Command<'a>, AllocError> {
-    let command = Command::new(alloc, "diff").about(
-        "Prints which shapes of a vector ROM, and which frames, read words that differ in another ROM",
-    );
-    with_rom(alloc, command)?
-        .arg(needed(
-            alloc,
-            "OTHER",
-            "The ROM with which it is compared, at the same addresses",
-        ))?
-        .arg(roots_argument(alloc))
-}
-
-/// What the help of a command says that is explained.
-const EXPLAIN_HELP: &str =
-    "The first line and the exit status are those of the command; of diff the line counts what differs, and the status is 1 if anything does";
-
-fn explain_frames_command<'a>(alloc: Global) -> Result<Command<'a>, AllocError> {
-    let command = Command::new(alloc, "frames").about(
-        "Judges frames over a vector ROM, by certificates made for them, and explains each answer",
-    );
-    let command = with_rom(alloc, command)?.arg(frames_argument(alloc)?)?;
-    let command = Told::All.with(alloc, command, &FRAMES_OPTIONS)?;
-    let command = Told::All.with(alloc, command, &RECORDS_OPTIONS)?;
-    Told::All.with(alloc, command, &LIST_OPTIONS)
-}
-
-fn explain_check_command<'a>(alloc: Global) -> Result<Command<'a>, AllocError> {
-    let command = Told::All.with(alloc, check_command(alloc)?, &CHECK_OPTIONS)?;
-    Told::All.with(alloc, command, &LABELS_OPTIONS)
-}
-
-fn explain_make_command<'a>(alloc: Global) -> Result<Command<'a>, AllocError> {
-    let command = Command::new(alloc, "make").about(
-        "Explains what certificate is made of shapes of a vector ROM, or why none, and writes none",
-    );
-    let command = with_rom(alloc, command)?.arg(roots_argument(alloc))?;
-    Told::All.with(alloc, command, &MAKER_OPTIONS)
-}
-
-fn explain_diff_command<'a>(alloc: Global) -> Result<Command<'a>, AllocError> {
-    let command = Command::new(alloc, "diff").about(
-        "Tells how another dump differs from a vector ROM, and which single faults would turn the ROM into it",
-    );
-    let other = needed(
-        alloc,
-        "OTHER",
-        "The dump that is compared with it, of 1 to 4096 bytes",
-    );
-    let command = with_rom(alloc, command)?.arg(other)?;
-    Told::All.with(alloc, command, &DUMP_OPTIONS)
-}
-
-fn explain_command<'a>(alloc: Global) -> Result<Command<'a>, AllocError> {
-    Command::new(alloc, "explain")
-        .about(
-            "Prints the answer of a command, and an account of it: where, what, why, and what to do",
-        )
-        .after_help(EXPLAIN_HELP)
-        .subcommand_required(true)
-        .arg_required_else_help(true)
-        .subcommand(explain_frames_command(alloc)?)?
-        .subcommand(explain_check_command(alloc)?)?
-        .subcommand(explain_make_command(alloc)?)?
-        .subcommand(explain_diff_command(alloc)?)?
-        .subcommand(explain_belongs_command(alloc)?)?
-        .subcommand(Told::All.with(alloc, explain_recipe_command(alloc)?, &RECIPE_OPTIONS)?)
-}
-
-/// What the shortest inputs of rules leave out.
-const SHORTEST_HELP: &str =
-    "Where a shortest input says nothing else, the ROM is 2048 zero bytes, the certificate is `dvgcert 1` LF `done 0` LF, and the
-frame is the word `B000`; words of a ROM stand from 800 on, with zeros around them. For 10 to 16 the ROM is an empty file. For 20 to
-33 the certificate has one entry, the short entry `shape 800 0 end lost box none depth 0 words 1 scale 0` with what is changed in it.";
-
-fn rules_command<'a>(alloc: Global) -> Result<Command<'a>, AllocError> {
-    let number = Arg::new(alloc, "NN")
-        .help("A number: prints its line, its shortest input and what to do, too")
-        .value_parser(value_parser!(u8));
-    Command::new(alloc, "rules")
-        .about("Prints what each number in an answer means")
-        .after_help(SHORTEST_HELP)
-        .arg(number)
-}
-
-/// The program's command.
-fn command<'a>(alloc: Global) -> Result<Command<'a>, AllocError> {
-    let mut command = Command::new(alloc, "dvgcheck")
-        .about("Checks frames and vector ROMs of Atari's Digital Vector Generator")
-        .version(VERSION)
-        .subcommand_required(true)
-        .arg_required_else_help(true);
-    for task in Task::ALL {
-        command = command.subcommand(task.command(alloc, Told::All)?)?;
-    }
-    Ok(command)
-}
-
-/// An argument that has to be given.
-pub fn needed<'a>(alloc: Global, name: &'a str, help: &'a str) -> Arg<'a> {
-    Arg::new(alloc, name).required(true).help(help)
-}
 
 fn machine_of_args<'a>(args: &ArgMatches<'a>) -> Machine {
     if args.get_flag("board") {
@@ -860,42 +596,6 @@ fn dump_args<'a>(
     })
 }
 
-/// The command whose answer is explained.
-fn explain_request<'a>(
-    rt: &HostRuntime,
-    args: &ArgMatches<'a>,
-    labels: Option<&'a Labels>,
-) -> Result<Request<'a>, Usage<'a>> {
-    match args.subcommand() {
-        Some(("check", args)) => {
-            let args = check_args(rt, args, &["ROM", "CERT", "FRAME", "labels"])?;
-            Ok(Request::Check(args, Detail::Account(labels)))
-        }
-        Some(("frames", args)) => {
-            let detail = Wanted::Answer(Detail::Account(labels));
-            let args = frames_args(rt, args, detail, labels)?;
-            Ok(Request::Frames(args))
-        }
-        Some(("make", args)) => Ok(Request::ExplainMake(make_args(
-            rt,
-            args,
-            &MAKER_FILES,
-            None,
-            labels,
-        )?)),
-        Some(("diff", args)) => Ok(Request::ExplainDiff(dump_args(rt, args, labels)?)),
-        Some(("belongs", args)) => {
-            let args = belongs_args(rt, args, explained(labels), labels)?;
-            Ok(Request::Belongs(args))
-        }
-        Some(("recipe", args)) => {
-            let args = recipe_args(rt, args, Detail::Account(labels), None, labels)?;
-            Ok(Request::Recipe(args))
-        }
-        _ => Err(Usage::Argument(ArgumentFault::Unreadable)),
-    }
-}
-
 fn rule_of_args<'a>(args: &ArgMatches<'a>) -> Result<Option<Rule>, ArgumentFault<'a>> {
     match args.get_one::<u8>("NN") {
         Some(number) => Ok(Some(rule_of(number).ok_or(ArgumentFault::Number)?)),
@@ -903,12 +603,87 @@ fn rule_of_args<'a>(args: &ArgMatches<'a>) -> Result<Option<Rule>, ArgumentFault
     }
 }
 
-/// What `recipe` asks for.
-fn recipe_request<'a>(
+/// What `frames` asks for, or `explain frames`.
+fn frames_request<'a>(
     rt: &HostRuntime,
+    verb: Verb,
     args: &ArgMatches<'a>,
     labels: Option<&'a Labels>,
 ) -> Result<Request<'a>, Usage<'a>> {
+    let wanted = match verb {
+        Verb::Explain => Wanted::Answer(Detail::Account(labels)),
+        Verb::Print if args.get_flag("remarks") => Wanted::Remarks(labels),
+        Verb::Print => Wanted::Answer(Detail::Line),
+    };
+    Ok(Request::Frames(frames_args(rt, args, wanted, labels)?))
+}
+
+/// What `check` asks for, or `explain check`.
+fn check_request<'a>(
+    rt: &HostRuntime,
+    verb: Verb,
+    args: &ArgMatches<'a>,
+    labels: Option<&'a Labels>,
+) -> Result<Request<'a>, Usage<'a>> {
+    match verb {
+        Verb::Print => {
+            let args = check_args(rt, args, &["ROM", "CERT", "FRAME"])?;
+            Ok(Request::Check(args, Detail::Line))
+        }
+        Verb::Explain => {
+            let args = check_args(rt, args, &["ROM", "CERT", "FRAME", "labels"])?;
+            Ok(Request::Check(args, Detail::Account(labels)))
+        }
+    }
+}
+
+/// What `make` asks for, or `explain make`.
+fn make_request<'a>(
+    rt: &HostRuntime,
+    verb: Verb,
+    args: &ArgMatches<'a>,
+    labels: Option<&'a Labels>,
+) -> Result<Request<'a>, Usage<'a>> {
+    match verb {
+        Verb::Print => {
+            let args = make_args(rt, args, &MAKER_FILES, output_of(args), labels)?;
+            Ok(Request::Make(args))
+        }
+        Verb::Explain => {
+            let args = make_args(rt, args, &MAKER_FILES, None, labels)?;
+            Ok(Request::ExplainMake(args))
+        }
+    }
+}
+
+/// What `diff` asks for, or `explain diff`.
+fn diff_request<'a>(
+    rt: &HostRuntime,
+    verb: Verb,
+    args: &ArgMatches<'a>,
+    labels: Option<&'a Labels>,
+) -> Result<Request<'a>, Usage<'a>> {
+    match verb {
+        Verb::Print => {
+            let files = ["ROM", "OTHER", "frame", "labels"];
+            let args_of_maker = make_args(rt, args, &files, None, labels)?;
+            Ok(Request::Diff(args_of_maker, file_of(rt, args, "OTHER")))
+        }
+        Verb::Explain => Ok(Request::ExplainDiff(dump_args(rt, args, labels)?)),
+    }
+}
+
+/// What `recipe` asks for, or `explain recipe`.
+fn recipe_request<'a>(
+    rt: &HostRuntime,
+    verb: Verb,
+    args: &ArgMatches<'a>,
+    labels: Option<&'a Labels>,
+) -> Result<Request<'a>, Usage<'a>> {
+    if let Verb::Explain = verb {
+        let args = recipe_args(rt, args, Detail::Account(labels), None, labels)?;
+        return Ok(Request::Recipe(args));
+    }
     let Some(path) = args.get_str("print") else {
         let output = args.get_str("output");
         let args = recipe_args(rt, args, Detail::Line, output, labels)?;
@@ -920,45 +695,39 @@ fn recipe_request<'a>(
     Ok(Request::Print(Named { input, name }, labels))
 }
 
-/// What a subcommand with these arguments asks for.
-fn request_of<'a>(
+/// What `belongs` asks for, or `explain belongs`.
+fn belongs_request<'a>(
     rt: &HostRuntime,
-    task: Task,
+    verb: Verb,
     args: &ArgMatches<'a>,
     labels: Option<&'a Labels>,
 ) -> Result<Request<'a>, Usage<'a>> {
-    match task {
-        Task::Frames => {
-            let detail = if args.get_flag("remarks") {
-                Wanted::Remarks(labels)
-            } else {
-                Wanted::Answer(Detail::Line)
-            };
-            Ok(Request::Frames(frames_args(rt, args, detail, labels)?))
-        }
-        Task::Check => {
-            let args = check_args(rt, args, &["ROM", "CERT", "FRAME"])?;
-            Ok(Request::Check(args, Detail::Line))
-        }
-        Task::Make => {
-            let args = make_args(rt, args, &MAKER_FILES, output_of(args), labels)?;
-            Ok(Request::Make(args))
-        }
+    let listing = match verb {
+        Verb::Print => listing_of_args(args, Detail::Line, "only-outside"),
+        Verb::Explain => explained(labels),
+    };
+    Ok(Request::Belongs(belongs_args(rt, args, listing, labels)?))
+}
+
+/// What a subcommand with these arguments asks for.
+fn request_of<'a>(
+    rt: &HostRuntime,
+    subcommand: Subcommand,
+    args: &ArgMatches<'a>,
+    labels: Option<&'a Labels>,
+) -> Result<Request<'a>, Usage<'a>> {
+    let verb = subcommand.verb;
+    match subcommand.task {
+        Task::Frames => frames_request(rt, verb, args, labels),
+        Task::Check => check_request(rt, verb, args, labels),
+        Task::Make => make_request(rt, verb, args, labels),
         Task::Places => {
             let args_of_maker = make_args(rt, args, &MAKER_FILES, None, labels)?;
             Ok(Request::Places(args_of_maker, window_of_args(args)?))
         }
-        Task::Diff => {
-            let files = ["ROM", "OTHER", "frame", "labels"];
-            let args_of_maker = make_args(rt, args, &files, None, labels)?;
-            Ok(Request::Diff(args_of_maker, file_of(rt, args, "OTHER")))
-        }
-        Task::Recipe => recipe_request(rt, args, labels),
-        Task::Belongs => {
-            let listing = listing_of_args(args, Detail::Line, "only-outside");
-            Ok(Request::Belongs(belongs_args(rt, args, listing, labels)?))
-        }
-        Task::Explain => explain_request(rt, args, labels),
+        Task::Diff => diff_request(rt, verb, args, labels),
+        Task::Recipe => recipe_request(rt, verb, args, labels),
+        Task::Belongs => belongs_request(rt, verb, args, labels),
         Task::Rules => Ok(Request::Rules(rule_of_args(args)?)),
     }
 }
@@ -986,13 +755,6 @@ fn refused<'a>(alloc: Global, arguments: &[String]) -> Result<Usage<'a>, AllocEr
     }
 }
 
-/// The subcommand that the arguments name, and those behind its name.
-fn task_of(arguments: &[String]) -> Option<(Task, &[String])> {
-    let (_, arguments) = arguments.split_first()?;
-    let (name, arguments) = arguments.split_first()?;
-    Some((Task::named(name.as_str())?, arguments))
-}
-
 /// Whether a word of these may name an option.
 fn may_name_options(arguments: &[String]) -> bool {
     for argument in arguments {
@@ -1007,13 +769,13 @@ fn may_name_options(arguments: &[String]) -> bool {
 /// may name, since the rest of the program's command would only cost time.
 fn matches_of<'a>(
     alloc: Global,
-    task: Task,
+    subcommand: Subcommand,
     arguments: &'a [String],
 ) -> Result<ArgMatches<'a>, clap::Error> {
     let command = if may_name_options(arguments) {
-        task.command(alloc, Told::NamedBy(arguments))?
+        subcommand.command(alloc, Told::NamedBy(arguments))?
     } else {
-        task.bare_command(alloc)?
+        subcommand.bare_command(alloc)?
     };
     command
         .no_binary_name(true)
@@ -1025,18 +787,21 @@ fn matches_of<'a>(
 /// The arguments as `clap` takes them, of a subcommand.
 #[derive(Drop)]
 pub struct Parsed<'a> {
-    task: Task,
+    subcommand: Subcommand,
     matches: ArgMatches<'a>,
 }
 
 impl<'a> Parsed<'a> {
     /// What `clap` makes of the arguments.
     pub fn new(rt: &HostRuntime, arguments: &'a [String]) -> Result<Parsed<'a>, Usage<'a>> {
-        let Some((task, rest)) = task_of(arguments) else {
+        let Some((subcommand, rest)) = Subcommand::named(arguments) else {
             return Err(refused(rt.alloc(), arguments)?);
         };
-        match matches_of(rt.alloc(), task, rest) {
-            Ok(matches) => Ok(Parsed { task, matches }),
+        match matches_of(rt.alloc(), subcommand, rest) {
+            Ok(matches) => Ok(Parsed {
+                subcommand,
+                matches,
+            }),
             Err(error) if error.kind() == ErrorKind::OutOfMemory => Err(Usage::OutOfMemory),
             Err(_) => Err(refused(rt.alloc(), arguments)?),
         }
@@ -1044,14 +809,10 @@ impl<'a> Parsed<'a> {
 
     /// The path of the file of labels, if one is given.
     fn labels_path(&self) -> Option<&'a str> {
-        match self.task {
-            Task::Frames | Task::Make | Task::Places | Task::Diff | Task::Recipe | Task::Belongs =>
-                self.matches.get_str("labels"),
-            Task::Explain => {
-                let (_, args) = self.matches.subcommand()?;
-                args.get_str("labels")
-            }
-            Task::Check | Task::Rules => None,
+        if self.subcommand.has_labels() {
+            self.matches.get_str("labels")
+        } else {
+            None
         }
     }
 
@@ -1069,6 +830,6 @@ impl<'a> Parsed<'a> {
         rt: &HostRuntime,
         labels: Option<&'a Labels>,
     ) -> Result<Request<'a>, Usage<'a>> {
-        request_of(rt, self.task, &self.matches, labels)
+        request_of(rt, self.subcommand, &self.matches, labels)
     }
 }

@@ -19,6 +19,7 @@ mod output;
 mod recipe_arguments;
 mod recipes;
 mod records;
+mod subcommand;
 mod together;
 
 use command::{

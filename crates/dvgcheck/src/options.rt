@@ -340,17 +340,19 @@ impl<'w> Told<'w> {
         }
     }
 
-    /// The command with those of these options that `clap` knows.
+    /// The command with those options of these groups that `clap` knows.
     pub fn with<'a>(
         self,
         alloc: Global,
         command: Command<'a>,
-        options: &[CommandOption],
+        groups: &[&[CommandOption]],
     ) -> Result<Command<'a>, AllocError> {
         let mut command = command;
-        for option in options {
-            if self.includes(*option) {
-                command = command.arg(option.arg(alloc)?)?;
+        for options in groups {
+            for option in *options {
+                if self.includes(*option) {
+                    command = command.arg(option.arg(alloc)?)?;
+                }
             }
         }
         Ok(command)

@@ -1,12 +1,11 @@
 //! The command line of `recipe` and of `belongs`.
 
 use crate::command::{
-    ArgumentFault, FRAME_HELP, FrameNames, INPUT_HELP, Named, ROM_HELP, Usage, budget_of_args,
-    clocks_of_args, file_of, files_told, frame_names, frames_argument, map_of_args, needed,
-    one_standard_input, window_of_args, with_rom,
+    ArgumentFault, FrameNames, Named, Usage, budget_of_args, clocks_of_args, file_of, files_told,
+    frame_names, map_of_args, one_standard_input, window_of_args,
 };
 use crate::input::Input;
-use crate::options::{BELONGS_OPTIONS, RECORDS_OPTIONS, Told};
+use crate::subcommand::{FRAME_HELP, INPUT_HELP, ROM_HELP, frames_argument, needed, with_rom};
 use clap::{Arg, ArgMatches, Command};
 use dvg_cmd::{Detail, Labels, Listing, RomMap};
 use dvg_recipe_cmd::{RecipeAsked, RecipeOptions};
@@ -77,16 +76,14 @@ pub fn belongs_command<'a>(alloc: Global) -> Result<Command<'a>, AllocError> {
         .arg(frames_argument(alloc)?)
 }
 
-/// The command of `explain belongs`.
+/// The command of `explain belongs`, without its options.
 pub fn explain_belongs_command<'a>(alloc: Global) -> Result<Command<'a>, AllocError> {
     let command = Command::new(alloc, "belongs").about(
         "Tells which frames are among those that a recipe allows, and of another where it leaves the recipe, and which lines could stand there",
     );
-    let command = with_rom(alloc, command)?
+    with_rom(alloc, command)?
         .arg(needed(alloc, "RECIPE", RECIPE_HELP))?
-        .arg(needed(alloc, "FRAME", FRAME_HELP).num_args(1..))?;
-    let command = Told::All.with(alloc, command, &BELONGS_OPTIONS)?;
-    Told::All.with(alloc, command, &RECORDS_OPTIONS)
+        .arg(needed(alloc, "FRAME", FRAME_HELP).num_args(1..))
 }
 
 /// The path of the file for the frame of these recipes, if one is given.
