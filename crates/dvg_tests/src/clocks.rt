@@ -6,7 +6,7 @@ mod examples;
 use crate::clocks::examples::{ARCADE, OTHERS};
 use crate::expecting::{expect, expect_same};
 use crate::inputs::rom_bytes;
-use crate::table::{Row, UNLIMITED, read_rows};
+use crate::table::{Row, read_rows};
 use dvg_cert::MOST_WORDS;
 use dvg_check::frame_of;
 use dvg_clocks::{ClockRange, DVG_STATES, TimedRefusal, TimedYes, Timing, judge_timed};
@@ -181,7 +181,7 @@ fn told(rt: &impl Abort, alloc: Global, answer: &Result<TimedYes, TimedRefusal>)
 
 /// Stops the test unless each frame of a table is answered as its row says.
 fn time_rows(rt: &impl Abort, alloc: Global, table: &str) {
-    for row in &read_rows(rt, alloc, &UNLIMITED, table) {
+    for row in &read_rows(rt, alloc, table) {
         let line = told(rt, alloc, &answer_to(rt, alloc, row));
         expect_same(rt, &line.as_str(), &row.board, &row.lines);
     }

@@ -6,7 +6,6 @@ mod lengths;
 mod members;
 mod sayings;
 mod spellings;
-mod steps;
 mod texts;
 mod verdicts;
 mod worked;

@@ -1,4 +1,4 @@
-//! How far inputs are read, what the statuses and messages of runs are, and what words of the command line spell.
+//! How far inputs are read, and what the statuses and messages of runs are.
 
 pub mod devices;
 
@@ -7,10 +7,9 @@ use crate::inputs::{EMPTY, STROKE_FRAME, stroke_rom};
 use devices::SlowReader;
 use dvg_cmd::{
     ASTEROIDS, Counted, Detail, EntryFault, FrameCall, FrameDetail, FrameOutcome, FramesRunFault,
-    Key, Lines, Listing, Machine, MakeFault, MakeRunFault, Mode, NamedFrame, Outcome,
-    OwnCertificates, RunFault, SCREEN, Window, frames_status_of, make_frames_report_of,
-    make_frames_status_of, make_report_of, make_status_of, map_of, message_of, root_of, run_check,
-    run_frames, run_make, start_of, status_of, window_of,
+    Lines, Listing, Machine, MakeFault, MakeRunFault, Mode, NamedFrame, Outcome, OwnCertificates,
+    RunFault, SCREEN, frames_status_of, make_frames_report_of, make_frames_status_of,
+    make_report_of, make_status_of, map_of, message_of, run_check, run_frames, run_make, status_of,
 };
 use std::alloc::Global;
 use std::fmt::Debug;
@@ -337,63 +336,6 @@ fn says_how_making_for_frames_ended(rt: HostRuntime) {
     }
 }
 
-#[test]
-fn reads_starts_and_roots(rt: HostRuntime) {
-    for (word, start) in [("000", 0), ("0A9", 0x0A9), ("FFF", 0xFFF)] {
-        expect_same(&rt, &start_of(word), &Some(start), &word);
-    }
-    for word in ["", "00", "0000", "00a", "00G", " 00", "+00", "00\n"] {
-        expect(&rt, start_of(word).is_none(), &word);
-    }
-    expect_same(&rt, &root_of("800/0"), &Some((0x800, Key::At(0))), &"800/0");
-    expect_same(
-        &rt,
-        &root_of("BFF/any"),
-        &Some((0xBFF, Key::Any)),
-        &"BFF/any",
-    );
-}
-
-/// Windows from words.
-const WINDOWS: &[(&str, (u16, u16, u16, u16))] = &[
-    ("0,1023,0,1023", (0, 1023, 0, 1023)),
-    ("1,1022,128,894", (1, 1022, 128, 894)),
-    ("400,400,100,100", (400, 400, 100, 100)),
-];
-
-/// Words that are none.
-const NO_WINDOWS: &[&str] = &[
-    "0,1024,0,1",
-    "0,1,0,1024",
-    "5,4,0,1",
-    "0,1,5,4",
-    "00,1,0,1",
-    "0,1,0",
-    "0,1,0,1,0",
-    "",
-    ",,,",
-    "0,1,0,",
-    "0, 1,0,1",
-    "+0,1,0,1",
-    "-0,1,0,1",
-    "0,0x1,0,1",
-    "0,1,0,1 ",
-    "0,1,0,65537",
-];
-
-#[test]
-fn reads_windows(rt: HostRuntime) {
-    for &(word, (x_min, x_max, y_min, y_max)) in WINDOWS {
-        let window = Window::new(x_min, x_max, y_min, y_max);
-        let is_right = window.is_some() && window_of(word) == window;
-        expect(&rt, is_right, &word);
-    }
-    assert!(rt; window_of("0,1023,0,1023") == Some(SCREEN));
-    for &word in NO_WINDOWS {
-        expect(&rt, window_of(word).is_none(), &word);
-    }
-}
-
 /// Maps, how many zeros the ROM has, and what is written where there is no root.
 const ROOTLESS: &[(&str, usize, Result<(), MakeRunFault>, &[u8])] = &[
     ("800/BFF", 2048, Ok(()), EMPTY),
@@ -419,23 +361,5 @@ fn makes_nothing_of_no_roots(rt: HostRuntime) {
         );
         expect_same(&rt, &end, &want, &bytes);
         expect(&rt, told.as_slice() == text, &bytes);
-    }
-}
-
-/// Outcomes, the better ones first.
-const RISING: &[FrameOutcome] = &[
-    FrameOutcome::Accepted,
-    FrameOutcome::Refused,
-    FrameOutcome::NoMemory,
-    FrameOutcome::Unread,
-];
-
-#[test]
-fn answers_the_worst(rt: HostRuntime) {
-    for (index, outcome) in RISING.iter().enumerate() {
-        for (other, with) in RISING.iter().enumerate() {
-            let worst = if index < other { *with } else { *outcome };
-            expect_same(&rt, &outcome.or_worse(*with), &worst, &(index, other));
-        }
     }
 }

@@ -13,8 +13,9 @@
 //! - `board` and what the board reports, where the row is judged on it,
 //! - `accepted` or `refused`, which is what the profile's machine reports.
 //!
-//! A row has what it leaves out from the row above it where its first line begins with `the same`, and else from the usual row of
-//! its table. A line with another name stops the test.
+//! A row has what it leaves out from the row above it where its first line begins with `the same`, and else from the usual row. Where
+//! its first line begins with `usually` it is the usual row from there on, and nothing is judged; before it, `FIRST` is. A line with
+//! another name stops the test. tests/command-line reads the rows of `rows::worked` in the same way.
 
 use crate::expecting::expect;
 use dvg_check::Mode;
@@ -63,8 +64,9 @@ pub struct Row<'a> {
     pub report: &'a str,
 }
 
-/// A ROM of zeros, a certificate without entries, and a frame that halts at once.
-pub const ZEROS: Row<'static> = Row {
+/// The usual row of a table at first: a ROM of zeros, a certificate without entries, and a frame that halts at once, within more clocks
+/// than any frame takes.
+const FIRST: Row<'static> = Row {
     lines: "",
     map: "800 BFF",
     rom: "800",
@@ -75,35 +77,10 @@ pub const ZEROS: Row<'static> = Row {
     budget: "20000",
     window: "0,1023,0,1023",
     mode: "bound",
-    limit: "",
+    limit: "99999999999",
     made: "",
     board: "",
     report: "",
-};
-
-/// The ROM of one lit stroke at 800, its certificate, and a frame that halts at once.
-pub const STROKE: Row<'static> = Row {
-    rom: "800 92FF 73FF D000",
-    entries: "shape 800 0 end rel 1047552 785408 box 0 1047552 0 785408 depth 0 words 3 scale 0",
-    ..ZEROS
-};
-
-/// The same, and a frame that calls the stroke from the screen's lower middle.
-pub const CALLED_STROKE: Row<'static> = Row {
-    frame: "A080 0000 C800 B0B0",
-    ..STROKE
-};
-
-/// The same as `ZEROS`, where the certificate is the one that the profile's maker makes.
-pub const MADE: Row<'static> = Row {
-    made: "profile",
-    ..ZEROS
-};
-
-/// The same as `ZEROS`, where the frame may take more clocks than any frame takes.
-pub const UNLIMITED: Row<'static> = Row {
-    limit: "99999999999",
-    ..ZEROS
 };
 
 /// What a line of a row may begin with.
@@ -153,24 +130,24 @@ fn entries_of<'a>(lines: &'a str, usual: &'a str) -> &'a str {
     }
 }
 
-/// The rows of a table with this usual row.
-pub fn read_rows<'a>(
-    rt: &impl Abort,
-    alloc: Global,
-    usual: &Row<'a>,
-    table: &'a str,
-) -> Vec<Row<'a>> {
+/// The rows of a table.
+pub fn read_rows<'a>(rt: &impl Abort, alloc: Global, table: &'a str) -> Vec<Row<'a>> {
     let mut rows = Vec::new(alloc);
-    let mut above = *usual;
+    let mut usual = FIRST;
+    let mut above = FIRST;
     for lines in table.split("\n\n") {
         expect(rt, are_named(lines), &lines);
         let other = if lines.starts_with("the same") {
             above
         } else {
-            *usual
+            usual
         };
         above = other.with(lines);
-        rows.push(above).expect(rt, "memory");
+        if lines.starts_with("usually ") {
+            usual = above;
+        } else {
+            rows.push(above).expect(rt, "memory");
+        }
     }
     rows
 }
@@ -306,7 +283,7 @@ fn text_of_entries(rt: &impl Abort, alloc: Global, map: &str, lines: &str) -> Ve
 }
 
 /// The text whose lines each end with `|`.
-fn text_of_lines(rt: &impl Abort, alloc: Global, lines: &str) -> Vec<u8> {
+pub fn text_of_lines(rt: &impl Abort, alloc: Global, lines: &str) -> Vec<u8> {
     let mut text = Vec::from_slice(alloc, lines.as_bytes()).expect(rt, "memory");
     for byte in &mut text {
         if *byte == b'|' {

@@ -3,433 +3,155 @@
 
 use crate::expecting::expect_same;
 use crate::inputs::Part;
+use crate::recipes::building::{draw_to, row, span, straight};
 use crate::recipes::members::{Row as Member, expect_rows};
-use crate::recipes::steps::{Ends, Step, recipe_of};
-use crate::recipes::verdicts::{PLAIN, ROM, Row, Shown, Told, expect_told};
-use Step::{Call, Either, Fixed, Place, Repeat, SvecTo, Then, Vctr, VctrTo};
-use dvg_cert::Key;
-use dvg_make::EntryFault;
+use crate::recipes::verdicts::{ROM, expect_told, read_lines};
+use dvg_recipe::PlaceSpan;
+use dvg_words::Format;
 use std::alloc::Global;
 use std::process::Abort;
 
-/// A line of hills: each stroke is 12 places wide, and none ends below Y 80 or above Y 320.
-const HILL: Step = VctrTo(9, (12, 12), (-60, 60), (7, 7), ((0, 1023), (80, 320)));
+/// Hills: each stroke is 12 places wide, and none ends below Y 80 or above Y 320. They stay in their bounds, and come to these sides of them.
+const KEEPS_BOUNDS: &str = "\
+; 85 strokes end at X 1020; a further one can't end on the screen
+place 0 0 200 200 scale 0, repeat 0 85, vctr 9 x 12 12 y -60 60 bright 7 7 to 0 1023 80 320, end
+accepted shapes=0 words=173 depth=0
+place 0 0 200 200 scale 0, repeat 0 86, vctr 9 x 12 12 y -60 60 bright 7 7 to 0 1023 80 320, end
+refused 59 at 1
+; without bounds the fourth stroke ends below the screen
+place 0 0 200 200 scale 0, repeat 0 3, vctr 9 x 12 12 y -60 60 bright 7 7, end
+accepted shapes=0 words=9 depth=0
+place 0 0 200 200 scale 0, repeat 0 4, vctr 9 x 12 12 y -60 60 bright 7 7, end
+refused 46 at 1
+; from Y 190 over 130 to 80, and over 250 and 310 to 320
+window 0,1023,80,320
+place 0 0 190 190 scale 0, repeat 0 3, vctr 9 x 12 12 y -60 60 bright 7 7 to 0 1023 80 320, end
+accepted shapes=0 words=9 depth=0
+window 0,1023,81,320
+place 0 0 190 190 scale 0, repeat 0 3, vctr 9 x 12 12 y -60 60 bright 7 7 to 0 1023 80 320, end
+refused 46 at 1
+window 0,1023,80,319
+place 0 0 190 190 scale 0, repeat 0 3, vctr 9 x 12 12 y -60 60 bright 7 7 to 0 1023 80 320, end
+refused 46 at 1
+; the budget, at a stroke and at the HALT
+budget 7
+place 0 0 190 190 scale 0, repeat 0 3, vctr 9 x 12 12 y -60 60 bright 7 7 to 0 1023 80 320, end
+refused 48 at 1
+budget 8
+place 0 0 190 190 scale 0, repeat 0 3, vctr 9 x 12 12 y -60 60 bright 7 7 to 0 1023 80 320, end
+refused 48 at 2";
 
-/// Hills, which stay in their bounds, and which sides of the bounds they come to.
-const KEEPS_BOUNDS: &[Row] = &[
-    // 85 strokes end at X 1020; a further one can't end on the screen
-    Row {
-        body: &[Place((0, 0), (200, 200), &[0]), HILL, Repeat(0, 85)],
-        told: Told::Yes(0, 173, 0),
-        ..PLAIN
-    },
-    Row {
-        body: &[Place((0, 0), (200, 200), &[0]), HILL, Repeat(0, 86)],
-        told: Told::Stuck(1),
-        ..PLAIN
-    },
-    // without bounds the fourth stroke ends below the screen
-    Row {
-        body: &[
-            Place((0, 0), (200, 200), &[0]),
-            Vctr(9, (12, 12), (-60, 60), (7, 7)),
-            Repeat(0, 3),
-        ],
-        told: Told::Yes(0, 9, 0),
-        ..PLAIN
-    },
-    Row {
-        body: &[
-            Place((0, 0), (200, 200), &[0]),
-            Vctr(9, (12, 12), (-60, 60), (7, 7)),
-            Repeat(0, 4),
-        ],
-        told: Told::Frame(Some(1), 46),
-        ..PLAIN
-    },
-    // from Y 190 over 130 to 80, and over 250 and 310 to 320
-    Row {
-        body: &[Place((0, 0), (190, 190), &[0]), HILL, Repeat(0, 3)],
-        window: Shown::Part(0, 1023, 80, 320),
-        told: Told::Yes(0, 9, 0),
-        ..PLAIN
-    },
-    Row {
-        body: &[Place((0, 0), (190, 190), &[0]), HILL, Repeat(0, 3)],
-        window: Shown::Part(0, 1023, 81, 320),
-        told: Told::Frame(Some(1), 46),
-        ..PLAIN
-    },
-    Row {
-        body: &[Place((0, 0), (190, 190), &[0]), HILL, Repeat(0, 3)],
-        window: Shown::Part(0, 1023, 80, 319),
-        told: Told::Frame(Some(1), 46),
-        ..PLAIN
-    },
-    // the budget, at a stroke and at the HALT
-    Row {
-        body: &[Place((0, 0), (190, 190), &[0]), HILL, Repeat(0, 3)],
-        budget: 7,
-        told: Told::Frame(Some(1), 48),
-        ..PLAIN
-    },
-    Row {
-        body: &[Place((0, 0), (190, 190), &[0]), HILL, Repeat(0, 3)],
-        budget: 8,
-        told: Told::Frame(Some(2), 48),
-        ..PLAIN
-    },
-];
-
-/// Two dark moves to or fro, from X 500 to places from X 450 to 540.
-const MOVE: Step = VctrTo(9, (-60, 60), (0, 0), (0, 0), ((450, 540), (0, 1023)));
-
-/// Half a place for each of the sizes, halves rounded away from 0: from -2 to 2 places, of which a place more than X 499 to 501 is cut off.
-const HALVES: Step = VctrTo(8, (-3, 3), (0, 0), (7, 7), ((499, 501), (0, 1023)));
-
-/// Sides of a rectangle that cut what is known: some frame comes just to them.
-const COMES_TO_CUTS: &[Row] = &[
-    Row {
-        body: &[
-            Place((500, 500), (100, 100), &[0]),
-            MOVE,
-            Repeat(2, 2),
-            Fixed(0xF070, 0x0000),
-        ],
-        window: Shown::Part(450, 540, 0, 1023),
-        told: Told::Yes(0, 8, 0),
-        ..PLAIN
-    },
-    Row {
-        body: &[
-            Place((500, 500), (100, 100), &[0]),
-            MOVE,
-            Repeat(2, 2),
-            Fixed(0xF070, 0x0000),
-        ],
-        window: Shown::Part(451, 540, 0, 1023),
-        told: Told::Frame(Some(2), 46),
-        ..PLAIN
-    },
-    Row {
-        body: &[
-            Place((500, 500), (100, 100), &[0]),
-            MOVE,
-            Repeat(2, 2),
-            Fixed(0xF070, 0x0000),
-        ],
-        window: Shown::Part(450, 539, 0, 1023),
-        told: Told::Frame(Some(2), 46),
-        ..PLAIN
-    },
-    Row {
-        body: &[Place((500, 500), (100, 100), &[0]), HALVES],
-        window: Shown::Part(499, 501, 0, 1023),
-        told: Told::Yes(0, 5, 0),
-        ..PLAIN
-    },
-    Row {
-        body: &[Place((500, 500), (100, 100), &[0]), HALVES],
-        window: Shown::Part(500, 501, 0, 1023),
-        told: Told::Frame(Some(1), 46),
-        ..PLAIN
-    },
-    Row {
-        body: &[Place((500, 500), (100, 100), &[0]), HALVES],
-        window: Shown::Part(499, 500, 0, 1023),
-        told: Told::Frame(Some(1), 46),
-        ..PLAIN
-    },
-    // from anywhere on the screen into a small part of it
-    Row {
-        body: &[
-            Place((0, 1023), (0, 1023), &[0]),
-            VctrTo(9, (-1023, 1023), (-1023, 1023), (0, 0), ((9, 20), (30, 40))),
-            Fixed(0xF070, 0x0000),
-        ],
-        window: Shown::Part(9, 20, 30, 40),
-        told: Told::Yes(0, 6, 0),
-        ..PLAIN
-    },
-    Row {
-        body: &[
-            Place((0, 1023), (0, 1023), &[0]),
-            VctrTo(9, (-1023, 1023), (-1023, 1023), (0, 0), ((9, 20), (30, 40))),
-            Fixed(0xF070, 0x0000),
-        ],
-        window: Shown::Part(9, 20, 30, 39),
-        told: Told::Frame(Some(2), 46),
-        ..PLAIN
-    },
-    // from out of the window, but into it
-    Row {
-        body: &[
-            Place((0, 5), (0, 0), &[0]),
-            VctrTo(9, (0, 5), (0, 0), (7, 7), ((5, 6), (0, 0))),
-        ],
-        window: Shown::Part(5, 6, 0, 0),
-        told: Told::Frame(Some(1), 46),
-        ..PLAIN
-    },
-    // out of it, where the other axis has to be moved, too
-    Row {
-        body: &[
-            Place((1000, 1000), (100, 104), &[0]),
-            VctrTo(9, (20, 30), (-9, 9), (7, 7), ((0, 1024), (109, 109))),
-        ],
-        told: Told::Frame(Some(1), 46),
-        ..PLAIN
-    },
-    // behind a jump
-    Row {
-        lists: &[(0x000, 0x0FF), (0x101, 0x1FF)],
-        body: &[Place((500, 500), (100, 100), &[0])],
-        jumps: &[((0x200, 0x2FF), &[MOVE, Fixed(0xF070, 0x0000)])],
-        window: Shown::Part(451, 540, 0, 1023),
-        told: Told::Frame(Some(3), 46),
-        ..PLAIN
-    },
-];
-
-/// Sizes of up to one place to each side.
-const STEP: Ends = (-1, 1);
-
-/// The intensity of lit draws.
-const LIT: Ends = (7, 7);
+/// Sides of a rectangle that cut what is known: some frame comes just to them. At local scale 8 each of the sizes moves by half a place,
+/// halves rounded away from 0.
+const COMES_TO_CUTS: &str = "\
+window 450,540,0,1023
+place 500 500 100 100 scale 0, repeat 2 2, vctr 9 x -60 60 y 0 0 bright 0 0 to 450 540 0 1023, end, words F070
+accepted shapes=0 words=8 depth=0
+window 451,540,0,1023
+place 500 500 100 100 scale 0, repeat 2 2, vctr 9 x -60 60 y 0 0 bright 0 0 to 450 540 0 1023, end, words F070
+refused 46 at 2
+window 450,539,0,1023
+place 500 500 100 100 scale 0, repeat 2 2, vctr 9 x -60 60 y 0 0 bright 0 0 to 450 540 0 1023, end, words F070
+refused 46 at 2
+window 499,501,0,1023
+place 500 500 100 100 scale 0, vctr 8 x -3 3 y 0 0 bright 7 7 to 499 501 0 1023
+accepted shapes=0 words=5 depth=0
+window 500,501,0,1023
+place 500 500 100 100 scale 0, vctr 8 x -3 3 y 0 0 bright 7 7 to 499 501 0 1023
+refused 46 at 1
+window 499,500,0,1023
+place 500 500 100 100 scale 0, vctr 8 x -3 3 y 0 0 bright 7 7 to 499 501 0 1023
+refused 46 at 1
+; from anywhere on the screen into a small part of it
+window 9,20,30,40
+place 0 1023 0 1023 scale 0, vctr 9 x -1023 1023 y -1023 1023 bright 0 0 to 9 20 30 40, words F070
+accepted shapes=0 words=6 depth=0
+window 9,20,30,39
+place 0 1023 0 1023 scale 0, vctr 9 x -1023 1023 y -1023 1023 bright 0 0 to 9 20 30 40, words F070
+refused 46 at 2
+; from out of the window, but into it
+window 5,6,0,0
+place 0 5 0 0 scale 0, vctr 9 x 0 5 y 0 0 bright 7 7 to 5 6 0 0
+refused 46 at 1
+; out of it, where the other axis has to be moved, too
+place 1000 1000 100 104 scale 0, vctr 9 x 20 30 y -9 9 bright 7 7 to 0 1024 109 109
+refused 46 at 1
+; behind a jump
+window 451,540,0,1023
+list 000 0FF, list 101 1FF, place 500 500 100 100 scale 0, jump 200 2FF, vctr 9 x -60 60 y 0 0 bright 0 0 to 450 540 0 1023
+words F070
+refused 46 at 3";
 
 /// Draws that can't lead from some place to where they have to.
-const FINDS_STUCK: &[Row] = &[
-    // from each place, and from the one that is furthest away alone
-    Row {
-        body: &[
-            Place((10, 12), (20, 22), &[0]),
-            VctrTo(9, STEP, STEP, LIT, ((11, 11), (21, 21))),
-        ],
-        told: Told::Yes(0, 5, 0),
-        ..PLAIN
-    },
-    Row {
-        body: &[
-            Place((10, 12), (20, 22), &[0]),
-            VctrTo(9, STEP, STEP, LIT, ((12, 99), (21, 21))),
-        ],
-        told: Told::Stuck(1),
-        ..PLAIN
-    },
-    Row {
-        body: &[
-            Place((10, 12), (20, 22), &[0]),
-            VctrTo(9, STEP, STEP, LIT, ((0, 10), (21, 21))),
-        ],
-        told: Told::Stuck(1),
-        ..PLAIN
-    },
-    Row {
-        body: &[
-            Place((10, 12), (20, 22), &[0]),
-            VctrTo(9, STEP, STEP, LIT, ((11, 11), (22, 99))),
-        ],
-        told: Told::Stuck(1),
-        ..PLAIN
-    },
-    Row {
-        body: &[
-            Place((10, 12), (20, 22), &[0]),
-            VctrTo(9, STEP, STEP, LIT, ((11, 11), (0, 20))),
-        ],
-        told: Told::Stuck(1),
-        ..PLAIN
-    },
-    // where place and scale are not known, or not in each frame
-    Row {
-        body: &[VctrTo(9, STEP, STEP, LIT, ((0, 1023), (0, 1023)))],
-        told: Told::Stuck(0),
-        ..PLAIN
-    },
-    Row {
-        body: &[
-            Place((10, 10), (10, 10), &[0]),
-            Repeat(0, 1),
-            VctrTo(9, STEP, STEP, LIT, ((0, 1023), (0, 1023))),
-        ],
-        told: Told::Stuck(1),
-        ..PLAIN
-    },
-    // at one scale alone: at scale 15 the size is 1.5 places, which are 2
-    Row {
-        body: &[
-            Place((500, 500), (500, 500), &[0, 15]),
-            VctrTo(9, (3, 3), (0, 0), (7, 7), ((502, 503), (500, 500))),
-        ],
-        told: Told::Yes(0, 5, 0),
-        ..PLAIN
-    },
-    Row {
-        body: &[
-            Place((500, 500), (500, 500), &[0, 15]),
-            VctrTo(9, (3, 3), (0, 0), (7, 7), ((503, 503), (500, 500))),
-        ],
-        told: Told::Stuck(1),
-        ..PLAIN
-    },
-    // in the last turn alone
-    Row {
-        body: &[
-            Place((0, 0), (0, 0), &[0]),
-            VctrTo(9, (10, 10), (0, 0), (7, 7), ((0, 25), (0, 0))),
-            Repeat(0, 2),
-        ],
-        told: Told::Yes(0, 7, 0),
-        ..PLAIN
-    },
-    Row {
-        body: &[
-            Place((0, 0), (0, 0), &[0]),
-            VctrTo(9, (10, 10), (0, 0), (7, 7), ((0, 25), (0, 0))),
-            Repeat(0, 3),
-        ],
-        told: Told::Stuck(1),
-        ..PLAIN
-    },
-    // the first of two
-    Row {
-        body: &[
-            Place((10, 10), (10, 10), &[0]),
-            VctrTo(9, STEP, STEP, LIT, ((10, 10), (10, 10))),
-            VctrTo(9, STEP, STEP, LIT, ((99, 99), (99, 99))),
-            VctrTo(9, STEP, STEP, LIT, ((0, 0), (0, 0))),
-            Either,
-        ],
-        told: Told::Stuck(2),
-        ..PLAIN
-    },
-    // 57 before it, and it before 46 and 25
-    Row {
-        lists: &[(0x000, 0x001)],
-        body: &[VctrTo(9, STEP, STEP, LIT, ((0, 1023), (0, 1023)))],
-        told: Told::TooLong(1),
-        ..PLAIN
-    },
-    Row {
-        body: &[
-            Place((1020, 1020), (0, 0), &[0]),
-            Call(&[0x810]),
-            Call(&[0x850]),
-            VctrTo(9, STEP, STEP, LIT, ((0, 10), (0, 10))),
-        ],
-        told: Told::Stuck(3),
-        ..PLAIN
-    },
-    // 60 to 62 before it
-    Row {
-        body: &[
-            Place((10, 10), (10, 10), &[0]),
-            VctrTo(9, STEP, STEP, LIT, ((10, 10), (10, 10))),
-            VctrTo(9, STEP, STEP, LIT, ((99, 99), (99, 99))),
-            Either,
-            Call(&[0x870]),
-        ],
-        told: Told::Unmade(3, 0x870, Key::At(0), EntryFault::Unstraight { word: 0x870 }),
-        ..PLAIN
-    },
-];
-
-/// A draw of up to 60 places to the right, which has to lead to X 100, or up to 30 places further.
-const TO_100: Step = VctrTo(9, (0, 60), (0, 0), (0, 0), ((100, 130), (100, 100)));
+const FINDS_STUCK: &str = "\
+; from each place, and from the one that is furthest away alone
+place 10 12 20 22 scale 0, vctr 9 x -1 1 y -1 1 bright 7 7 to 11 11 21 21
+accepted shapes=0 words=5 depth=0
+place 10 12 20 22 scale 0, vctr 9 x -1 1 y -1 1 bright 7 7 to 12 99 21 21
+refused 59 at 1
+place 10 12 20 22 scale 0, vctr 9 x -1 1 y -1 1 bright 7 7 to 0 10 21 21
+refused 59 at 1
+place 10 12 20 22 scale 0, vctr 9 x -1 1 y -1 1 bright 7 7 to 11 11 22 99
+refused 59 at 1
+place 10 12 20 22 scale 0, vctr 9 x -1 1 y -1 1 bright 7 7 to 11 11 0 20
+refused 59 at 1
+; where place and scale are not known, or not in each frame
+vctr 9 x -1 1 y -1 1 bright 7 7 to 0 1023 0 1023
+refused 59 at 0
+repeat 0 1, place 10 10 10 10 scale 0, end, vctr 9 x -1 1 y -1 1 bright 7 7 to 0 1023 0 1023
+refused 59 at 1
+; at one scale alone: at scale 15 the size is 1.5 places, which are 2
+place 500 500 500 500 scale 0 15, vctr 9 x 3 3 y 0 0 bright 7 7 to 502 503 500 500
+accepted shapes=0 words=5 depth=0
+place 500 500 500 500 scale 0 15, vctr 9 x 3 3 y 0 0 bright 7 7 to 503 503 500 500
+refused 59 at 1
+; in the last turn alone
+place 0 0 0 0 scale 0, repeat 0 2, vctr 9 x 10 10 y 0 0 bright 7 7 to 0 25 0 0, end
+accepted shapes=0 words=7 depth=0
+place 0 0 0 0 scale 0, repeat 0 3, vctr 9 x 10 10 y 0 0 bright 7 7 to 0 25 0 0, end
+refused 59 at 1
+; the first of two
+place 10 10 10 10 scale 0, vctr 9 x -1 1 y -1 1 bright 7 7 to 10 10 10 10, either, vctr 9 x -1 1 y -1 1 bright 7 7 to 99 99 99 99
+or, vctr 9 x -1 1 y -1 1 bright 7 7 to 0 0 0 0, end
+refused 59 at 2
+; 57 before it, and it before 46 and 25
+list 000 001, vctr 9 x -1 1 y -1 1 bright 7 7 to 0 1023 0 1023
+refused 57 at 1
+place 1020 1020 0 0 scale 0, call 810, call 850, vctr 9 x -1 1 y -1 1 bright 7 7 to 0 10 0 10
+refused 59 at 3
+; 60 to 62 before it
+place 10 10 10 10 scale 0, either, vctr 9 x -1 1 y -1 1 bright 7 7 to 10 10 10 10, or
+vctr 9 x -1 1 y -1 1 bright 7 7 to 99 99 99 99, end, call 870
+unmade at 3: 870/0, no shape can have the item at 870";
 
 /// Calls before draws that have to lead somewhere, and behind them.
-const KNOWS_CALLS: &[Row] = &[
-    // a shape that goes 30 places to the left, and one that stays
-    Row {
-        body: &[
-            Place((100, 100), (100, 100), &[0]),
-            Call(&[0x8B0, 0x800]),
-            TO_100,
-            Fixed(0xF070, 0x0000),
-        ],
-        window: Shown::Part(100, 130, 100, 100),
-        told: Told::Yes(2, 10, 1),
-        ..PLAIN
-    },
-    Row {
-        body: &[
-            Place((100, 100), (100, 100), &[0]),
-            Call(&[0x800, 0x8B0]),
-            TO_100,
-            Fixed(0xF070, 0x0000),
-        ],
-        window: Shown::Part(100, 129, 100, 100),
-        told: Told::Frame(Some(3), 46),
-        ..PLAIN
-    },
-    Row {
-        body: &[
-            Place((100, 100), (100, 100), &[0]),
-            Call(&[0x8B0]),
-            TO_100,
-            Fixed(0xF070, 0x0000),
-        ],
-        window: Shown::Part(101, 130, 100, 100),
-        told: Told::Frame(Some(3), 46),
-        ..PLAIN
-    },
-    // one that goes to 512, 512 at scale 2
-    Row {
-        body: &[
-            Place((100, 100), (100, 100), &[0]),
-            Call(&[0x840]),
-            VctrTo(7, (-9, 9), (-9, 9), (7, 7), ((511, 513), (510, 512))),
-        ],
-        window: Shown::Part(511, 513, 510, 512),
-        told: Told::Yes(1, 9, 1),
-        ..PLAIN
-    },
-    // the deepest calls behind such a draw
-    Row {
-        body: &[
-            Place((512, 512), (512, 512), &[0]),
-            VctrTo(9, (-9, 9), (5, 9), (7, 7), ((505, 505), (517, 518))),
-            Call(&[0x898]),
-        ],
-        told: Told::Yes(4, 14, 4),
-        ..PLAIN
-    },
-    // 25 behind one
-    Row {
-        body: &[
-            Place((512, 512), (512, 512), &[0]),
-            VctrTo(9, (-9, 9), (5, 9), (7, 7), ((505, 505), (517, 518))),
-            Call(&[0x850]),
-        ],
-        told: Told::Shape(25, 0x850, Key::At(0), 0x852),
-        ..PLAIN
-    },
-    // a call that can't be made moves nothing, and what is called behind it does
-    Row {
-        body: &[
-            Place((100, 100), (100, 100), &[0]),
-            Call(&[0x878]),
-            TO_100,
-            Place((100, 100), (100, 100), &[0]),
-            Call(&[0x8B0]),
-            TO_100,
-        ],
-        told: Told::Unmade(1, 0x878, Key::At(0), EntryFault::Unstraight { word: 0x87A }),
-        ..PLAIN
-    },
-    Row {
-        body: &[
-            Place((100, 100), (100, 100), &[0]),
-            Call(&[0x8B0]),
-            TO_100,
-            Then,
-            Repeat(1, 3),
-            Call(&[0x878]),
-        ],
-        told: Told::Unmade(3, 0x878, Key::At(0), EntryFault::Unstraight { word: 0x87A }),
-        ..PLAIN
-    },
-];
+const KNOWS_CALLS: &str = "\
+; a shape that goes 30 places to the left, and one that stays
+window 100,130,100,100
+place 100 100 100 100 scale 0, call 8B0 800, vctr 9 x 0 60 y 0 0 bright 0 0 to 100 130 100 100, words F070
+accepted shapes=2 words=10 depth=1
+window 100,129,100,100
+place 100 100 100 100 scale 0, call 800 8B0, vctr 9 x 0 60 y 0 0 bright 0 0 to 100 130 100 100, words F070
+refused 46 at 3
+window 101,130,100,100
+place 100 100 100 100 scale 0, call 8B0, vctr 9 x 0 60 y 0 0 bright 0 0 to 100 130 100 100, words F070
+refused 46 at 3
+; one that goes to 512, 512 at scale 2
+window 511,513,510,512
+place 100 100 100 100 scale 0, call 840, vctr 7 x -9 9 y -9 9 bright 7 7 to 511 513 510 512
+accepted shapes=1 words=9 depth=1
+; the deepest calls behind such a draw
+place 512 512 512 512 scale 0, vctr 9 x -9 9 y 5 9 bright 7 7 to 505 505 517 518, call 898
+accepted shapes=4 words=14 depth=4
+; 25 behind one
+place 512 512 512 512 scale 0, vctr 9 x -9 9 y 5 9 bright 7 7 to 505 505 517 518, call 850
+refused 25 shape 850/0 at 852
+; a call that can't be made moves nothing, and what is called behind it does
+place 100 100 100 100 scale 0, call 878, vctr 9 x 0 60 y 0 0 bright 0 0 to 100 130 100 100, place 100 100 100 100 scale 0
+call 8B0, vctr 9 x 0 60 y 0 0 bright 0 0 to 100 130 100 100
+unmade at 1: 878/0, no shape can have the item at 87A
+place 100 100 100 100 scale 0, repeat 1 3, call 8B0, vctr 9 x 0 60 y 0 0 bright 0 0 to 100 130 100 100, end, call 878
+unmade at 3: 878/0, no shape can have the item at 87A";
 
 #[test]
 fn keeps_bounds(rt: HostRuntime) {
@@ -451,29 +173,43 @@ fn knows_calls(rt: HostRuntime) {
     expect_told(&rt, rt.alloc(), ROM, KNOWS_CALLS);
 }
 
-/// Draws, and whether a recipe may have them.
-const LIMITS: &[(Step, bool)] = &[
-    (
-        VctrTo(9, STEP, STEP, LIT, ((-2048, 2047), (-2048, 2047))),
-        true,
-    ),
-    (VctrTo(9, STEP, STEP, LIT, ((-2049, 0), (0, 0))), false),
-    (VctrTo(9, STEP, STEP, LIT, ((0, 2048), (0, 0))), false),
-    (VctrTo(9, STEP, STEP, LIT, ((0, 0), (-2049, 0))), false),
-    (VctrTo(9, STEP, STEP, LIT, ((0, 0), (0, 2048))), false),
-    (VctrTo(9, STEP, STEP, LIT, ((1, 0), (0, 0))), false),
-    (VctrTo(9, STEP, STEP, LIT, ((0, 0), (1, 0))), false),
-    // an SVEC leads nowhere
-    (SvecTo(3, (0, 256), (0, 0), (7, 7), ((0, 9), (0, 9))), false),
+/// Ends of rectangles, X before Y, and whether a VCTR may have to lead there.
+const RECTANGLES: &[((i16, i16), (i16, i16), bool)] = &[
+    ((-2048, 2047), (-2048, 2047), true),
+    ((-2049, 0), (0, 0), false),
+    ((0, 2048), (0, 0), false),
+    ((0, 0), (-2049, 0), false),
+    ((0, 0), (0, 2048), false),
+    ((1, 0), (0, 0), false),
+    ((0, 0), (1, 0), false),
 ];
+
+/// Stops the test unless a recipe may have a draw of a format that has to lead to this rectangle, or not.
+fn expect_rectangle(
+    rt: &impl Abort,
+    alloc: Global,
+    (format, lscale): (Format, u8),
+    (x, y): ((i16, i16), (i16, i16)),
+    fits: bool,
+) {
+    let to = PlaceSpan {
+        x: span(x.0, x.1),
+        y: span(y.0, y.1),
+    };
+    let sizes = (span(0, 0), span(0, 0));
+    let draw = draw_to(format, lscale, sizes, span(7, 7), Some(to));
+    let body = row(alloc, 0, draw).expect(rt, "memory for a row");
+    let recipe = straight(alloc, &[(0x000, 0x0FF)], body, 1).expect(rt, "memory for the recipe");
+    expect_same(rt, &recipe.is_some(), &fits, &(x, y));
+}
 
 #[test]
 fn limits_rectangles(rt: HostRuntime) {
-    for (step, fits) in LIMITS {
-        let recipe = recipe_of(rt.alloc(), &[(0x000, 0x0FF)], &[*step], &[]);
-        let recipe = recipe.expect(&rt, "memory for the recipe");
-        expect_same(&rt, &recipe.is_some(), fits, step);
+    for &(x, y, fits) in RECTANGLES {
+        expect_rectangle(&rt, rt.alloc(), (Format::Long, 9), (x, y), fits);
     }
+    // an SVEC leads nowhere
+    expect_rectangle(&rt, rt.alloc(), (Format::Short, 3), ((0, 9), (0, 9)), false);
 }
 
 /// Hills that stay in their bounds up to a draw, and hills that don't.
@@ -527,30 +263,26 @@ const CALLS: &[[u16; 6]] = &[
 
 /// Where the draw leads behind each of the calls: a shape that goes 30 places to the left, one that goes to 512, 512, and one whose entry
 /// can't be made.
-const ENDS: &[(i16, i16)] = &[(70, 100), (512, 512), (100, 100)];
+const ENDS: &[&str] = &["70 70 100 100", "512 512 512 512", "100 100 100 100"];
 
-/// Stops the test unless these frames belong to the recipe that these steps make, over the shapes of `ROM`, or leave it, as their rows say.
-fn expect_members(rt: &impl Abort, alloc: Global, steps: &[Step], rows: &[Member]) {
-    let recipe = recipe_of(alloc, &[(0x000, 0x0FF)], steps, &[]);
-    let recipe = recipe.expect(rt, "memory for the recipe");
-    let recipe = recipe.expect(rt, "a recipe");
-    expect_rows(rt, alloc, ROM, &recipe, rows);
+/// Stops the test unless these frames belong to the recipe of these lines, over the shapes of `ROM`, or leave it, as their rows say.
+fn expect_members(rt: &impl Abort, alloc: Global, lines: &str, rows: &[Member]) {
+    let read = read_lines(rt, alloc, lines);
+    expect_rows(rt, alloc, ROM, &read.recipe, rows);
 }
 
 #[test]
 fn tells_hills(rt: HostRuntime) {
-    let steps = [Place((0, 0), (200, 200), &[0]), HILL, Repeat(0, 85)];
-    expect_members(&rt, rt.alloc(), &steps, HILLS);
+    let lines =
+        "place 0 0 200 200 scale 0, repeat 0 85, vctr 9 x 12 12 y -60 60 bright 7 7 to 0 1023 80 320, end";
+    expect_members(&rt, rt.alloc(), lines, HILLS);
 }
 
 /// Stops the test unless behind just one of the calls the draw leads to this place.
-fn expect_end(rt: &impl Abort, alloc: Global, at: usize, end: (i16, i16)) {
-    let (x, y) = end;
-    let steps = [
-        Place((100, 100), (100, 100), &[0]),
-        Call(&[0x8B0, 0x840, 0x870]),
-        VctrTo(9, (0, 0), (0, 0), (0, 0), ((x, x), (y, y))),
-    ];
+fn expect_end(rt: &impl Abort, alloc: Global, at: usize, end: &str) {
+    let lines = format!(in alloc;
+        "place 100 100 100 100 scale 0, call 8B0 840 870, vctr 9 x 0 0 y 0 0 bright 0 0 to {end}"
+    ).expect(rt, "memory for the lines");
     for (index, words) in CALLS.iter().enumerate() {
         let leaves: Option<(u16, &[u16])> = if index == at {
             None
@@ -558,14 +290,14 @@ fn expect_end(rt: &impl Abort, alloc: Global, at: usize, end: (i16, i16)) {
             Some((0x003, &[2]))
         };
         let parts: [Part; 1] = [(0x000, words)];
-        expect_members(rt, alloc, &steps, &[(6, &parts, leaves)]);
+        expect_members(rt, alloc, &lines, &[(6, &parts, leaves)]);
     }
 }
 
 #[test]
 fn tells_ends_of_calls(rt: HostRuntime) {
     for (at, end) in ENDS.iter().enumerate() {
-        expect_end(&rt, rt.alloc(), at, *end);
+        expect_end(&rt, rt.alloc(), at, end);
     }
 }
 
@@ -573,10 +305,6 @@ fn tells_ends_of_calls(rt: HostRuntime) {
 fn tells_lost_places(rt: HostRuntime) {
     // at word 000 neither place nor scale is known
     let rows: &[Member] = &[(3, &[(0, &[0x9000, 0x0000, 0xB000])], Some((0x000, &[0])))];
-    expect_members(
-        &rt,
-        rt.alloc(),
-        &[VctrTo(9, STEP, STEP, LIT, ((-2048, 2047), (-2048, 2047)))],
-        rows,
-    );
+    let lines = "vctr 9 x -1 1 y -1 1 bright 7 7 to -2048 2047 -2048 2047";
+    expect_members(&rt, rt.alloc(), lines, rows);
 }

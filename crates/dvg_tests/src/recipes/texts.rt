@@ -1,6 +1,7 @@
 //! Texts of recipes that are read or refused: rows that a program in Python, written apart from this one, gave.
 
 use crate::expecting::expect_same;
+use crate::table::text_of_lines;
 use dvg_labels::read_labels;
 use dvg_recipe_text::{RecipeTextFault, RecipeTextWhy, read_recipe};
 use std::alloc::{AllocError, Global};
@@ -13,155 +14,169 @@ pub const H: &[u8] = b"dvgrecipe 1\nlist 001 3FF\n";
 pub const LABELS: &[u8] =
     b"ROCK = $5300\nSAUCER = $5366\nLIST = $400A\nTWICE = $5300\nTWICE = $5302\n";
 
-/// A text, as pieces that stand there so many times, and the number of its recipe's pieces, or of its refusal and that one's line.
+/// Texts, with `|` for each LF and `+` for the first two lines of most. Before each stand `ok` and the number of its recipe's pieces, or the
+/// number of its refusal and that one's line.
+const TEXTS: &str = "\
+53 1 dvgrecipe 1
+53 2 dvgrecipe 1|
+51 1 dvgrecipe 2|
+51 1  dvgrecipe 1|
+51 1 |dvgrecipe 1|
+ok 1 +halt|
+ok 1 +halt||; end|  |
+54 4 +halt|halt|
+54 5 +halt| ; |x|
+53 4 +halt|; no LF
+53 3 +halt
+51 2 dvgrecipe 1|halt|
+51 2 dvgrecipe 1|list 001 000|
+51 2 dvgrecipe 1|list 001 400|
+51 3 dvgrecipe 1|list 001 1FF|list 1FF 3FF|
+ok 1 dvgrecipe 1|list 001 1FF|list 201 3FF|halt|
+ok 1 dvgrecipe 1|list 000 3FF|halt|
+ok 2 +place 0 0 0 0 scale 0|halt|
+51 3 +place 0 0 0 0 scale|halt|
+51 3 +place 0 0 0 0 scale 16|
+51 3 +place 0 0 0 0 scale 1 0|
+51 3 +place 0 0 0 0 scale 1 1|
+51 3 +place 1 0 0 0 scale 1|
+51 3 +place 00 0 0 0 scale 1|
+51 3 +place -0 0 0 0 scale 1|
+ok 2 +place -2048 2047 -2048 2047 scale 1|halt|
+51 3 +place -2049 0 0 0 scale 1|
+51 3 +place  0 0 0 0 scale 1|
+51 3 +place 0 0 0 0 scale 1 |
+51 3 +\tplace 0 0 0 0 scale 1|
+51 3 +place 0 0 0 0 scale 1\r|
+ok 2 +    place 0 0 0 0 scale 1|halt|
+ok 2 +call 800|halt|
+51 3 +call 80|
+52 3 +call ROCK|
+ok 2 +shapes ROCK 800 801|call ROCK 802|halt|
+52 4 +shapes ROCK 800|shapes ROCK 801|
+51 3 +shapes ABC 800|
+52 3 +shapes ROCK STONE|
+51 4 +call 800|shapes ROCK 800|
+51 3 +shapes ROCK|
+51 3 +call 80a|
+51 3 +call|
+ok 3 +words F872 9000 F000|halt|
+51 3 +words 9000|
+51 3 +words B000|
+51 3 +words D000|
+51 3 +words E300|
+ok 3 +words A000 0000 C800|halt|
+51 3 +words f872|
+51 3 +words|
+ok 2 +vctr 9 x 0 1 y -1 0 bright 0 15|halt|
+51 3 +vctr 10 x 0 1 y -1 0 bright 0 15|
+51 3 +vctr 9 x 0 1024 y -1 0 bright 0 15|
+ok 2 +vctr 9 x 0 1 y -1 0 bright 0 15 to 0 1023 0 1023|halt|
+51 3 +svec 3 x 0 1 y -1 0 bright 0 15 to 0 1023 0 1023|
+ok 2 +svec 3 x -3 3 y -3 3 bright 0 15|halt|
+51 3 +svec 4 x -3 3 y -3 3 bright 0 15|
+51 3 +svec 3 x -4 3 y -3 3 bright 0 15|
+51 4 +repeat 0 1|halt|
+51 4 +repeat 0 1|end|
+51 3 +repeat 0 0|
+51 3 +repeat 2 1|
+51 3 +repeat 0 1024|
+ok 2 +repeat 0 1023|call 800|end|halt|
+ok 3 +either|call 800|or|call 801|end|halt|
+51 4 +either|or|
+51 3 +or|
+51 3 +end|
+51 5 +repeat 0 1|call 800|or|
+ok 2 +either|call 800|end|halt|
+51 3 +jump 300 3FF|
+ok 2 dvgrecipe 1|list 001 1FF|jump 200 3FF|halt|
+51 4 dvgrecipe 1|list 001 1FF|repeat 0 1|jump 200 3FF|
+51 3 dvgrecipe 1|list 001 1FF|jump 1FF 3FF|
+53 6 +call 800|repeat 0 1|call 800|
+51 10 dvgrecipe 1|list 000 000|list 001 001|list 002 002|list 003 003|list 004 004|list 005 005|list 006 006|list 007 007|list 008 008|
+51 3 +words C800 A000|
+51 3 +words F000 9000|halt|
+51 3 +words A000|halt|
+51 3 +words C800 B000|halt|
+ok 2 +words 0000 0000|halt|
+ok 5 +words A800 0800 9FFF FFFF FFFF CFFF|halt|
+51 3 +words F8720|
+ok 2 +shapes A 800|shapes B A 801 A|call B 802 801|halt|
+52 4 +shapes A 800| call B|
+ok 2 +shapes A 800 800|call A A|halt|
+51 3 +shapes A 80|
+52 3 +shapes A A|
+51 3 +shapes 1A 800|
+ok 1 +shapes A_9 800|halt|
+ok 2 +shapes bad 800|call bad|halt|
+51 3 +shapes A-B 800|
+ok 2 +call 800 801|halt|
+51 3 +call  800|
+51 3 +call 800 |
+ok 2 +place 0 0 0 0 scale 0 1 2 3 4 5 6 7 8 9 10 11 12 13 14 15|halt|
+51 3 +place 0 0 0 0 scale 01|
+51 3 +place 0 0 0 0 scales 1|
+51 3 +place 0 2048 0 0 scale 1|
+51 3 +place 0 0 0 2048 scale 1|
+51 3 +place 0 0 1 0 scale 1|
+51 3 +place -5 -6 0 0 scale 1|
+51 3 +place - 0 0 0 scale 1|
+51 3 +place +1 1 0 0 scale 1|
+ok 2 +vctr 9 x -1023 1023 y -1023 1023 bright 0 15|halt|
+51 3 +vctr 9 x -1024 0 y 0 0 bright 0 15|
+51 3 +vctr 9 x 0 0 y 0 1024 bright 0 15|
+51 3 +vctr 9 x 0 0 y 0 0 bright 0 16|
+51 3 +vctr 9 x 0 0 y 0 0 bright 2 1|
+51 3 +vctr 9 y 0 0 x 0 0 bright 0 1|
+51 3 +vctr 9 x 0 0 y 0 0 bright 0|
+51 3 +vctr 9 x 0 0 y 0 0 bright 0 1 0|
+ok 2 +svec 0 x -3 -3 y 3 3 bright 15 15|halt|
+51 3 +svec 0 x 0 0 y 0 4 bright 0 0|
+51 3 +svec 0 x 1 0 y 0 0 bright 0 0|
+ok 2 +repeat 1023 1023|call 800|end|halt|
+51 3 +repeat 1 1 1|
+51 3 +repeat 1|
+51 3 +end 1|
+51 3 +either 1|
+51 3 +halt 1|
+51 5 +either|call 800|or 1|
+51 6 +either|call 800|or|end|
+51 4 +either|end|
+51 4 +either|halt|
+51 3 +list 001 3FF|
+51 4 +shapes A 800|list 001 3FF|
+54 4 +halt|end|
+51 4 +halt|\t|
+ok 3 dvgrecipe 1|list 000 000|jump 001 001|jump 002 3FF|halt|
+51 3 dvgrecipe 1|list 000 000|jump 002 001|
+51 3 dvgrecipe 1|list 000 000|jump 001 400|
+51 3 dvgrecipe 1|list 000 000|jump 001 001 1|
+51 5 dvgrecipe 1|list 000 000|jump 001 001|call 800|jump 001 002|
+51 4 dvgrecipe 1|list 000 000|either|jump 001 001|
+ok 4 dvgrecipe 1|list 000 000|repeat 1 2|call 800|end|jump 001 001|call 801|halt|
+51 2 dvgrecipe 1|list 000 000 |
+51 2 dvgrecipe 1|list 00a 00B|
+51 2 dvgrecipe 1|list 0000 001|
+51 2 dvgrecipe 1|list 000|
+51 2 dvgrecipe 1|shapes A 800|
+ok 1 dvgrecipe 1|list 000 000|list 001 001|list 002 002|list 003 003|list 004 004|list 005 005|list 006 006|list 007 007|halt|
+51 1 dvgrecipe 1 |
+51 1 dvgrecipe 1\r|
+51 1 |
+51 1 ; dvgrecipe 1|
+51 4 +halt|x\t|
+53 4 +halt|x";
+
+/// A line of 38 words.
+const W: &[u8] =
+    b"words F000 F000 F000 F000 F000 F000 F000 F000 F000 F000 F000 F000 F000 F000 F000 F000 F000 F000 F000 F000 F000 F000 F000 F000 F000 F000 F000 F000 F000 F000 F000 F000 F000 F000 F000 F000 F000 F000\n";
+
+/// A text, as pieces that stand there so many times, and what is answered.
 type Row<'a> = (&'a [(&'a [u8], usize)], Result<usize, (u8, u32)>);
 
-const FIRST_ROWS: &[Row] = &[
+/// Texts of pieces that stand there more than once, and those that are no UTF-8 or empty.
+const REPEATED: &[Row] = &[
     (&[], Err((53, 1))),
-    (&[(b"dvgrecipe 1", 1)], Err((53, 1))),
-    (&[(b"dvgrecipe 1\n", 1)], Err((53, 2))),
-    (&[(b"dvgrecipe 2\n", 1)], Err((51, 1))),
-    (&[(b" dvgrecipe 1\n", 1)], Err((51, 1))),
-    (&[(b"\ndvgrecipe 1\n", 1)], Err((51, 1))),
-    (&[(H, 1), (b"halt\n", 1)], Ok(1)),
-    (&[(H, 1), (b"halt\n\n; end\n  \n", 1)], Ok(1)),
-    (&[(H, 1), (b"halt\nhalt\n", 1)], Err((54, 4))),
-    (&[(H, 1), (b"halt\n ; \nx\n", 1)], Err((54, 5))),
-    (&[(H, 1), (b"halt\n; no LF", 1)], Err((53, 4))),
-    (&[(H, 1), (b"halt", 1)], Err((53, 3))),
-    (&[(b"dvgrecipe 1\nhalt\n", 1)], Err((51, 2))),
-    (&[(b"dvgrecipe 1\nlist 001 000\n", 1)], Err((51, 2))),
-    (&[(b"dvgrecipe 1\nlist 001 400\n", 1)], Err((51, 2))),
-    (
-        &[(b"dvgrecipe 1\nlist 001 1FF\nlist 1FF 3FF\n", 1)],
-        Err((51, 3)),
-    ),
-    (
-        &[(b"dvgrecipe 1\nlist 001 1FF\nlist 201 3FF\nhalt\n", 1)],
-        Ok(1),
-    ),
-    (&[(b"dvgrecipe 1\nlist 000 3FF\nhalt\n", 1)], Ok(1)),
-    (&[(H, 1), (b"place 0 0 0 0 scale 0\nhalt\n", 1)], Ok(2)),
-    (&[(H, 1), (b"place 0 0 0 0 scale\nhalt\n", 1)], Err((51, 3))),
-    (&[(H, 1), (b"place 0 0 0 0 scale 16\n", 1)], Err((51, 3))),
-    (&[(H, 1), (b"place 0 0 0 0 scale 1 0\n", 1)], Err((51, 3))),
-    (&[(H, 1), (b"place 0 0 0 0 scale 1 1\n", 1)], Err((51, 3))),
-    (&[(H, 1), (b"place 1 0 0 0 scale 1\n", 1)], Err((51, 3))),
-    (&[(H, 1), (b"place 00 0 0 0 scale 1\n", 1)], Err((51, 3))),
-    (&[(H, 1), (b"place -0 0 0 0 scale 1\n", 1)], Err((51, 3))),
-    (
-        &[(H, 1), (b"place -2048 2047 -2048 2047 scale 1\nhalt\n", 1)],
-        Ok(2),
-    ),
-    (&[(H, 1), (b"place -2049 0 0 0 scale 1\n", 1)], Err((51, 3))),
-    (&[(H, 1), (b"place  0 0 0 0 scale 1\n", 1)], Err((51, 3))),
-    (&[(H, 1), (b"place 0 0 0 0 scale 1 \n", 1)], Err((51, 3))),
-    (&[(H, 1), (b"\tplace 0 0 0 0 scale 1\n", 1)], Err((51, 3))),
-    (&[(H, 1), (b"place 0 0 0 0 scale 1\r\n", 1)], Err((51, 3))),
-    (&[(H, 1), (b"    place 0 0 0 0 scale 1\nhalt\n", 1)], Ok(2)),
-    (&[(H, 1), (b"call 800\nhalt\n", 1)], Ok(2)),
-    (&[(H, 1), (b"call 80\n", 1)], Err((51, 3))),
-    (&[(H, 1), (b"call ROCK\n", 1)], Err((52, 3))),
-    (
-        &[(H, 1), (b"shapes ROCK 800 801\ncall ROCK 802\nhalt\n", 1)],
-        Ok(2),
-    ),
-    (
-        &[(H, 1), (b"shapes ROCK 800\nshapes ROCK 801\n", 1)],
-        Err((52, 4)),
-    ),
-];
-
-const SECOND_ROWS: &[Row] = &[
-    (&[(H, 1), (b"shapes ABC 800\n", 1)], Err((51, 3))),
-    (&[(H, 1), (b"shapes ROCK STONE\n", 1)], Err((52, 3))),
-    (&[(H, 1), (b"call 800\nshapes ROCK 800\n", 1)], Err((51, 4))),
-    (&[(H, 1), (b"shapes ROCK\n", 1)], Err((51, 3))),
-    (&[(H, 1), (b"call 80a\n", 1)], Err((51, 3))),
-    (&[(H, 1), (b"call\n", 1)], Err((51, 3))),
-    (&[(H, 1), (b"words F872 9000 F000\nhalt\n", 1)], Ok(3)),
-    (&[(H, 1), (b"words 9000\n", 1)], Err((51, 3))),
-    (&[(H, 1), (b"words B000\n", 1)], Err((51, 3))),
-    (&[(H, 1), (b"words D000\n", 1)], Err((51, 3))),
-    (&[(H, 1), (b"words E300\n", 1)], Err((51, 3))),
-    (&[(H, 1), (b"words A000 0000 C800\nhalt\n", 1)], Ok(3)),
-    (&[(H, 1), (b"words f872\n", 1)], Err((51, 3))),
-    (&[(H, 1), (b"words\n", 1)], Err((51, 3))),
-    (
-        &[(H, 1), (b"vctr 9 x 0 1 y -1 0 bright 0 15\nhalt\n", 1)],
-        Ok(2),
-    ),
-    (
-        &[(H, 1), (b"vctr 10 x 0 1 y -1 0 bright 0 15\n", 1)],
-        Err((51, 3)),
-    ),
-    (
-        &[(H, 1), (b"vctr 9 x 0 1024 y -1 0 bright 0 15\n", 1)],
-        Err((51, 3)),
-    ),
-    (
-        &[
-            (H, 1),
-            (
-                b"vctr 9 x 0 1 y -1 0 bright 0 15 to 0 1023 0 1023\nhalt\n",
-                1,
-            ),
-        ],
-        Ok(2),
-    ),
-    (
-        &[
-            (H, 1),
-            (b"svec 3 x 0 1 y -1 0 bright 0 15 to 0 1023 0 1023\n", 1),
-        ],
-        Err((51, 3)),
-    ),
-    (
-        &[(H, 1), (b"svec 3 x -3 3 y -3 3 bright 0 15\nhalt\n", 1)],
-        Ok(2),
-    ),
-    (
-        &[(H, 1), (b"svec 4 x -3 3 y -3 3 bright 0 15\n", 1)],
-        Err((51, 3)),
-    ),
-    (
-        &[(H, 1), (b"svec 3 x -4 3 y -3 3 bright 0 15\n", 1)],
-        Err((51, 3)),
-    ),
-    (&[(H, 1), (b"repeat 0 1\nhalt\n", 1)], Err((51, 4))),
-    (&[(H, 1), (b"repeat 0 1\nend\n", 1)], Err((51, 4))),
-    (&[(H, 1), (b"repeat 0 0\n", 1)], Err((51, 3))),
-    (&[(H, 1), (b"repeat 2 1\n", 1)], Err((51, 3))),
-    (&[(H, 1), (b"repeat 0 1024\n", 1)], Err((51, 3))),
-    (
-        &[(H, 1), (b"repeat 0 1023\ncall 800\nend\nhalt\n", 1)],
-        Ok(2),
-    ),
-    (
-        &[(H, 1), (b"either\ncall 800\nor\ncall 801\nend\nhalt\n", 1)],
-        Ok(3),
-    ),
-    (&[(H, 1), (b"either\nor\n", 1)], Err((51, 4))),
-    (&[(H, 1), (b"or\n", 1)], Err((51, 3))),
-    (&[(H, 1), (b"end\n", 1)], Err((51, 3))),
-    (&[(H, 1), (b"repeat 0 1\ncall 800\nor\n", 1)], Err((51, 5))),
-    (&[(H, 1), (b"either\ncall 800\nend\nhalt\n", 1)], Ok(2)),
-    (&[(H, 1), (b"jump 300 3FF\n", 1)], Err((51, 3))),
-    (
-        &[(b"dvgrecipe 1\nlist 001 1FF\njump 200 3FF\nhalt\n", 1)],
-        Ok(2),
-    ),
-    (
-        &[(b"dvgrecipe 1\nlist 001 1FF\nrepeat 0 1\njump 200 3FF\n", 1)],
-        Err((51, 4)),
-    ),
-    (
-        &[(b"dvgrecipe 1\nlist 001 1FF\njump 1FF 3FF\n", 1)],
-        Err((51, 3)),
-    ),
-];
-
-const THIRD_ROWS: &[Row] = &[
     (&[(H, 1), (b"; ", 1), (b"a", 196), (b"\nhalt\n", 1)], Ok(1)),
     (&[(H, 1), (b"; ", 1), (b"a", 197), (b"\nhalt\n", 1)], Ok(1)),
     (
@@ -182,62 +197,9 @@ const THIRD_ROWS: &[Row] = &[
     (&[(H, 1), (b"repeat 0 1\n", 17)], Err((55, 19))),
     (&[(H, 1), (b";\n", 4093), (b"halt\n", 1)], Ok(1)),
     (&[(H, 1), (b";\n", 4094), (b"halt\n", 1)], Err((55, 4097))),
-    (
-        &[
-            (H, 1),
-            (
-                b"words F000 F000 F000 F000 F000 F000 F000 F000 F000 F000 F000 F000 F000 F000 F000 F000 F000 F000 F000 F000 F000 F000 F000 F000 F000 F000 F000 F000 F000 F000 F000 F000 F000 F000 F000 F000 F000 F000\n",
-                107,
-            ),
-            (b"halt\n", 1),
-        ],
-        Ok(4067),
-    ),
-    (
-        &[
-            (H, 1),
-            (
-                b"words F000 F000 F000 F000 F000 F000 F000 F000 F000 F000 F000 F000 F000 F000 F000 F000 F000 F000 F000 F000 F000 F000 F000 F000 F000 F000 F000 F000 F000 F000 F000 F000 F000 F000 F000 F000 F000 F000\n",
-                108,
-            ),
-            (b"halt\n", 1),
-        ],
-        Err((55, 110)),
-    ),
+    (&[(H, 1), (W, 107), (b"halt\n", 1)], Ok(4067)),
+    (&[(H, 1), (W, 108), (b"halt\n", 1)], Err((55, 110))),
     (&[(H, 1), (b"\x80\n", 1)], Err((51, 3))),
-    (
-        &[(H, 1), (b"call 800\nrepeat 0 1\ncall 800\n", 1)],
-        Err((53, 6)),
-    ),
-    (
-        &[(
-            b"dvgrecipe 1\nlist 000 000\nlist 001 001\nlist 002 002\nlist 003 003\nlist 004 004\nlist 005 005\nlist 006 006\nlist 007 007\nlist 008 008\n",
-            1,
-        )],
-        Err((51, 10)),
-    ),
-    (&[(H, 1), (b"words C800 A000\n", 1)], Err((51, 3))),
-    (&[(H, 1), (b"words F000 9000\nhalt\n", 1)], Err((51, 3))),
-    (&[(H, 1), (b"words A000\nhalt\n", 1)], Err((51, 3))),
-    (&[(H, 1), (b"words C800 B000\nhalt\n", 1)], Err((51, 3))),
-    (&[(H, 1), (b"words 0000 0000\nhalt\n", 1)], Ok(2)),
-    (
-        &[(H, 1), (b"words A800 0800 9FFF FFFF FFFF CFFF\nhalt\n", 1)],
-        Ok(5),
-    ),
-    (&[(H, 1), (b"words F8720\n", 1)], Err((51, 3))),
-    (
-        &[
-            (H, 1),
-            (b"shapes A 800\nshapes B A 801 A\ncall B 802 801\nhalt\n", 1),
-        ],
-        Ok(2),
-    ),
-    (&[(H, 1), (b"shapes A 800\n call B\n", 1)], Err((52, 4))),
-    (&[(H, 1), (b"shapes A 800 800\ncall A A\nhalt\n", 1)], Ok(2)),
-    (&[(H, 1), (b"shapes A 80\n", 1)], Err((51, 3))),
-    (&[(H, 1), (b"shapes A A\n", 1)], Err((52, 3))),
-    (&[(H, 1), (b"shapes 1A 800\n", 1)], Err((51, 3))),
     (
         &[(H, 1), (b"shapes ", 1), (b"a", 80), (b" 800\nhalt\n", 1)],
         Ok(1),
@@ -246,97 +208,10 @@ const THIRD_ROWS: &[Row] = &[
         &[(H, 1), (b"shapes ", 1), (b"a", 81), (b" 800\n", 1)],
         Err((51, 3)),
     ),
-    (&[(H, 1), (b"shapes A_9 800\nhalt\n", 1)], Ok(1)),
-    (&[(H, 1), (b"shapes bad 800\ncall bad\nhalt\n", 1)], Ok(2)),
-    (&[(H, 1), (b"shapes A-B 800\n", 1)], Err((51, 3))),
-    (&[(H, 1), (b"call 800 801\nhalt\n", 1)], Ok(2)),
-    (&[(H, 1), (b"call  800\n", 1)], Err((51, 3))),
-    (&[(H, 1), (b"call 800 \n", 1)], Err((51, 3))),
-    (
-        &[
-            (H, 1),
-            (
-                b"place 0 0 0 0 scale 0 1 2 3 4 5 6 7 8 9 10 11 12 13 14 15\nhalt\n",
-                1,
-            ),
-        ],
-        Ok(2),
-    ),
-    (&[(H, 1), (b"place 0 0 0 0 scale 01\n", 1)], Err((51, 3))),
-    (&[(H, 1), (b"place 0 0 0 0 scales 1\n", 1)], Err((51, 3))),
-    (&[(H, 1), (b"place 0 2048 0 0 scale 1\n", 1)], Err((51, 3))),
-];
-
-const FOURTH_ROWS: &[Row] = &[
-    (&[(H, 1), (b"place 0 0 0 2048 scale 1\n", 1)], Err((51, 3))),
-    (&[(H, 1), (b"place 0 0 1 0 scale 1\n", 1)], Err((51, 3))),
-    (&[(H, 1), (b"place -5 -6 0 0 scale 1\n", 1)], Err((51, 3))),
-    (&[(H, 1), (b"place - 0 0 0 scale 1\n", 1)], Err((51, 3))),
-    (&[(H, 1), (b"place +1 1 0 0 scale 1\n", 1)], Err((51, 3))),
     (
         &[(H, 1), (b"place ", 1), (b"9", 20), (b" 0 0 0 scale 1\n", 1)],
         Err((51, 3)),
     ),
-    (
-        &[
-            (H, 1),
-            (b"vctr 9 x -1023 1023 y -1023 1023 bright 0 15\nhalt\n", 1),
-        ],
-        Ok(2),
-    ),
-    (
-        &[(H, 1), (b"vctr 9 x -1024 0 y 0 0 bright 0 15\n", 1)],
-        Err((51, 3)),
-    ),
-    (
-        &[(H, 1), (b"vctr 9 x 0 0 y 0 1024 bright 0 15\n", 1)],
-        Err((51, 3)),
-    ),
-    (
-        &[(H, 1), (b"vctr 9 x 0 0 y 0 0 bright 0 16\n", 1)],
-        Err((51, 3)),
-    ),
-    (
-        &[(H, 1), (b"vctr 9 x 0 0 y 0 0 bright 2 1\n", 1)],
-        Err((51, 3)),
-    ),
-    (
-        &[(H, 1), (b"vctr 9 y 0 0 x 0 0 bright 0 1\n", 1)],
-        Err((51, 3)),
-    ),
-    (
-        &[(H, 1), (b"vctr 9 x 0 0 y 0 0 bright 0\n", 1)],
-        Err((51, 3)),
-    ),
-    (
-        &[(H, 1), (b"vctr 9 x 0 0 y 0 0 bright 0 1 0\n", 1)],
-        Err((51, 3)),
-    ),
-    (
-        &[(H, 1), (b"svec 0 x -3 -3 y 3 3 bright 15 15\nhalt\n", 1)],
-        Ok(2),
-    ),
-    (
-        &[(H, 1), (b"svec 0 x 0 0 y 0 4 bright 0 0\n", 1)],
-        Err((51, 3)),
-    ),
-    (
-        &[(H, 1), (b"svec 0 x 1 0 y 0 0 bright 0 0\n", 1)],
-        Err((51, 3)),
-    ),
-    (
-        &[(H, 1), (b"repeat 1023 1023\ncall 800\nend\nhalt\n", 1)],
-        Ok(2),
-    ),
-    (&[(H, 1), (b"repeat 1 1 1\n", 1)], Err((51, 3))),
-    (&[(H, 1), (b"repeat 1\n", 1)], Err((51, 3))),
-    (&[(H, 1), (b"end 1\n", 1)], Err((51, 3))),
-    (&[(H, 1), (b"either 1\n", 1)], Err((51, 3))),
-    (&[(H, 1), (b"halt 1\n", 1)], Err((51, 3))),
-    (&[(H, 1), (b"either\ncall 800\nor 1\n", 1)], Err((51, 5))),
-    (&[(H, 1), (b"either\ncall 800\nor\nend\n", 1)], Err((51, 6))),
-    (&[(H, 1), (b"either\nend\n", 1)], Err((51, 4))),
-    (&[(H, 1), (b"either\nhalt\n", 1)], Err((51, 4))),
     (&[(H, 1), (b"either\ncall 800\n", 17)], Err((55, 35))),
     (
         &[
@@ -352,13 +227,6 @@ const FOURTH_ROWS: &[Row] = &[
         &[(H, 1), (b"repeat 0 1\n", 16), (b"repeat 0 0\n", 1)],
         Err((51, 19)),
     ),
-    (&[(H, 1), (b"list 001 3FF\n", 1)], Err((51, 3))),
-    (
-        &[(H, 1), (b"shapes A 800\nlist 001 3FF\n", 1)],
-        Err((51, 4)),
-    ),
-    (&[(H, 1), (b"halt\nend\n", 1)], Err((54, 4))),
-    (&[(H, 1), (b"halt\n\t\n", 1)], Err((51, 4))),
     (
         &[(H, 1), (b"halt\n", 1), (b"x", 200), (b"\n", 1)],
         Err((55, 4)),
@@ -366,72 +234,13 @@ const FOURTH_ROWS: &[Row] = &[
     (&[(H, 1), (b"halt\n", 1), (b"x", 200)], Err((55, 4))),
     (&[(H, 1), (b"call\n", 1), (b"x", 200)], Err((51, 3))),
     (&[(H, 1), (b"\n", 1), (b"x", 200), (b"\n", 1)], Err((55, 4))),
-];
-
-const FIFTH_ROWS: &[Row] = &[
-    (
-        &[(
-            b"dvgrecipe 1\nlist 000 000\njump 001 001\njump 002 3FF\nhalt\n",
-            1,
-        )],
-        Ok(3),
-    ),
-    (
-        &[(b"dvgrecipe 1\nlist 000 000\njump 002 001\n", 1)],
-        Err((51, 3)),
-    ),
-    (
-        &[(b"dvgrecipe 1\nlist 000 000\njump 001 400\n", 1)],
-        Err((51, 3)),
-    ),
-    (
-        &[(b"dvgrecipe 1\nlist 000 000\njump 001 001 1\n", 1)],
-        Err((51, 3)),
-    ),
-    (
-        &[(
-            b"dvgrecipe 1\nlist 000 000\njump 001 001\ncall 800\njump 001 002\n",
-            1,
-        )],
-        Err((51, 5)),
-    ),
-    (
-        &[(b"dvgrecipe 1\nlist 000 000\neither\njump 001 001\n", 1)],
-        Err((51, 4)),
-    ),
-    (
-        &[(
-            b"dvgrecipe 1\nlist 000 000\nrepeat 1 2\ncall 800\nend\njump 001 001\ncall 801\nhalt\n",
-            1,
-        )],
-        Ok(4),
-    ),
-    (&[(b"dvgrecipe 1\nlist 000 000 \n", 1)], Err((51, 2))),
-    (&[(b"dvgrecipe 1\nlist 00a 00B\n", 1)], Err((51, 2))),
-    (&[(b"dvgrecipe 1\nlist 0000 001\n", 1)], Err((51, 2))),
-    (&[(b"dvgrecipe 1\nlist 000\n", 1)], Err((51, 2))),
-    (&[(b"dvgrecipe 1\nshapes A 800\n", 1)], Err((51, 2))),
-    (
-        &[(
-            b"dvgrecipe 1\nlist 000 000\nlist 001 001\nlist 002 002\nlist 003 003\nlist 004 004\nlist 005 005\nlist 006 006\nlist 007 007\nhalt\n",
-            1,
-        )],
-        Ok(1),
-    ),
-    (&[(b"dvgrecipe 1 \n", 1)], Err((51, 1))),
-    (&[(b"dvgrecipe 1\r\n", 1)], Err((51, 1))),
     (&[(b"x", 200)], Err((55, 1))),
     (&[(b"x", 199)], Err((53, 1))),
     (&[(b"x", 200), (b"\n", 1)], Err((55, 1))),
-    (&[(b"\n", 1)], Err((51, 1))),
-    (&[(b"; dvgrecipe 1\n", 1)], Err((51, 1))),
     (
         &[
             (H, 1),
-            (
-                b"words F000 F000 F000 F000 F000 F000 F000 F000 F000 F000 F000 F000 F000 F000 F000 F000 F000 F000 F000 F000 F000 F000 F000 F000 F000 F000 F000 F000 F000 F000 F000 F000 F000 F000 F000 F000 F000 F000\n",
-                107,
-            ),
+            (W, 107),
             (b"words", 1),
             (b" F000", 29),
             (b"\nhalt\n", 1),
@@ -441,10 +250,7 @@ const FIFTH_ROWS: &[Row] = &[
     (
         &[
             (H, 1),
-            (
-                b"words F000 F000 F000 F000 F000 F000 F000 F000 F000 F000 F000 F000 F000 F000 F000 F000 F000 F000 F000 F000 F000 F000 F000 F000 F000 F000 F000 F000 F000 F000 F000 F000 F000 F000 F000 F000 F000 F000\n",
-                107,
-            ),
+            (W, 107),
             (b"words", 1),
             (b" F000", 30),
             (b"\nhalt\n", 1),
@@ -454,10 +260,7 @@ const FIFTH_ROWS: &[Row] = &[
     (
         &[
             (H, 1),
-            (
-                b"words F000 F000 F000 F000 F000 F000 F000 F000 F000 F000 F000 F000 F000 F000 F000 F000 F000 F000 F000 F000 F000 F000 F000 F000 F000 F000 F000 F000 F000 F000 F000 F000 F000 F000 F000 F000 F000 F000\n",
-                107,
-            ),
+            (W, 107),
             (b"words", 1),
             (b" F000", 34),
             (b" B000\n", 1),
@@ -467,10 +270,7 @@ const FIFTH_ROWS: &[Row] = &[
     (
         &[
             (H, 1),
-            (
-                b"words F000 F000 F000 F000 F000 F000 F000 F000 F000 F000 F000 F000 F000 F000 F000 F000 F000 F000 F000 F000 F000 F000 F000 F000 F000 F000 F000 F000 F000 F000 F000 F000 F000 F000 F000 F000 F000 F000\n",
-                107,
-            ),
+            (W, 107),
             (b"words", 1),
             (b" F000", 30),
             (b"\ncall NONE\n", 1),
@@ -502,8 +302,6 @@ const FIFTH_ROWS: &[Row] = &[
         Err((55, 4097)),
     ),
     (&[(H, 1), (b"halt\n", 1), (b"\t", 200)], Err((55, 4))),
-    (&[(H, 1), (b"halt\nx\t\n", 1)], Err((51, 4))),
-    (&[(H, 1), (b"halt\nx", 1)], Err((53, 4))),
     (
         &[
             (H, 1),
@@ -529,41 +327,48 @@ pub fn text_of(alloc: Global, parts: &[(&[u8], usize)]) -> Result<Vec<u8>, Alloc
     Ok(text)
 }
 
-/// Stops the test unless each text of a table has its answer.
-fn expect_rows(rt: &impl Abort, alloc: Global, rows: &[Row]) {
-    for (at, (parts, want)) in rows.iter().enumerate() {
-        let text = text_of(alloc, parts).expect(rt, "memory for the text");
-        let got = match read_recipe(alloc, &text, None) {
-            Ok(read) => Ok(read.lines.len()),
-            Err(fault) => Err((fault.number(), fault.line)),
-        };
-        expect_same(rt, &got, want, &at);
+/// What is answered of a text: the number of its recipe's pieces, or the number and the line of its refusal.
+fn answer_to(alloc: Global, text: &[u8]) -> Result<usize, (u8, u32)> {
+    match read_recipe(alloc, text, None) {
+        Ok(read) => Ok(read.lines.len()),
+        Err(fault) => Err((fault.number(), fault.line)),
+    }
+}
+
+/// The text that a row of `TEXTS` spells.
+fn spelled(rt: &impl Abort, alloc: Global, spelling: &str) -> Vec<u8> {
+    let behind = spelling.strip_prefix("+").unwrap_or(spelling);
+    let lines = text_of_lines(rt, alloc, behind);
+    if spelling.starts_with("+") {
+        text_of(alloc, &[(H, 1), (&lines, 1)]).expect(rt, "memory for the text")
+    } else {
+        lines
     }
 }
 
 #[test]
-fn answers_first_rows(rt: HostRuntime) {
-    expect_rows(&rt, rt.alloc(), FIRST_ROWS);
+fn answers_texts(rt: HostRuntime) {
+    for row in TEXTS.lines() {
+        let (first, rest) = row.split_once(' ').expect(&rt, "a row");
+        let (second, spelling) = rest.split_once(' ').expect(&rt, "a row");
+        let text = spelled(&rt, rt.alloc(), spelling);
+        let want: Result<usize, (u8, u32)> = match first {
+            "ok" => Ok(second.parse::<usize>().expect(&rt, "a count")),
+            _ => Err((
+                first.parse::<u8>().expect(&rt, "a number"),
+                second.parse::<u32>().expect(&rt, "a line"),
+            )),
+        };
+        expect_same(&rt, &answer_to(rt.alloc(), &text), &want, &row);
+    }
 }
 
 #[test]
-fn answers_second_rows(rt: HostRuntime) {
-    expect_rows(&rt, rt.alloc(), SECOND_ROWS);
-}
-
-#[test]
-fn answers_third_rows(rt: HostRuntime) {
-    expect_rows(&rt, rt.alloc(), THIRD_ROWS);
-}
-
-#[test]
-fn answers_fourth_rows(rt: HostRuntime) {
-    expect_rows(&rt, rt.alloc(), FOURTH_ROWS);
-}
-
-#[test]
-fn answers_fifth_rows(rt: HostRuntime) {
-    expect_rows(&rt, rt.alloc(), FIFTH_ROWS);
+fn answers_repeated(rt: HostRuntime) {
+    for (at, (parts, want)) in REPEATED.iter().enumerate() {
+        let text = text_of(rt.alloc(), parts).expect(&rt, "memory for the text");
+        expect_same(&rt, &answer_to(rt.alloc(), &text), want, &at);
+    }
 }
 
 /// Why a text is refused that has this behind its first two lines, with the labels of `LABELS`.

@@ -1,95 +1,108 @@
 //! What [`judge_recipe`] answers on recipes, with the answers that a program in Python, written apart from this one, gave.
+//!
+//! A table's lines are those of its rows, one behind the other. A recipe stands on one line or more, a comma and a space between the lines of
+//! its text, of which the first and the last go without saying, and so does a list at 000 to 0FF where its lines name none. Before it stand
+//! `budget` and how many words its frames may take, if not 20,000, and `window` and where they may light, if not on the whole screen. The
+//! last line of a row is what is told of its recipe. Lines that begin with `;` say what rows show.
 
 ghost use Rattle.std.specs.Prelude.{◌≡◌, ◌≤◌};
 ghost use Rattle.dvg_words.specs.declared.machine.Machine.TheVariants.{Board};
 ghost use Rattle.dvg_cert.specs.declared.limits.TheConstants.{MOST_WORDS};
 
-use crate::expecting::expect_same;
+use crate::expecting::{expect, expect_same};
 use crate::inputs::{Part, rom_bytes};
-use crate::recipes::steps::{Step, recipe_of};
-use Step::{Call, Either, Fixed, Place, Repeat, Svec, Then, Vctr};
-use dvg_cert::{Key, MOST_WORDS};
-use dvg_make::EntryFault;
+use dvg_cert::MOST_WORDS;
+use dvg_cmd::window_of;
 use dvg_recipe::{
     Recipe, RecipeRefusal, RecipeYes, find_deepest, find_longest, find_refused, judge_recipe,
 };
-use dvg_words::{ASTEROIDS, CLIPPED, Machine, RomImage, SCREEN, Window};
+use dvg_recipe_text::{ReadRecipe, read_recipe};
+use dvg_words::{ASTEROIDS, Machine, RomImage, SCREEN, Window};
 use std::alloc::{AllocError, Global};
 use std::process::Abort;
 
-/// Where strokes may be lit.
-#[derive(Clone, Copy, Debug)]
-pub enum Shown {
-    Screen,
-    Clipped,
-    /// From X to X and from Y to Y.
-    Part(u16, u16, u16, u16),
+/// What a row asks: the lines of its recipe, each with a comma behind it, how many words its frames may take, and where they may light.
+#[derive(Drop)]
+struct Asked {
+    lines: String,
+    budget: u32,
+    window: Window,
 }
 
-/// What is told of a recipe.
-#[derive(Clone, Copy, Debug, PartialEq, Eq)]
-pub enum Told {
-    /// Shapes, words and depth.
-    Yes(u32, u32, u8),
-    /// The piece at which the longest list passes the end of its area.
-    TooLong(u16),
-    /// The piece of a call, the word address and the scale that it asks for, and why their entry can't be made.
-    Unmade(u16, u16, Key, EntryFault),
-    /// The piece whose draws can't lead from some place to where they have to.
-    Stuck(u16),
-    /// The number of a rule of shapes, the shape, and the word at which it breaks it.
-    Shape(u8, u16, Key, u16),
-    /// The piece at which a frame breaks a rule, and the number of the rule. No piece is the jump to a list.
-    Frame(Option<u16>, u8),
-    Memory,
-}
+impl Asked {
+    /// What a row asks before its first line.
+    fn new(alloc: Global) -> Asked {
+        Asked {
+            lines: String::new(alloc),
+            budget: 20_000,
+            window: SCREEN,
+        }
+    }
 
-/// A recipe, how many words its frames may take, where they may light, and what is told of it.
-pub struct Row<'a> {
-    /// The first and the last word of each list's area.
-    pub lists: &'a [(u16, u16)],
-    /// What stands in a list: the parts that these steps leave, one behind the other.
-    pub body: &'a [Step<'a>],
-    /// The first and the last word of each jump's area, with what stands there.
-    pub jumps: &'a [((u16, u16), &'a [Step<'a>])],
-    pub budget: u32,
-    pub window: Shown,
-    pub told: Told,
-}
-
-/// A row of one list at 000, with no jump, and 20,000 words for the whole screen.
-pub const PLAIN: Row = Row {
-    lists: &[(0x000, 0x0FF)],
-    body: &[],
-    jumps: &[],
-    budget: 20_000,
-    window: Shown::Screen,
-    told: Told::Memory,
-};
-
-/// The window of a row. `None` if it is none.
-fn window_of(shown: &Shown) -> Option<Window> {
-    match *shown {
-        Shown::Screen => Some(SCREEN),
-        Shown::Clipped => Some(CLIPPED),
-        Shown::Part(x_min, x_max, y_min, y_max) => Window::new(x_min, x_max, y_min, y_max),
+    /// Takes a line of the row, other than its last.
+    fn take(&mut self, rt: &impl Abort, line: &str) {
+        let (word, words) = line.split_once(' ').unwrap_or((line, ""));
+        match word {
+            ";" => {}
+            "budget" => self.budget = words.parse::<u32>().expect(rt, "a budget"),
+            "window" => self.window = window_of(words).expect(rt, "a window"),
+            _ => {
+                self.lines.push_str(line).expect(rt, "memory");
+                self.lines.push_str(", ").expect(rt, "memory");
+            }
+        }
     }
 }
 
-/// What an answer tells.
-fn as_told(answer: &Result<RecipeYes, RecipeRefusal>) -> Told {
+/// The text of a recipe of these lines, between which commas stand.
+fn text_of(alloc: Global, lines: &str) -> Result<String, AllocError> {
+    let mut text = String::new(alloc);
+    text.push_str("dvgrecipe 1\n")?;
+    if !lines.starts_with("list ") {
+        text.push_str("list 000 0FF\n")?;
+    }
+    for line in lines.split(", ") {
+        text.push_str(line)?;
+        text.push_str("\n")?;
+    }
+    text.push_str("halt\n")?;
+    Ok(text)
+}
+
+/// The recipe of these lines, between which commas stand.
+pub fn read_lines(rt: &impl Abort, alloc: Global, lines: &str) -> ReadRecipe {
+    let text = text_of(alloc, lines).expect(rt, "memory for a text");
+    read_recipe(alloc, text.as_bytes(), None).expect(rt, "a recipe")
+}
+
+/// What an answer tells, in words.
+fn told(alloc: Global, answer: &Result<RecipeYes, RecipeRefusal>) -> Result<String, AllocError> {
     match answer {
-        Ok(yes) => Told::Yes(yes.shapes, yes.words, yes.depth),
-        Err(RecipeRefusal::TooLong { piece }) => Told::TooLong(*piece),
+        Ok(
+            RecipeYes {
+                shapes,
+                words,
+                depth,
+            },
+        ) => format!(in alloc; "accepted shapes={shapes} words={words} depth={depth}"),
+        Err(RecipeRefusal::TooLong { piece }) => format!(in alloc; "refused 57 at {piece}"),
         Err(RecipeRefusal::Make(unmade)) => {
-            Told::Unmade(unmade.piece, unmade.to, unmade.scale, unmade.why)
+            let (at, to, scale, why) = (unmade.piece, unmade.to, unmade.scale, unmade.why);
+            format!(in alloc; "unmade at {at}: {to:03X}/{scale}, {why}")
         }
-        Err(RecipeRefusal::Stuck { piece }) => Told::Stuck(*piece),
+        Err(RecipeRefusal::Stuck { piece }) => format!(in alloc; "refused 59 at {piece}"),
         Err(RecipeRefusal::Shape(fault)) => {
-            Told::Shape(fault.number(), fault.addr, fault.key, fault.word)
+            let (addr, key, word) = (fault.addr, fault.key, fault.word);
+            format!(in alloc;
+                "refused {} shape {addr:03X}/{key} at {word:03X}",
+                fault.number()
+            )
         }
-        Err(RecipeRefusal::Frame(fault)) => Told::Frame(fault.piece, fault.why.number()),
-        Err(RecipeRefusal::Memory) => Told::Memory,
+        Err(RecipeRefusal::Frame(fault)) => match fault.piece {
+            Some(piece) => format!(in alloc; "refused {} at {piece}", fault.why.number()),
+            None => format!(in alloc; "refused {} at a list", fault.why.number()),
+        },
+        Err(RecipeRefusal::Memory) => format!(in alloc; "out of memory"),
     }
 }
 
@@ -117,25 +130,37 @@ fn shows(
     }
 }
 
-/// Stops the test unless each recipe over the ROM of these words at 800 to BFF is told of as its row says.
-pub fn expect_told(rt: &impl Abort, alloc: Global, words: &[Part], rows: &[Row]) {
+/// Whether a line is the last of its row.
+fn is_told(line: &str) -> bool {
+    line.starts_with("accepted ") || line.starts_with("refused ") || line.starts_with("unmade ")
+}
+
+/// Stops the test unless this is told of what a row asks, and frames show it.
+fn expect_answer(rt: &impl Abort, alloc: Global, rom: &RomImage, asked: &Asked, line: &str)
+    requires board { rom.now.machine ≡ Board }
+{
+    let lines = asked.lines.as_str();
+    let read = read_lines(rt, alloc, lines.strip_suffix(", ").unwrap_or(lines));
+    let budget = asked.budget.min(MOST_WORDS);
+    let answer = judge_recipe(alloc, rom, &read.recipe, budget, asked.window);
+    let told = told(alloc, &answer).expect(rt, "memory for a line");
+    expect_same(rt, &told.as_str(), &line, &lines);
+    let shown = shows(alloc, rom, &read.recipe, budget, asked.window, &answer);
+    expect(rt, shown.expect(rt, "memory for a frame"), &lines);
+}
+
+/// Stops the test unless each recipe of a table, over the ROM of these words at 800 to BFF, is told of as its row says.
+pub fn expect_told(rt: &impl Abort, alloc: Global, words: &[Part], table: &str) {
     let bytes = rom_bytes(words);
     let rom = RomImage::from_bytes_on(Machine::Board, &bytes, ASTEROIDS).expect(rt, "a ROM");
-    for row in rows {
-        let recipe = recipe_of(alloc, row.lists, row.body, row.jumps);
-        let recipe = recipe.expect(rt, "memory for the recipe");
-        let recipe = recipe.expect(rt, "a recipe");
-        let window = window_of(&row.window).expect(rt, "a window");
-        let budget = row.budget.min(MOST_WORDS);
-        let answer = judge_recipe(alloc, &rom, &recipe, budget, window);
-        expect_same(rt, &as_told(&answer), &row.told, &row.body);
-        let shown = shows(alloc, &rom, &recipe, budget, window, &answer);
-        expect_same(
-            rt,
-            &shown.expect(rt, "memory for a frame"),
-            &true,
-            &row.body,
-        );
+    let mut asked = Asked::new(alloc);
+    for line in table.lines() {
+        if is_told(line) {
+            expect_answer(rt, alloc, &rom, &asked, line);
+            asked = Asked::new(alloc);
+        } else {
+            asked.take(rt, line);
+        }
     }
 }
 
@@ -191,529 +216,157 @@ pub const ROM: &[Part] = &[
 ];
 
 /// Places and sizes at edges, intensities and scales.
-const JUDGES_PLACES: &[Row] = &[
-    // the right edge, which the greatest X alone passes
-    Row {
-        body: &[Place((0, 1007), (0, 1007), &[0]), Call(&[0x810])],
-        told: Told::Yes(1, 13, 1),
-        ..PLAIN
-    },
-    Row {
-        body: &[Place((0, 1008), (0, 1007), &[0]), Call(&[0x810])],
-        told: Told::Frame(Some(1), 46),
-        ..PLAIN
-    },
-    Row {
-        body: &[Place((0, 1007), (0, 1008), &[0]), Call(&[0x800, 0x810])],
-        told: Told::Frame(Some(1), 46),
-        ..PLAIN
-    },
-    // the left and the lower edge, which the least size alone passes
-    Row {
-        body: &[
-            Place((8, 8), (9, 9), &[0]),
-            Vctr(9, (-8, 8), (-9, 0), (7, 7)),
-            Fixed(0xF070, 0x0000),
-        ],
-        told: Told::Yes(0, 6, 0),
-        ..PLAIN
-    },
-    Row {
-        body: &[
-            Place((8, 8), (9, 9), &[0]),
-            Vctr(9, (-9, 8), (-9, 0), (0, 0)),
-            Fixed(0xF070, 0x0000),
-        ],
-        told: Told::Frame(Some(2), 46),
-        ..PLAIN
-    },
-    Row {
-        body: &[
-            Place((8, 8), (9, 9), &[0]),
-            Vctr(9, (-8, 8), (-10, -10), (0, 7)),
-        ],
-        told: Told::Frame(Some(1), 46),
-        ..PLAIN
-    },
-    // intensities: lit, if one of them is not 0
-    Row {
-        body: &[
-            Place((1020, 1023), (0, 0), &[0]),
-            Vctr(9, (0, 1), (0, 0), (0, 0)),
-        ],
-        told: Told::Yes(0, 5, 0),
-        ..PLAIN
-    },
-    Row {
-        body: &[
-            Place((1020, 1023), (0, 0), &[0]),
-            Vctr(9, (0, 1), (0, 0), (0, 7)),
-        ],
-        told: Told::Frame(Some(1), 46),
-        ..PLAIN
-    },
-    Row {
-        body: &[
-            Vctr(9, (-5, 5), (0, 0), (0, 0)),
-            Svec(2, (-768, 768), (0, 0), (0, 0)),
-        ],
-        told: Told::Yes(0, 4, 0),
-        ..PLAIN
-    },
-    Row {
-        body: &[
-            Vctr(9, (-5, 5), (0, 0), (0, 0)),
-            Svec(2, (0, 0), (0, 0), (0, 1)),
-        ],
-        told: Told::Frame(Some(1), 44),
-        ..PLAIN
-    },
-    // sizes that the scale makes larger, smaller, or nothing
-    Row {
-        body: &[
-            Place((1000, 1000), (0, 0), &[0, 15]),
-            Svec(5, (0, 256), (0, 0), (7, 7)),
-        ],
-        told: Told::Yes(0, 4, 0),
-        ..PLAIN
-    },
-    Row {
-        body: &[
-            Place((1000, 1000), (0, 0), &[0, 1]),
-            Svec(5, (0, 256), (0, 0), (7, 7)),
-        ],
-        told: Told::Frame(Some(1), 46),
-        ..PLAIN
-    },
-    Row {
-        body: &[
-            Place((0, 0), (1023, 1023), &[7]),
-            Vctr(9, (-1023, 1023), (-5, 5), (15, 15)),
-            Vctr(3, (-1, 1), (0, 0), (0, 0)),
-        ],
-        told: Told::Frame(Some(1), 46),
-        ..PLAIN
-    },
-    Row {
-        body: &[
-            Place((0, 0), (1023, 1023), &[7]),
-            Vctr(3, (-1, 1), (0, 0), (0, 0)),
-            Vctr(2, (0, 0), (0, 0), (1, 1)),
-        ],
-        told: Told::Yes(0, 7, 0),
-        ..PLAIN
-    },
-];
+const JUDGES_PLACES: &str = "\
+; the right edge, which the greatest X alone passes
+place 0 1007 0 1007 scale 0, call 810
+accepted shapes=1 words=13 depth=1
+place 0 1008 0 1007 scale 0, call 810
+refused 46 at 1
+place 0 1007 0 1008 scale 0, call 800 810
+refused 46 at 1
+; the left and the lower edge, which the least size alone passes
+place 8 8 9 9 scale 0, vctr 9 x -8 8 y -9 0 bright 7 7, words F070
+accepted shapes=0 words=6 depth=0
+place 8 8 9 9 scale 0, vctr 9 x -9 8 y -9 0 bright 0 0, words F070
+refused 46 at 2
+place 8 8 9 9 scale 0, vctr 9 x -8 8 y -10 -10 bright 0 7
+refused 46 at 1
+; intensities: lit, if one of them is not 0
+place 1020 1023 0 0 scale 0, vctr 9 x 0 1 y 0 0 bright 0 0
+accepted shapes=0 words=5 depth=0
+place 1020 1023 0 0 scale 0, vctr 9 x 0 1 y 0 0 bright 0 7
+refused 46 at 1
+vctr 9 x -5 5 y 0 0 bright 0 0, svec 0 x -3 3 y 0 0 bright 0 0
+accepted shapes=0 words=4 depth=0
+vctr 9 x -5 5 y 0 0 bright 0 0, svec 0 x 0 0 y 0 0 bright 0 1
+refused 44 at 1
+; sizes that the scale makes larger, smaller, or nothing
+place 1000 1000 0 0 scale 0 15, svec 3 x 0 1 y 0 0 bright 7 7
+accepted shapes=0 words=4 depth=0
+place 1000 1000 0 0 scale 0 1, svec 3 x 0 1 y 0 0 bright 7 7
+refused 46 at 1
+place 0 0 1023 1023 scale 7, vctr 9 x -1023 1023 y -5 5 bright 15 15, vctr 3 x -1 1 y 0 0 bright 0 0
+refused 46 at 1
+place 0 0 1023 1023 scale 7, vctr 3 x -1 1 y 0 0 bright 0 0, vctr 2 x 0 0 y 0 0 bright 1 1
+accepted shapes=0 words=7 depth=0";
 
 /// What one branch alone does.
-const JUDGES_BRANCHES: &[Row] = &[
-    // the most words, by the second branch and by the first
-    Row {
-        body: &[
-            Place((512, 512), (512, 512), &[0]),
-            Fixed(0xF000, 0x0000),
-            Fixed(0xF000, 0x0000),
-            Then,
-            Fixed(0xF000, 0x0000),
-            Then,
-            Call(&[0x830]),
-            Either,
-        ],
-        told: Told::Yes(4, 31, 2),
-        ..PLAIN
-    },
-    Row {
-        body: &[
-            Place((512, 512), (512, 512), &[0]),
-            Call(&[0x830]),
-            Fixed(0xF000, 0x0000),
-            Fixed(0xF000, 0x0000),
-            Then,
-            Fixed(0xF000, 0x0000),
-            Then,
-            Either,
-            Call(&[0x800]),
-            Either,
-        ],
-        told: Told::Yes(4, 31, 2),
-        ..PLAIN
-    },
-    // the depth, by one branch
-    Row {
-        body: &[
-            Place((512, 512), (512, 512), &[0]),
-            Call(&[0x898]),
-            Call(&[0x970]),
-            Either,
-        ],
-        budget: 11_000,
-        told: Told::Yes(6, 10205, 4),
-        ..PLAIN
-    },
-    // the place that one branch alone reaches
-    Row {
-        body: &[
-            Place((0, 0), (0, 0), &[0]),
-            Place((1010, 1010), (0, 0), &[0]),
-            Either,
-            Call(&[0x810]),
-        ],
-        told: Told::Frame(Some(2), 46),
-        ..PLAIN
-    },
-    Row {
-        body: &[
-            Place((0, 0), (0, 0), &[0]),
-            Place((1010, 1010), (0, 0), &[15]),
-            Either,
-            Call(&[0x810]),
-        ],
-        told: Told::Yes(2, 13, 1),
-        ..PLAIN
-    },
-    // the scale, or the place, that one branch alone sets
-    Row {
-        body: &[
-            Place((100, 100), (100, 100), &[2]),
-            Fixed(0xF000, 0x0000),
-            Either,
-            Fixed(0xF000, 0x0000),
-        ],
-        told: Told::Yes(0, 4, 0),
-        ..PLAIN
-    },
-    Row {
-        body: &[
-            Place((100, 100), (100, 100), &[2]),
-            Fixed(0xF000, 0x0000),
-            Either,
-            Fixed(0xF000, 0x0000),
-            Fixed(0xF070, 0x0000),
-        ],
-        told: Told::Frame(Some(3), 44),
-        ..PLAIN
-    },
-    Row {
-        body: &[
-            Place((100, 100), (100, 100), &[2]),
-            Fixed(0xF000, 0x0000),
-            Either,
-            Call(&[0x800]),
-        ],
-        told: Told::Unmade(2, 0x800, Key::Any, EntryFault::Unstraight { word: 0x800 }),
-        ..PLAIN
-    },
-    Row {
-        body: &[
-            Place((100, 100), (100, 100), &[2]),
-            Fixed(0xF000, 0x0000),
-            Either,
-            Call(&[0x8B0, 0x8D0]),
-        ],
-        told: Told::Yes(4, 7, 1),
-        ..PLAIN
-    },
-    // 44 where the scale is unknown, before 46 where it is known
-    Row {
-        body: &[
-            Place((2000, 2000), (0, 0), &[0]),
-            Fixed(0xF000, 0x0000),
-            Either,
-            Vctr(9, (0, 0), (0, 0), (7, 7)),
-        ],
-        told: Told::Frame(Some(2), 44),
-        ..PLAIN
-    },
-    // 46 before 48 at one piece
-    Row {
-        body: &[
-            Place((1023, 1023), (0, 0), &[0]),
-            Fixed(0xF000, 0x0000),
-            Fixed(0xF000, 0x0000),
-            Then,
-            Fixed(0xF000, 0x0000),
-            Then,
-            Fixed(0xF000, 0x0000),
-            Either,
-            Vctr(9, (1, 1), (0, 0), (7, 7)),
-        ],
-        budget: 5,
-        told: Told::Frame(Some(5), 46),
-        ..PLAIN
-    },
-];
+const JUDGES_BRANCHES: &str = "\
+; the most words, by the second branch and by the first
+place 512 512 512 512 scale 0, either, words F000 F000 F000, or, call 830, end
+accepted shapes=4 words=31 depth=2
+place 512 512 512 512 scale 0, either, either, call 830, or, words F000 F000 F000, end, or, call 800, end
+accepted shapes=4 words=31 depth=2
+; the depth, by one branch
+budget 11000
+place 512 512 512 512 scale 0, either, call 898, or, call 970, end
+accepted shapes=6 words=10205 depth=4
+; the place that one branch alone reaches
+either, place 0 0 0 0 scale 0, or, place 1010 1010 0 0 scale 0, end, call 810
+refused 46 at 2
+either, place 0 0 0 0 scale 0, or, place 1010 1010 0 0 scale 15, end, call 810
+accepted shapes=2 words=13 depth=1
+; the scale, or the place, that one branch alone sets
+either, place 100 100 100 100 scale 2, or, words F000, end, words F000
+accepted shapes=0 words=4 depth=0
+either, place 100 100 100 100 scale 2, or, words F000, end, words F000 F070
+refused 44 at 3
+either, place 100 100 100 100 scale 2, or, words F000, end, call 800
+unmade at 2: 800/any, no shape can have the item at 800
+either, place 100 100 100 100 scale 2, or, words F000, end, call 8B0 8D0
+accepted shapes=4 words=7 depth=1
+; 44 where the scale is unknown, before 46 where it is known
+either, place 2000 2000 0 0 scale 0, or, words F000, end, vctr 9 x 0 0 y 0 0 bright 7 7
+refused 44 at 2
+; 46 before 48 at one piece
+budget 5
+place 1023 1023 0 0 scale 0, either, words F000 F000 F000, or, words F000, end, vctr 9 x 1 1 y 0 0 bright 7 7
+refused 46 at 5";
 
 /// What one turn alone does, or none.
-const JUDGES_TURNS: &[Row] = &[
-    // the last turn alone breaks a rule
-    Row {
-        body: &[
-            Place((999, 999), (0, 0), &[0]),
-            Vctr(9, (8, 8), (0, 0), (7, 7)),
-            Repeat(0, 3),
-        ],
-        told: Told::Yes(0, 9, 0),
-        ..PLAIN
-    },
-    Row {
-        body: &[
-            Place((1000, 1000), (0, 0), &[0]),
-            Vctr(9, (8, 8), (0, 0), (7, 7)),
-            Repeat(0, 3),
-        ],
-        told: Told::Frame(Some(1), 46),
-        ..PLAIN
-    },
-    Row {
-        body: &[
-            Place((1000, 1000), (0, 0), &[0]),
-            Vctr(9, (8, 8), (0, 0), (0, 0)),
-            Repeat(0, 3),
-            Fixed(0xF070, 0x0000),
-        ],
-        told: Told::Frame(Some(2), 46),
-        ..PLAIN
-    },
-    Row {
-        body: &[
-            Place((900, 900), (0, 0), &[0]),
-            Fixed(0xF070, 0x0000),
-            Vctr(9, (20, 21), (0, 0), (0, 0)),
-            Repeat(1, 2),
-            Then,
-            Repeat(2, 3),
-            Fixed(0xF070, 0x0000),
-        ],
-        told: Told::Frame(Some(3), 46),
-        ..PLAIN
-    },
-    // no turn
-    Row {
-        body: &[
-            Place((100, 100), (100, 100), &[0]),
-            Repeat(0, 1),
-            Fixed(0xF070, 0x0000),
-        ],
-        told: Told::Frame(Some(1), 44),
-        ..PLAIN
-    },
-    Row {
-        body: &[
-            Place((100, 100), (100, 100), &[0]),
-            Repeat(1, 1),
-            Fixed(0xF070, 0x0000),
-        ],
-        told: Told::Yes(0, 4, 0),
-        ..PLAIN
-    },
-    Row {
-        body: &[
-            Place((2000, 2000), (0, 0), &[0]),
-            Place((100, 100), (100, 100), &[0]),
-            Repeat(0, 2),
-            Fixed(0xF070, 0x0000),
-        ],
-        told: Told::Frame(Some(2), 46),
-        ..PLAIN
-    },
-    Row {
-        body: &[
-            Place((2000, 2000), (0, 0), &[0]),
-            Place((100, 100), (100, 100), &[0]),
-            Repeat(1, 2),
-            Fixed(0xF070, 0x0000),
-        ],
-        told: Told::Yes(0, 8, 0),
-        ..PLAIN
-    },
-    // the scale of each turn
-    Row {
-        body: &[
-            Place((100, 100), (100, 100), &[0]),
-            Call(&[0x810, 0x840]),
-            Repeat(1, 2),
-        ],
-        told: Told::Yes(4, 23, 1),
-        ..PLAIN
-    },
-    Row {
-        body: &[
-            Place((100, 100), (100, 100), &[0]),
-            Call(&[0x810]),
-            Place((990, 990), (100, 100), &[1]),
-            Either,
-            Repeat(0, 3),
-        ],
-        told: Told::Yes(2, 33, 1),
-        ..PLAIN
-    },
-];
+const JUDGES_TURNS: &str = "\
+; the last turn alone breaks a rule
+place 999 999 0 0 scale 0, repeat 0 3, vctr 9 x 8 8 y 0 0 bright 7 7, end
+accepted shapes=0 words=9 depth=0
+place 1000 1000 0 0 scale 0, repeat 0 3, vctr 9 x 8 8 y 0 0 bright 7 7, end
+refused 46 at 1
+place 1000 1000 0 0 scale 0, repeat 0 3, vctr 9 x 8 8 y 0 0 bright 0 0, end, words F070
+refused 46 at 2
+place 900 900 0 0 scale 0, repeat 2 3, words F070, repeat 1 2, vctr 9 x 20 21 y 0 0 bright 0 0, end, end, words F070
+refused 46 at 3
+; no turn
+repeat 0 1, place 100 100 100 100 scale 0, end, words F070
+refused 44 at 1
+repeat 1 1, place 100 100 100 100 scale 0, end, words F070
+accepted shapes=0 words=4 depth=0
+place 2000 2000 0 0 scale 0, repeat 0 2, place 100 100 100 100 scale 0, end, words F070
+refused 46 at 2
+place 2000 2000 0 0 scale 0, repeat 1 2, place 100 100 100 100 scale 0, end, words F070
+accepted shapes=0 words=8 depth=0
+; the scale of each turn
+place 100 100 100 100 scale 0, repeat 1 2, call 810 840, end
+accepted shapes=4 words=23 depth=1
+place 100 100 100 100 scale 0, repeat 0 3, either, call 810, or, place 990 990 100 100 scale 1, end, end
+accepted shapes=2 words=33 depth=1";
 
 /// Lists that pass their areas.
-const ASKS_FOR_ROOM: &[Row] = &[
-    // 57, before all else
-    Row {
-        lists: &[(0x000, 0x003)],
-        body: &[
-            Call(&[0x870]),
-            Place((0, 0), (0, 0), &[0]),
-            Fixed(0xF070, 0x0000),
-        ],
-        told: Told::TooLong(3),
-        ..PLAIN
-    },
-    Row {
-        lists: &[(0x000, 0x0FF), (0x201, 0x206)],
-        body: &[
-            Fixed(0xF000, 0x0000),
-            Place((0, 0), (0, 0), &[0]),
-            Either,
-            Repeat(0, 3),
-        ],
-        told: Told::TooLong(2),
-        ..PLAIN
-    },
-    Row {
-        body: &[Place((0, 0), (0, 0), &[0])],
-        jumps: &[(
-            (0x100, 0x101),
-            &[Fixed(0xF070, 0x0000), Fixed(0xF070, 0x0000)],
-        )],
-        told: Told::TooLong(4),
-        ..PLAIN
-    },
-];
+const ASKS_FOR_ROOM: &str = "\
+; 57, before all else
+list 000 003, call 870, place 0 0 0 0 scale 0, words F070
+refused 57 at 3
+list 000 0FF, list 201 206, repeat 0 3, either, words F000, or, place 0 0 0 0 scale 0, end, end
+refused 57 at 2
+place 0 0 0 0 scale 0, jump 100 101, words F070 F070
+refused 57 at 4";
 
 /// Calls whose entries can't be made.
-const MAKES_ENTRIES: &[Row] = &[
-    // a HALT, a word outside the ROM, and a stroke at unknown scale
-    Row {
-        body: &[Place((512, 512), (512, 512), &[0]), Call(&[0x870])],
-        told: Told::Unmade(1, 0x870, Key::At(0), EntryFault::Unstraight { word: 0x870 }),
-        ..PLAIN
-    },
-    Row {
-        body: &[Place((512, 512), (512, 512), &[0]), Call(&[0x800, 0x878])],
-        budget: 100,
-        told: Told::Unmade(1, 0x878, Key::At(0), EntryFault::Unstraight { word: 0x87A }),
-        ..PLAIN
-    },
-    Row {
-        body: &[Place((512, 512), (512, 512), &[0]), Call(&[0x7FF])],
-        told: Told::Unmade(1, 0x7FF, Key::At(0), EntryFault::Unstraight { word: 0x7FF }),
-        ..PLAIN
-    },
-    Row {
-        body: &[
-            Place((512, 512), (512, 512), &[0]),
-            Fixed(0xF000, 0x0000),
-            Fixed(0xCC00, 0x0000),
-        ],
-        budget: 100,
-        told: Told::Unmade(2, 0xC00, Key::At(0), EntryFault::Unstraight { word: 0xC00 }),
-        ..PLAIN
-    },
-    Row {
-        body: &[Call(&[0x810])],
-        told: Told::Unmade(0, 0x810, Key::Any, EntryFault::Unstraight { word: 0x810 }),
-        ..PLAIN
-    },
-    Row {
-        body: &[Call(&[0x8B8, 0x810]), Place((512, 512), (512, 512), &[0])],
-        budget: 100,
-        told: Told::Unmade(0, 0x810, Key::Any, EntryFault::Unstraight { word: 0x810 }),
-        ..PLAIN
-    },
-    Row {
-        body: &[Place((512, 512), (512, 512), &[0]), Call(&[0xA60])],
-        told: Told::Unmade(1, 0xA60, Key::At(0), EntryFault::Unstraight { word: 0xC00 }),
-        ..PLAIN
-    },
-    // calls that go too deep, and the deepest that do not
-    Row {
-        body: &[Place((512, 512), (512, 512), &[0]), Call(&[0x898])],
-        told: Told::Yes(4, 12, 4),
-        ..PLAIN
-    },
-    Row {
-        body: &[Place((512, 512), (512, 512), &[0]), Call(&[0x890])],
-        budget: 100,
-        told: Told::Unmade(1, 0x890, Key::At(0), EntryFault::Deep),
-        ..PLAIN
-    },
-    Row {
-        body: &[Place((512, 512), (512, 512), &[0]), Call(&[0x880])],
-        budget: 100,
-        told: Told::Unmade(1, 0x880, Key::At(0), EntryFault::Deep),
-        ..PLAIN
-    },
-    // too many words
-    Row {
-        body: &[
-            Place((512, 512), (512, 512), &[0]),
-            Call(&[0x9E0]),
-            Call(&[0x900]),
-            Repeat(0, 1),
-        ],
-        budget: 1_000_000,
-        told: Told::Unmade(2, 0x900, Key::At(0), EntryFault::TooManyWords),
-        ..PLAIN
-    },
-    // the first piece, then the least scale, then the first of its addresses
-    Row {
-        body: &[
-            Place((512, 512), (512, 512), &[0]),
-            Call(&[0x800]),
-            Repeat(0, 2),
-            Call(&[0x898]),
-            Call(&[0x880, 0x870]),
-            Either,
-            Call(&[0x870]),
-        ],
-        told: Told::Unmade(3, 0x880, Key::At(0), EntryFault::Deep),
-        ..PLAIN
-    },
-    Row {
-        body: &[
-            Place((9, 9), (9, 9), &[3, 5]),
-            Repeat(0, 1),
-            Call(&[0x8D0, 0x810, 0x880]),
-        ],
-        told: Told::Unmade(1, 0x880, Key::At(3), EntryFault::Deep),
-        ..PLAIN
-    },
-    Row {
-        body: &[
-            Place((9, 9), (9, 9), &[3, 5]),
-            Repeat(0, 1),
-            Call(&[0x8D0, 0x810]),
-        ],
-        told: Told::Unmade(1, 0x810, Key::Any, EntryFault::Unstraight { word: 0x810 }),
-        ..PLAIN
-    },
-    // a call that turn 2 alone makes at unknown scale, and one behind a jump
-    Row {
-        body: &[Call(&[0x840, 0x8B0]), Repeat(1, 2), Call(&[0x810])],
-        told: Told::Unmade(1, 0x810, Key::Any, EntryFault::Unstraight { word: 0x810 }),
-        ..PLAIN
-    },
-    Row {
-        body: &[],
-        jumps: &[((0x200, 0x2FF), &[Call(&[0x810])])],
-        told: Told::Unmade(1, 0x810, Key::Any, EntryFault::Unstraight { word: 0x810 }),
-        ..PLAIN
-    },
-    // 60 before 25 and 46
-    Row {
-        body: &[
-            Place((1020, 1020), (0, 0), &[0]),
-            Call(&[0x810, 0x850]),
-            Call(&[0x870]),
-        ],
-        told: Told::Unmade(2, 0x870, Key::At(0), EntryFault::Unstraight { word: 0x870 }),
-        ..PLAIN
-    },
-];
+const MAKES_ENTRIES: &str = "\
+; a HALT, a word outside the ROM, and a stroke at unknown scale
+place 512 512 512 512 scale 0, call 870
+unmade at 1: 870/0, no shape can have the item at 870
+budget 100
+place 512 512 512 512 scale 0, call 800 878
+unmade at 1: 878/0, no shape can have the item at 87A
+place 512 512 512 512 scale 0, call 7FF
+unmade at 1: 7FF/0, no shape can have the item at 7FF
+budget 100
+place 512 512 512 512 scale 0, words F000 CC00
+unmade at 2: C00/0, no shape can have the item at C00
+call 810
+unmade at 0: 810/any, no shape can have the item at 810
+budget 100
+call 8B8 810, place 512 512 512 512 scale 0
+unmade at 0: 810/any, no shape can have the item at 810
+place 512 512 512 512 scale 0, call A60
+unmade at 1: A60/0, no shape can have the item at C00
+; calls that go too deep, and the deepest that do not
+place 512 512 512 512 scale 0, call 898
+accepted shapes=4 words=12 depth=4
+budget 100
+place 512 512 512 512 scale 0, call 890
+unmade at 1: 890/0, the shapes call too deep
+budget 100
+place 512 512 512 512 scale 0, call 880
+unmade at 1: 880/0, the shapes call too deep
+; too many words
+budget 1000000
+place 512 512 512 512 scale 0, call 9E0, repeat 0 1, call 900, end
+unmade at 2: 900/0, a shape has too many words
+; the first piece, then the least scale, then the first of its addresses
+place 512 512 512 512 scale 0, repeat 0 2, call 800, end, either, call 898, or, call 880 870, end, call 870
+unmade at 3: 880/0, the shapes call too deep
+repeat 0 1, place 9 9 9 9 scale 3 5, end, call 8D0 810 880
+unmade at 1: 880/3, the shapes call too deep
+repeat 0 1, place 9 9 9 9 scale 3 5, end, call 8D0 810
+unmade at 1: 810/any, no shape can have the item at 810
+; a call that turn 2 alone makes at unknown scale, and one behind a jump
+repeat 1 2, call 840 8B0, end, call 810
+unmade at 1: 810/any, no shape can have the item at 810
+jump 200 2FF, call 810
+unmade at 1: 810/any, no shape can have the item at 810
+; 60 before 25 and 46
+place 1020 1020 0 0 scale 0, call 810 850, call 870
+unmade at 2: 870/0, no shape can have the item at 870";
 
 #[test]
 fn judges_places(rt: HostRuntime) {
