@@ -5,8 +5,8 @@ ghost use Rattle.dvg_dumps.specs.declared.measuring.TheConstants.{MOST_BYTES};
 
 use crate::text::Text;
 use dvg_dumps::{
-    AddressFault, DATA_LINES, DataFault, DumpFault, Level, Measure, count, faults_of, front,
-    is_level_where_different, lines_below, word_at,
+    AddressFault, DATA_LINES, DataFault, DumpFault, Level, LineFault, Measure, count, faults_of,
+    front, is_level_where_different, lines_below, word_at,
 };
 use dvg_labels::Labels;
 use std::alloc::{AllocError, Global};
@@ -165,17 +165,28 @@ fn push_fault(text: &mut Text, fault: DumpFault, bytes: usize) {
     }
 }
 
-fn push_data_fault(text: &mut Text, fault: DataFault) {
+/// What is wrong with one or two lines of this kind, whose numbers stand behind this letter.
+fn push_line_fault(text: &mut Text, kind: &str, letter: &str, fault: LineFault) {
+    text.push(kind);
     match fault {
-        DataFault::Stuck(line, level) => {
-            push_line(text, "data line D", line);
+        LineFault::Stuck(line, level) => {
+            text.push(" line ");
+            push_line(text, letter, line);
             text.push(spelled(level, " is low", " is high"));
         }
-        DataFault::Crossed(one, other) => {
-            push_line(text, "data lines D", one);
-            push_line(text, " and D", other);
+        LineFault::Crossed(one, other) => {
+            text.push(" lines ");
+            push_line(text, letter, one);
+            text.push(" and ");
+            push_line(text, letter, other);
             text.push(" are crossed");
         }
+    }
+}
+
+fn push_data_fault(text: &mut Text, fault: DataFault) {
+    match fault {
+        DataFault::Lines(fault) => push_line_fault(text, "data", "D", fault),
         DataFault::Inverted => text.push("all data lines are inverted"),
         DataFault::Blank(level) => {
             text.push(spelled(level, "all bytes are 00", "all bytes are FF"));
@@ -185,15 +196,7 @@ fn push_data_fault(text: &mut Text, fault: DataFault) {
 
 fn push_address_fault(text: &mut Text, fault: AddressFault, bytes: usize) {
     match fault {
-        AddressFault::Stuck(line, level) => {
-            push_line(text, "address line A", line);
-            text.push(spelled(level, " is low", " is high"));
-        }
-        AddressFault::Crossed(one, other) => {
-            push_line(text, "address lines A", one);
-            push_line(text, " and A", other);
-            text.push(" are crossed");
-        }
+        AddressFault::Lines(fault) => push_line_fault(text, "address", "A", fault),
         AddressFault::Inverted(line) => push_inverted(text, line, bytes),
         AddressFault::Later(distance) => push_shifted(text, distance, "further on"),
         AddressFault::Earlier(distance) => push_shifted(text, distance, "before"),
