@@ -109,7 +109,9 @@ def changed_words(good, other, first, labels):
     for index in range(min(len(good), len(other)) // 2):
         old, new = (dump[2 * index] + 256 * dump[2 * index + 1] for dump in (good, other))
         if old != new:
-            yield f"word: {named(first + index, labels)} holds {old:04X}, in the other {new:04X}"
+            address = first + index
+            place = f"{named(address, labels)} holds" if address <= 0xBFF else f"bytes {2 * index} and {2 * index + 1} hold"
+            yield f"word: {place} {old:04X}, in the other {new:04X}"
 
 
 def compared(good, other, first, labels):
@@ -129,6 +131,8 @@ def compared(good, other, first, labels):
         lines += ["addresses: " + ", ".join(same)] if same else []
         told = [f"fault: {name}" for name in told_faults(good, other, places)]
         lines += told or [f"not explained: {bytes_of(len(places))}"]
+    else:
+        lines.append("equal as far as both go")
     return [*lines, *changed_words(good, other, first, labels)], 1
 
 
