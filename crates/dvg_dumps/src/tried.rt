@@ -96,11 +96,7 @@ fn data_faults(alloc: Global) -> Result<Vec<DumpFault>, AllocError>
 }
 
 /// Adds what may be wrong with one of these address lines, or with two.
-fn add_line_faults(
-    alloc: Global,
-    all: &mut Vec<DumpFault>,
-    lines: &[u16],
-) -> Result<(), AllocError>
+fn add_line_faults(alloc: Global, all: &mut Vec<DumpFault>, lines: &[u16]) -> Result<(), AllocError>
     ensures { OnOk result (all.new.items ≡ all.old.items ++ map address_fault (line_faults lines.now)) }
 {
     for fault in &line_faults(alloc, lines)? {
