@@ -39,7 +39,7 @@ def inverted_line(line, whole):
     return "the halves are exchanged" if 2 << line == whole else f"address line A{line} is inverted"
 
 
-def address_faults(lines, size, whole):
+def address_faults(lines, whole):
     """Those of address lines, each with the place from which it reads."""
     for line in lines:
         yield f"address line A{line} is low", lambda at, bit=1 << line: at & ~bit
@@ -48,7 +48,7 @@ def address_faults(lines, size, whole):
         yield f"address lines A{one} and A{other} are crossed", lambda at, one=one, other=other: exchanged(at, one, other)
     for line in lines:
         yield inverted_line(line, whole), lambda at, bit=1 << line: at ^ bit
-    for step, name in ((1, "byte"), (2, "word")) if size > 2 else ():
+    for step, name in (1, "byte"), (2, "word"):
         yield f"each byte is that of one {name} further on", lambda at, step=step: at + step
         yield f"each byte is that of one {name} before", lambda at, step=step: at - step
 
@@ -61,20 +61,23 @@ def dead_parts(lines):
                 yield f"where A{line} is {level} all bytes are {name}", line, level, value
 
 
-def faults(good, size):
-    """All faults of a dump of which so many bytes are read, each with what it reads at a place: None where that is outside the good dump."""
-    lines = [line for line in range(12) if 1 << line < size]
+def faults(good):
+    """All faults of a good dump, each with what it reads at a place: None where that is outside the dump."""
+    lines = [line for line in range(12) if 1 << line < len(good)]
     for name, seen in data_faults():
         yield name, lambda at, seen=seen: seen(good[at])
-    for name, source in address_faults(lines, size, len(good)):
+    for name, source in address_faults(lines, len(good)):
         yield name, lambda at, source=source: good[source(at)] if 0 <= source(at) < len(good) else None
     for name, line, level, value in dead_parts(lines):
         yield name, lambda at, line=line, level=level, value=value: value if level_of(line, at) == level else good[at]
 
 
-def told_faults(good, other, size):
-    """The names of the faults that give the other dump, as far as both go."""
-    return [name for name, read in faults(good, size) if all(read(at) in (None, other[at]) for at in range(size))]
+def told_faults(good, other, places):
+    """The names of the faults that give the other dump, as far as both go, and one at least of the bytes that differ from within the dump."""
+    for name, read in faults(good):
+        given = [read(at) for at in range(min(len(good), len(other)))]
+        if all(byte in (None, other[at]) for at, byte in enumerate(given)) and any(given[at] is not None for at in places):
+            yield name
 
 
 def changed_lines(pairs, before, verb):
@@ -106,7 +109,9 @@ def changed_words(good, other, first, labels):
     for index in range(min(len(good), len(other)) // 2):
         old, new = (dump[2 * index] + 256 * dump[2 * index + 1] for dump in (good, other))
         if old != new:
-            yield f"word: {named(first + index, labels)} holds {old:04X}, in the other {new:04X}"
+            address = first + index
+            place = f"{named(address, labels)} holds" if address <= 0xBFF else f"bytes {2 * index} and {2 * index + 1} hold"
+            yield f"word: {place} {old:04X}, in the other {new:04X}"
 
 
 def compared(good, other, first, labels):
@@ -124,8 +129,10 @@ def compared(good, other, first, labels):
     if places:
         same = list(same_levels(places, size))
         lines += ["addresses: " + ", ".join(same)] if same else []
-        told = [f"fault: {name}" for name in told_faults(good, other, size)]
+        told = [f"fault: {name}" for name in told_faults(good, other, places)]
         lines += told or [f"not explained: {bytes_of(len(places))}"]
+    else:
+        lines.append("equal as far as both go")
     return [*lines, *changed_words(good, other, first, labels)], 1
 
 

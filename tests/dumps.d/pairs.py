@@ -19,7 +19,7 @@ def some_rom(chance):
 
 def with_a_fault(good, chance):
     """What is read by one of the faults; a byte from outside the dump is any."""
-    _, read = chance.choice(list(faults(good, len(good))))
+    _, read = chance.choice(list(faults(good)))
     given = [read(at) for at in range(len(good))]
     return bytes(chance.randrange(256) if byte is None else byte for byte in given)
 

@@ -5,15 +5,16 @@ ghost use Rattle.dvg_dumps.specs.declared.measuring.TheConstants.{MOST_BYTES};
 
 use crate::text::Text;
 use dvg_dumps::{
-    AddressFault, DATA_LINES, DataFault, DumpFault, Level, Measure, count, faults_of, front,
-    is_level_where_different, lines_below, word_at,
+    AddressFault, DATA_LINES, DataFault, DumpFault, Level, LineFault, Measure, count, faults_of,
+    front, is_level_where_different, lines_below, word_at,
 };
 use dvg_labels::Labels;
+use dvg_words::MEMORY_LAST;
 use std::alloc::{AllocError, Global};
 
-/// The account of how another dump differs from the good one, as a text: in which data lines, at which levels of address lines, by which
-/// single faults, and each word that differs, at its address, where the word at `first` is the dumps' first. Labels name the addresses, if
-/// there are any.
+/// The account of how another dump differs from the good one, as a text: in its length; in which data lines, at which levels of address
+/// lines, by which single faults, and each word that differs, at its address, where the word at `first` is the dumps' first; or that they
+/// are equal as far as both go. Labels name the addresses, if there are any.
 pub fn dump_text(
     alloc: Global,
     good: &[u8],
@@ -31,6 +32,8 @@ pub fn dump_text(
         push_address_lines(alloc, &mut text, good, other)?;
         push_faults(alloc, &mut text, good, other, bytes)?;
         push_words(&mut text, good, other, first);
+    } else {
+        text.push("equal as far as both go\n");
     }
     text.finish()
 }
@@ -165,17 +168,28 @@ fn push_fault(text: &mut Text, fault: DumpFault, bytes: usize) {
     }
 }
 
-fn push_data_fault(text: &mut Text, fault: DataFault) {
+/// What is wrong with one or two lines of this kind, whose numbers stand behind this letter.
+fn push_line_fault(text: &mut Text, kind: &str, letter: &str, fault: LineFault) {
+    text.push(kind);
     match fault {
-        DataFault::Stuck(line, level) => {
-            push_line(text, "data line D", line);
+        LineFault::Stuck(line, level) => {
+            text.push(" line ");
+            push_line(text, letter, line);
             text.push(spelled(level, " is low", " is high"));
         }
-        DataFault::Crossed(one, other) => {
-            push_line(text, "data lines D", one);
-            push_line(text, " and D", other);
+        LineFault::Crossed(one, other) => {
+            text.push(" lines ");
+            push_line(text, letter, one);
+            text.push(" and ");
+            push_line(text, letter, other);
             text.push(" are crossed");
         }
+    }
+}
+
+fn push_data_fault(text: &mut Text, fault: DataFault) {
+    match fault {
+        DataFault::Lines(fault) => push_line_fault(text, "data", "D", fault),
         DataFault::Inverted => text.push("all data lines are inverted"),
         DataFault::Blank(level) => {
             text.push(spelled(level, "all bytes are 00", "all bytes are FF"));
@@ -185,15 +199,7 @@ fn push_data_fault(text: &mut Text, fault: DataFault) {
 
 fn push_address_fault(text: &mut Text, fault: AddressFault, bytes: usize) {
     match fault {
-        AddressFault::Stuck(line, level) => {
-            push_line(text, "address line A", line);
-            text.push(spelled(level, " is low", " is high"));
-        }
-        AddressFault::Crossed(one, other) => {
-            push_line(text, "address lines A", one);
-            push_line(text, " and A", other);
-            text.push(" are crossed");
-        }
+        AddressFault::Lines(fault) => push_line_fault(text, "address", "A", fault),
         AddressFault::Inverted(line) => push_inverted(text, line, bytes),
         AddressFault::Later(distance) => push_shifted(text, distance, "further on"),
         AddressFault::Earlier(distance) => push_shifted(text, distance, "before"),
@@ -219,6 +225,20 @@ fn push_shifted(text: &mut Text, distance: u8, direction: &str) {
     text.push(direction);
 }
 
+/// Where the word at an index lies, and that it holds what follows: its address, if a ROM may have it, or else the places of its bytes.
+fn push_place(text: &mut Text, first: u16, index: u16) {
+    let addr = first.saturating_add(index);
+    if addr <= MEMORY_LAST {
+        text.push_addressed("word: ", addr);
+        text.push(" holds ");
+    } else {
+        let place = 2 * usize::from(index);
+        text.push_number("word: bytes ", place);
+        text.push_number(" and ", place + 1);
+        text.push(" hold ");
+    }
+}
+
 /// Each word that differs.
 fn push_words(text: &mut Text, good: &[u8], other: &[u8], first: u16)
     requires { length good.now ≤ MOST_BYTES }
@@ -226,8 +246,7 @@ fn push_words(text: &mut Text, good: &[u8], other: &[u8], first: u16)
     for index in 0..(front(good, other) / 2) as u16 {
         if let (Some(word), Some(changed)) = (word_at(good, index), word_at(other, index)) {
             if word != changed {
-                text.push_addressed("word: ", first.saturating_add(index));
-                text.push(" holds ");
+                push_place(text, first, index);
                 text.push_word(word);
                 text.push(", in the other ");
                 text.push_word(changed);

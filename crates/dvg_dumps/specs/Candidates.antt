@@ -1,7 +1,9 @@
 -- The single faults that are tried. All of it is this project's own.
-use Rattle.std.specs.Prelude.{ℕ, List, [], ◌∷◌, ◌++◌, nat_lt, if◌then◌else◌}
+use Rattle.std.specs.Prelude.{ℕ, List, [], ◌∷◌, ◌++◌, map, nat_lt, if◌then◌else◌}
 use Rattle.std.specs.List.{filter, flat_map}
 use Rattle.dvg_dumps.specs.declared.lines.Level.TheVariants.{Low, High}
+use Rattle.dvg_dumps.specs.declared.fault.LineFault.{LineFault}
+use Rattle.dvg_dumps.specs.declared.fault.LineFault.TheVariants.{Stuck, Crossed}
 use Rattle.dvg_dumps.specs.declared.fault.DataFault.TheVariants as seen
 use Rattle.dvg_dumps.specs.declared.fault.AddressFault.TheVariants as address
 use Rattle.dvg_dumps.specs.declared.fault.DumpFault.{DumpFault}
@@ -27,53 +29,52 @@ pair_of one other = if nat_lt one other then (one, other) ∷ [] else []
 abbrev pub pairs : List ℕ → List (ℕ × ℕ)
 pairs lines = flat_map (λ one. flat_map (pair_of one) lines) lines
 
--- a data line is low or high
-abbrev pub data_stuck : ℕ → List DumpFault
-data_stuck line = fault.Data (seen.Stuck line Low) ∷ fault.Data (seen.Stuck line High) ∷ []
+-- a line is low or high
+abbrev pub stuck_faults : ℕ → List LineFault
+stuck_faults line = Stuck line Low ∷ Stuck line High ∷ []
 
 -- two are exchanged
-abbrev pub data_crossed : ℕ × ℕ → List DumpFault
-data_crossed pair = fault.Data (seen.Crossed pair.0 pair.1) ∷ []
+abbrev pub crossed_fault : ℕ × ℕ → LineFault
+crossed_fault pair = Crossed pair.0 pair.1
 
--- all are inverted, low or high
-abbrev pub all_data : List DumpFault
-all_data = fault.Data seen.Inverted ∷ fault.Data (seen.Blank Low) ∷ fault.Data (seen.Blank High) ∷ []
+-- one of these lines or two have a fault
+abbrev pub line_faults : List ℕ → List LineFault
+line_faults lines = flat_map stuck_faults lines ++ map crossed_fault (pairs lines)
 
--- an address line is low or high
-abbrev pub address_stuck : ℕ → List DumpFault
-address_stuck line = fault.Address (address.Stuck line Low) ∷ fault.Address (address.Stuck line High) ∷ []
+-- the lines are data lines
+abbrev pub data_fault : LineFault → DumpFault
+data_fault f = fault.Data (seen.Lines f)
 
--- two are exchanged
-abbrev pub address_crossed : ℕ × ℕ → List DumpFault
-address_crossed pair = fault.Address (address.Crossed pair.0 pair.1) ∷ []
+-- the faults of data lines, among them that all are inverted, low or high
+abbrev pub data_faults : List DumpFault
+data_faults =
+    map data_fault (line_faults data_lines)
+    ++ fault.Data seen.Inverted ∷ fault.Data (seen.Blank Low) ∷ fault.Data (seen.Blank High) ∷ []
 
--- one is inverted
-abbrev pub address_inverted : ℕ → List DumpFault
-address_inverted line = fault.Address (address.Inverted line) ∷ []
+-- they are address lines
+abbrev pub address_fault : LineFault → DumpFault
+address_fault f = fault.Address (address.Lines f)
 
--- by one byte or by a word, where that leaves bytes to compare
-abbrev pub shifts : ℕ → List DumpFault
-shifts bytes =
-    if nat_lt 2 bytes
-    then fault.Address (address.Later 1) ∷ fault.Address (address.Earlier 1)
+-- one of these is inverted
+abbrev pub inverted_fault : ℕ → DumpFault
+inverted_fault line = fault.Address (address.Inverted line)
+
+-- bytes come from one byte or one word away
+abbrev pub shifts : List DumpFault
+shifts =
+    fault.Address (address.Later 1) ∷ fault.Address (address.Earlier 1)
     ∷ fault.Address (address.Later 2) ∷ fault.Address (address.Earlier 2) ∷ []
-    else []
 
 -- where an address line is high or low, all data lines are high or low
 abbrev pub dead_parts : ℕ → List DumpFault
 dead_parts line =
     fault.Dead line High High ∷ fault.Dead line High Low ∷ fault.Dead line Low High ∷ fault.Dead line Low Low ∷ []
 
--- the faults of data lines
-abbrev pub data_faults : List DumpFault
-data_faults = flat_map data_stuck data_lines ++ flat_map data_crossed (pairs data_lines) ++ all_data
+-- the faults of these address lines, and the shifts
+abbrev pub address_faults : List ℕ → List DumpFault
+address_faults lines =
+    map address_fault (line_faults lines) ++ map inverted_fault lines ++ shifts ++ flat_map dead_parts lines
 
--- those of address lines, where these differ among so many bytes
-abbrev pub address_faults : ℕ → List DumpFault
-address_faults bytes =
-    flat_map address_stuck (lines_below bytes) ++ flat_map address_crossed (pairs (lines_below bytes))
-    ++ flat_map address_inverted (lines_below bytes) ++ shifts bytes
-
--- all that are tried on dumps with so many bytes in common
+-- all that are tried on a good dump of so many bytes
 abbrev pub candidates : ℕ → List DumpFault
-candidates bytes = data_faults ++ address_faults bytes ++ flat_map dead_parts (lines_below bytes)
+candidates bytes = data_faults ++ address_faults (lines_below bytes)

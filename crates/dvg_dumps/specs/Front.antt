@@ -14,6 +14,11 @@ abbrev pub all_below : (ℕ → Bool) → ℕ → Bool
 all_below p zero = true
 all_below p (suc n) = all_below p n && p n
 
+-- p holds of one of them
+abbrev pub any_below : (ℕ → Bool) → ℕ → Bool
+any_below p zero = false
+any_below p (suc n) = any_below p n || p n
+
 -- the sum over the numbers below this one
 abbrev pub sum_below : (ℕ → ℕ) → ℕ → ℕ
 sum_below f zero = 0

@@ -7,11 +7,10 @@ ghost use Rattle.dvg_dumps.specs.Told.{told};
 ghost use Rattle.dvg_dumps.specs.declared.measuring.TheConstants.{MOST_BYTES};
 
 use crate::fault::{DumpFault, explains};
-use crate::measuring::front;
 use crate::tried::candidates;
 use std::alloc::{AllocError, Global};
 
-/// Those of these faults that make all bytes of the front of the good dump's.
+/// Those of these faults that make each byte of the other dump, as far as both go, of the good one: by [`explains`].
 fn explaining(
     alloc: Global,
     faults: &[DumpFault],
@@ -30,12 +29,12 @@ fn explaining(
     Ok(found)
 }
 
-/// The single faults that make all bytes of the front of the good dump's: just those that are tried and do. Where no byte differs, faults
-/// that change nothing are among them.
+/// All single faults, of those that are tried, that make each byte of the other dump, as far as both go, of the good one: by [`explains`].
+/// Where no byte differs, there are none.
 pub fn faults_of(alloc: Global, good: &[u8], other: &[u8]) -> Result<Vec<DumpFault>, AllocError>
     requires { length good.now ≤ MOST_BYTES }
     ensures { IfOk result (λ found. found.items ≡ told good.now other.now) }
 {
-    let tried = candidates(alloc, front(good, other))?;
+    let tried = candidates(alloc, good.len())?;
     explaining(alloc, &tried, good, other)
 }

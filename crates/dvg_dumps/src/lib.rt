@@ -12,7 +12,7 @@ mod measuring;
 mod tried;
 
 pub use differences::{Differences, differences_of};
-pub use fault::{AddressFault, DataFault, DumpFault, explains};
+pub use fault::{AddressFault, DataFault, DumpFault, LineFault, explains};
 pub use faults::faults_of;
 pub use lines::Level;
 pub use measuring::{MOST_BYTES, Measure, count, front, is_level_where_different, word_at};

@@ -78,7 +78,7 @@ pub fn byte_at(dump: &[u8], at: usize) -> Option<u8>
 }
 
 /// Whether the dumps differ at an address.
-fn differs_at(good: &[u8], other: &[u8], at: usize) -> bool
+pub fn differs_at(good: &[u8], other: &[u8], at: usize) -> bool
     ensures { result ≡ differs_at good.now other.now at }
 {
     differ(byte_at(good, at), byte_at(other, at))

@@ -1,10 +1,10 @@
 //! The single faults that are tried.
 
-ghost use Rattle.std.specs.Prelude.{◌≡◌, ◌++◌, nat_lt, IfOk, OnOk};
+ghost use Rattle.std.specs.Prelude.{◌≡◌, ◌++◌, map, nat_lt, IfOk, OnOk};
 ghost use Rattle.std.specs.List.{filter, flat_map};
-ghost use Rattle.dvg_dumps.specs.Candidates.{address_crossed, address_faults, address_inverted, address_stuck, candidates, data_crossed, data_faults, data_stuck, dead_parts, lines_below, pair_of, pairs, shifts};
+ghost use Rattle.dvg_dumps.specs.Candidates.{address_fault, address_faults, candidates, crossed_fault, data_faults, dead_parts, inverted_fault, line_faults, lines_below, pair_of, pairs, shifts, stuck_faults};
 
-use crate::fault::{AddressFault, DataFault, DumpFault};
+use crate::fault::{AddressFault, DataFault, DumpFault, LineFault};
 use crate::lines::Level;
 use std::alloc::{AllocError, Global};
 
@@ -57,56 +57,82 @@ fn pairs(alloc: Global, lines: &[u16]) -> Result<Vec<(u16, u16)>, AllocError>
     Ok(found)
 }
 
-/// Adds that one of the data lines is low or high.
-fn add_data_stuck(all: &mut Vec<DumpFault>, lines: &[u16]) -> Result<(), AllocError>
-    ensures { OnOk result (all.new.items ≡ all.old.items ++ flat_map data_stuck lines.now) }
+/// Adds that one of these lines is low or high.
+fn add_stuck(faults: &mut Vec<LineFault>, lines: &[u16]) -> Result<(), AllocError>
+    ensures { OnOk result (faults.new.items ≡ faults.old.items ++ flat_map stuck_faults lines.now) }
 {
     for line in lines {
-        all.push(DumpFault::Data(DataFault::Stuck(*line, Level::Low)))?;
-        all.push(DumpFault::Data(DataFault::Stuck(*line, Level::High)))?;
+        faults.push(LineFault::Stuck(*line, Level::Low))?;
+        faults.push(LineFault::Stuck(*line, Level::High))?;
     }
     Ok(())
 }
 
-/// Adds that the data lines of a pair are exchanged.
-fn add_data_crossed(all: &mut Vec<DumpFault>, pairs: &[(u16, u16)]) -> Result<(), AllocError>
-    ensures { OnOk result (all.new.items ≡ all.old.items ++ flat_map data_crossed pairs.now) }
+/// Adds that the lines of a pair are exchanged.
+fn add_crossed(faults: &mut Vec<LineFault>, pairs: &[(u16, u16)]) -> Result<(), AllocError>
+    ensures { OnOk result (faults.new.items ≡ faults.old.items ++ map crossed_fault pairs.now) }
 {
     for pair in pairs {
-        all.push(DumpFault::Data(DataFault::Crossed(pair.0, pair.1)))?;
+        faults.push(LineFault::Crossed(pair.0, pair.1))?;
     }
     Ok(())
 }
 
-/// Adds that one of the address lines is low or high.
-fn add_address_stuck(all: &mut Vec<DumpFault>, lines: &[u16]) -> Result<(), AllocError>
-    ensures { OnOk result (all.new.items ≡ all.old.items ++ flat_map address_stuck lines.now) }
+/// What may be wrong with one of these lines, or with two.
+fn line_faults(alloc: Global, lines: &[u16]) -> Result<Vec<LineFault>, AllocError>
+    ensures { IfOk result (λ faults. faults.items ≡ line_faults lines.now) }
 {
-    for line in lines {
-        all.push(DumpFault::Address(AddressFault::Stuck(*line, Level::Low)))?;
-        all.push(DumpFault::Address(AddressFault::Stuck(*line, Level::High)))?;
-    }
-    Ok(())
+    let mut faults = Vec::new(alloc);
+    add_stuck(&mut faults, lines)?;
+    add_crossed(&mut faults, &pairs(alloc, lines)?)?;
+    Ok(faults)
 }
 
-/// Adds that the address lines of a pair are exchanged.
-fn add_address_crossed(all: &mut Vec<DumpFault>, pairs: &[(u16, u16)]) -> Result<(), AllocError>
-    ensures { OnOk result (all.new.items ≡ all.old.items ++ flat_map address_crossed pairs.now) }
+/// The faults of data lines.
+fn data_faults(alloc: Global) -> Result<Vec<DumpFault>, AllocError>
+    ensures { IfOk result (λ all. all.items ≡ data_faults) }
 {
-    for pair in pairs {
-        all.push(DumpFault::Address(AddressFault::Crossed(pair.0, pair.1)))?;
+    let mut all = Vec::new(alloc);
+    for fault in &line_faults(alloc, &DATA_LINES)? {
+        all.push(DumpFault::Data(DataFault::Lines(*fault)))?;
+    }
+    all.push(DumpFault::Data(DataFault::Inverted))?;
+    all.push(DumpFault::Data(DataFault::Blank(Level::Low)))?;
+    all.push(DumpFault::Data(DataFault::Blank(Level::High)))?;
+    Ok(all)
+}
+
+/// Adds what may be wrong with one of these address lines, or with two.
+fn add_line_faults(alloc: Global, all: &mut Vec<DumpFault>, lines: &[u16]) -> Result<(), AllocError>
+    ensures { OnOk result (all.new.items ≡ all.old.items ++ map address_fault (line_faults lines.now)) }
+{
+    for fault in &line_faults(alloc, lines)? {
+        all.push(DumpFault::Address(AddressFault::Lines(*fault)))?;
     }
     Ok(())
 }
 
 /// Adds that one of the address lines is inverted.
-fn add_address_inverted(all: &mut Vec<DumpFault>, lines: &[u16]) -> Result<(), AllocError>
-    ensures { OnOk result (all.new.items ≡ all.old.items ++ flat_map address_inverted lines.now) }
+fn add_inverted(all: &mut Vec<DumpFault>, lines: &[u16]) -> Result<(), AllocError>
+    ensures { OnOk result (all.new.items ≡ all.old.items ++ map inverted_fault lines.now) }
 {
     for line in lines {
         all.push(DumpFault::Address(AddressFault::Inverted(*line)))?;
     }
     Ok(())
+}
+
+/// That bytes come from one byte or one word away.
+fn shifts() -> [DumpFault; 4]
+    ensures { result ≡ shifts }
+{
+    [
+        AddressFault::Later(1),
+        AddressFault::Earlier(1),
+        AddressFault::Later(2),
+        AddressFault::Earlier(2),
+    ]
+    .map(DumpFault::Address)
 }
 
 /// That all data lines are high or low where an address line is.
@@ -132,55 +158,25 @@ fn add_dead_parts(all: &mut Vec<DumpFault>, lines: &[u16]) -> Result<(), AllocEr
     Ok(())
 }
 
-/// Adds that bytes come from other addresses, by one byte or by a word, where that leaves bytes to compare.
-fn add_shifts(all: &mut Vec<DumpFault>, bytes: usize) -> Result<(), AllocError>
-    ensures { OnOk result (all.new.items ≡ all.old.items ++ shifts bytes) }
-{
-    if bytes > 2 {
-        all.push(DumpFault::Address(AddressFault::Later(1)))?;
-        all.push(DumpFault::Address(AddressFault::Earlier(1)))?;
-        all.push(DumpFault::Address(AddressFault::Later(2)))?;
-        all.push(DumpFault::Address(AddressFault::Earlier(2)))?;
-    }
-    Ok(())
-}
-
-/// The faults of data lines.
-fn data_faults(alloc: Global) -> Result<Vec<DumpFault>, AllocError>
-    ensures { IfOk result (λ all. all.items ≡ data_faults) }
-{
-    let mut all = Vec::new(alloc);
-    add_data_stuck(&mut all, &DATA_LINES)?;
-    add_data_crossed(&mut all, &pairs(alloc, &DATA_LINES)?)?;
-    all.push(DumpFault::Data(DataFault::Inverted))?;
-    all.push(DumpFault::Data(DataFault::Blank(Level::Low)))?;
-    all.push(DumpFault::Data(DataFault::Blank(Level::High)))?;
-    Ok(all)
-}
-
-/// Adds the faults of these address lines, which differ among so many bytes.
+/// Adds the faults of these address lines, and the shifts.
 fn add_address_faults(
     alloc: Global,
     all: &mut Vec<DumpFault>,
     lines: &[u16],
-    bytes: usize,
 ) -> Result<(), AllocError>
-    requires { lines.now ≡ lines_below bytes }
-    ensures { OnOk result (all.new.items ≡ all.old.items ++ address_faults bytes) }
+    ensures { OnOk result (all.new.items ≡ all.old.items ++ address_faults lines.now) }
 {
-    add_address_stuck(all, lines)?;
-    add_address_crossed(all, &pairs(alloc, lines)?)?;
-    add_address_inverted(all, lines)?;
-    add_shifts(all, bytes)
+    add_line_faults(alloc, all, lines)?;
+    add_inverted(all, lines)?;
+    all.extend_from_slice(&shifts())?;
+    add_dead_parts(all, lines)
 }
 
-/// All faults that are tried on dumps with so many bytes in common.
+/// All faults that are tried on a good dump of so many bytes.
 pub fn candidates(alloc: Global, bytes: usize) -> Result<Vec<DumpFault>, AllocError>
     ensures { IfOk result (λ all. all.items ≡ candidates bytes) }
 {
-    let lines = lines_below(alloc, bytes)?;
     let mut all = data_faults(alloc)?;
-    add_address_faults(alloc, &mut all, &lines, bytes)?;
-    add_dead_parts(&mut all, &lines)?;
+    add_address_faults(alloc, &mut all, &lines_below(alloc, bytes)?)?;
     Ok(all)
 }

@@ -1,7 +1,0 @@
-use Rattle.std.proofs.Common.{◌≡◌, ◌++◌, take}
-use Rattle.std.specs.List.{flat_map}
-use Rattle.dvg_dumps.specs.Candidates.{address_inverted}
-use Rattle.dvg_dumps.proofs.tried.add_address_inverted.Given as goal
-
-abbrev pub invariant-loop-line : goal.invariant-loop-line
-invariant-loop-line l = l.all.items ≡ l.fn.all.items ++ flat_map address_inverted (take l.line-index l.lines)
