@@ -1,7 +1,7 @@
 //! The single faults that are tried.
 
-ghost use Rattle.std.specs.Prelude.{◌≡◌, ◌++◌, map, nat_lt, IfOk, OnOk};
-ghost use Rattle.std.specs.List.{filter, flat_map};
+ghost use Rattle.std.specs.Prelude.{◌≡◌, ◌++◌, map, IfOk, OnOk};
+ghost use Rattle.std.specs.List.{flat_map};
 ghost use Rattle.dvg_dumps.specs.Candidates.{address_fault, address_faults, candidates, crossed_fault, data_faults, dead_parts, inverted_fault, line_faults, lines_below, pair_of, pairs, shifts, stuck_faults};
 
 use crate::fault::{AddressFault, DataFault, DumpFault, LineFault};
@@ -14,24 +14,17 @@ const ADDRESS_LINES: [u16; 12] = [1, 2, 4, 8, 16, 32, 64, 128, 256, 512, 1024, 2
 /// The data lines, by theirs.
 pub const DATA_LINES: [u16; 8] = [1, 2, 4, 8, 16, 32, 64, 128];
 
-/// Those of these lines that differ among so many bytes.
-fn those_below(alloc: Global, lines: &[u16], bytes: usize) -> Result<Vec<u16>, AllocError>
-    ensures { IfOk result (λ below. below.items ≡ filter (λ line. nat_lt line bytes) lines.now) }
-{
-    let mut below = Vec::new(alloc);
-    for line in lines {
-        if usize::from(*line) < bytes {
-            below.push(*line)?;
-        }
-    }
-    Ok(below)
-}
-
 /// The address lines that differ among so many bytes.
 pub fn lines_below(alloc: Global, bytes: usize) -> Result<Vec<u16>, AllocError>
     ensures { IfOk result (λ lines. lines.items ≡ lines_below bytes) }
 {
-    those_below(alloc, &ADDRESS_LINES, bytes)
+    let mut below = Vec::new(alloc);
+    for line in ADDRESS_LINES {
+        if usize::from(line) < bytes {
+            below.push(line)?;
+        }
+    }
+    Ok(below)
 }
 
 /// Adds the pairs of a line and a higher one.

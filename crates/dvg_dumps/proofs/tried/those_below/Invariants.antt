@@ -1,6 +1,0 @@
-use Rattle.std.proofs.Common.{◌≡◌, take, nat_lt}
-use Rattle.std.specs.List.{filter}
-use Rattle.dvg_dumps.proofs.tried.those_below.Given as goal
-
-abbrev pub invariant-loop-line : goal.invariant-loop-line
-invariant-loop-line l = l.below.items ≡ filter (λ line. nat_lt line l.bytes) (take l.line-index l.lines)
