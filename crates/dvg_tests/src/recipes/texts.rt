@@ -340,7 +340,7 @@ fn spelled(rt: &impl Abort, alloc: Global, spelling: &str) -> Vec<u8> {
     let behind = spelling.strip_prefix("+").unwrap_or(spelling);
     let lines = text_of_lines(rt, alloc, behind);
     if spelling.starts_with("+") {
-        text_of(alloc, &[(H, 1), (&lines, 1)]).expect(rt, "memory for the text")
+        text_of(alloc, &[(H, 1), (lines.as_slice(), 1)]).expect(rt, "memory for the text")
     } else {
         lines
     }
