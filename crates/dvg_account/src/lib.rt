@@ -64,7 +64,7 @@ pub use remarks::Remark;
 pub use starts::ShapeStarts;
 pub use swapped::{Swapped, find_swapped};
 pub use texts::{
-    address_text, certificate_text, frame_text, leaving_text, made_text, own_text, plain_text, timed_text,
-    unmade_text, verdict_text,
+    address_text, certificate_text, frame_text, leaving_text, made_text, own_text, plain_text,
+    timed_text, unmade_text, verdict_text,
 };
 pub use why::{Addresses, Bounds, ClaimWhy, Corner, Difference, InputWhy, MakerWhy, Owner, Why};

@@ -92,7 +92,9 @@ impl BehindFrame {
         ensures { result ≡ outcome_behind_frame self.now line }
     {
         match self {
-            BehindFrame::Answer(behind) | BehindFrame::Called(behind, _) => { behind.frame_outcome(line) }
+            BehindFrame::Answer(behind) | BehindFrame::Called(behind, _) => {
+                behind.frame_outcome(line)
+            }
             BehindFrame::Remarks(_) => line,
             BehindFrame::NoRemarks => line.or_worse(FrameOutcome::NoMemory),
         }
@@ -129,12 +131,7 @@ fn remarks_on(
         return Ok(Vec::new(alloc));
     };
     match own.made_for(alloc, &rom, &image)? {
-        Some(cert) => frame_remarks(
-            alloc,
-            &own.inputs(Some(&cert), frame, labels),
-            &rom,
-            &image,
-        ),
+        Some(cert) => frame_remarks(alloc, &own.inputs(Some(&cert), frame, labels), &rom, &image),
         None => Ok(Vec::new(alloc)),
     }
 }

@@ -12,6 +12,9 @@ returns-in_err-write-clause-prefix g c =
 
 pub loop-count-preserved : goal.loop-count-preserved
 loop-count-preserved g c =
-    search (rules, line_sent (of_each called_text c.args.counts.now) (g.W.Write.contents c.args.out.now) (g.W.CountedWrite.whole_writes c.args.out.now) _ _ _
-    (next_line called_text c.args.counts.now c.loop-count.count-index c.count-item.result c.count-item.is c.loop-count-test.true) _ _ _ c.loop-count.invariant.sent
-    _ c.in_ok-write.ensures.sent)
+    search (
+      rules,
+      line_sent (of_each called_text c.args.counts.now) (g.W.Write.contents c.args.out.now) (g.W.CountedWrite.whole_writes c.args.out.now) _ _ _
+          (next_line called_text c.args.counts.now c.loop-count.count-index c.count-item.result c.count-item.is c.loop-count-test.true) _ _ _ c.loop-count.invariant.sent
+          _ c.in_ok-write.ensures.sent,
+    )
