@@ -147,15 +147,14 @@ impl<'a> OwnCertificates<'a> {
         }
     }
 
-    /// The certificate that is made for a frame over a ROM, if one can be made. Takes memory as [`explain_judging`] does; an `Err` says
-    /// that there was none.
-    pub fn made_for(
-        &self,
-        alloc: Global,
-        rom: &RomImage,
-        frame: &FrameImage,
-    ) -> Result<Option<Cert>, AllocError> {
-        match explain_judging(alloc, rom, frame, self.budget, self.window) {
+    /// The certificate that is made for a frame, if one can be made. Takes memory as [`explain_judging`] does; an `Err` says that there was
+    /// none.
+    pub fn made_for(&self, alloc: Global, frame: &[u8]) -> Result<Option<Cert>, AllocError> {
+        let Ok((frame, rom)) = images_for(self.machine, self.rom, self.map, frame, self.budget)
+        else {
+            return Ok(None);
+        };
+        match explain_judging(alloc, &rom, &frame, self.budget, self.window) {
             Ok(judged) => Ok(Some(judged.cert)),
             Err(account) if account.cause == EntryCause::Memory => Err(AllocError),
             Err(_) => Ok(None),
@@ -170,33 +169,10 @@ impl<'a> OwnCertificates<'a> {
         frame: &[u8],
         starts: &mut ShapeStarts,
     ) -> Result<(), AllocError> {
-        if let Ok((frame, rom)) = images_for(self.machine, self.rom, self.map, frame, self.budget) {
-            if let Some(cert) = self.made_for(alloc, &rom, &frame)? {
-                starts.add(&cert);
-            }
+        if let Some(cert) = self.made_for(alloc, frame)? {
+            starts.add(&cert);
         }
         Ok(())
-    }
-
-    /// What is judged of a frame, by a certificate, if one was made.
-    pub fn inputs(
-        &self,
-        cert: Option<&'a Cert>,
-        frame: &'a [u8],
-        labels: Option<&'a Labels>,
-    ) -> Inputs<'a> {
-        Inputs {
-            machine: self.machine,
-            rom: self.rom,
-            map: Some(self.map),
-            cert,
-            frame,
-            budget: self.budget,
-            window: self.window,
-            mode: Mode::Exact,
-            labels,
-            others: self.others,
-        }
     }
 }
 
@@ -264,7 +240,18 @@ pub fn explain_by_own<'a>(
         own.now.rom.now own.now.map own.now.budget own.now.window) frame.now (told_with line (timed_answer result.answer)) }
     ensures behind { IsBehind (details.Account None) result.behind }
 {
-    let inputs = own.inputs(None, frame, labels);
+    let inputs = Inputs {
+        machine: own.machine,
+        rom: own.rom,
+        map: Some(own.map),
+        cert: None,
+        frame,
+        budget: own.budget,
+        window: own.window,
+        mode: Mode::Exact,
+        labels,
+        others: own.others,
+    };
     match images_for(own.machine, own.rom, own.map, frame, own.budget) {
         Ok((image, rom)) => {
             let timed = explain_timed(alloc, &rom, &image, own.budget, own.window, timing);

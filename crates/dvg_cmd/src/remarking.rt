@@ -6,7 +6,9 @@ ghost use Rattle.dvg_cmd.specs.Remarking.{AreRemarks, answer_detail, has_account
 use crate::called::Called;
 use crate::detail::{Behind, Detail};
 use crate::frame_judge::{OwnCertificates, images_for};
-use dvg_account::{FrameRemark, frame_remarks, remarks_text};
+use dvg_account::{FrameRemark, Inputs, frame_remarks, remarks_text};
+use dvg_cert::Cert;
+use dvg_check::Mode;
 use dvg_labels::Labels;
 use dvg_spelling::FrameOutcome;
 use std::alloc::{AllocError, Global};
@@ -114,24 +116,37 @@ impl<'a> Remarking<'a> {
     }
 
     fn find(&self, alloc: Global, name: &str, frame: &[u8]) -> Result<FrameRemarks, AllocError> {
-        let found = remarks_on(alloc, &self.own, frame, self.labels)?;
+        let found = match self.own.made_for(alloc, frame)? {
+            Some(cert) => remarks_by(alloc, &self.own, &cert, frame, self.labels)?,
+            None => Vec::new(alloc),
+        };
         let text = remarks_text(alloc, name, found.as_slice(), self.labels)?;
         Ok(FrameRemarks { found, text })
     }
 }
 
 /// The remarks on a frame by the certificate that is made for it so.
-fn remarks_on(
+fn remarks_by<'a>(
     alloc: Global,
-    own: &OwnCertificates,
-    frame: &[u8],
-    labels: Option<&Labels>,
+    own: &OwnCertificates<'a>,
+    cert: &'a Cert,
+    frame: &'a [u8],
+    labels: Option<&'a Labels>,
 ) -> Result<Vec<FrameRemark>, AllocError> {
-    let Ok((image, rom)) = images_for(own.machine, own.rom, own.map, frame, own.budget) else {
-        return Ok(Vec::new(alloc));
+    let inputs = Inputs {
+        machine: own.machine,
+        rom: own.rom,
+        map: Some(own.map),
+        cert: Some(cert),
+        frame,
+        budget: own.budget,
+        window: own.window,
+        mode: Mode::Exact,
+        labels,
+        others: own.others,
     };
-    match own.made_for(alloc, &rom, &image)? {
-        Some(cert) => frame_remarks(alloc, &own.inputs(Some(&cert), frame, labels), &rom, &image),
-        None => Ok(Vec::new(alloc)),
+    match images_for(own.machine, own.rom, own.map, frame, own.budget) {
+        Ok((image, rom)) => frame_remarks(alloc, &inputs, &rom, &image),
+        Err(_) => Ok(Vec::new(alloc)),
     }
 }
