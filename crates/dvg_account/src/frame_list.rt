@@ -3,10 +3,9 @@
 use crate::labs_watch::LabsWatch;
 use crate::remarked::FrameRemark;
 use crate::unseen::unseen_list;
-use crate::zeros::{MOST_ITEMS, item_below};
-use dvg_items::{Item, Kind};
+use dvg_items::{Item, Items, Kind};
 use dvg_spelling::RemarkKind;
-use dvg_words::{ADDRESS_END, FrameOn, Instr, RomImage};
+use dvg_words::{FrameOn, Instr, RomImage};
 use std::alloc::{AllocError, Global};
 
 /// The remarks on the items of a frame's list and on what stands behind it, in their order.
@@ -18,16 +17,11 @@ pub fn list_remarks(
     let mut remarks = Vec::new(alloc);
     let mut watch = LabsWatch::new();
     let mut last = None;
-    let mut here = Some(0);
-    for _ in 0..MOST_ITEMS {
-        let Some(item) = item_below(frame, here, ADDRESS_END) else {
-            break;
-        };
+    for item in Items::from(frame, Kind::Frame, 0) {
         if let Some(remark) = watch.pass(&item) {
             remarks.push(remark)?;
         }
         last = Some(item);
-        here = item.next_address(Kind::Frame);
     }
     if let Some(remark) = remark_behind(rom, frame, last) {
         remarks.push(remark)?;

@@ -75,4 +75,5 @@ pub record FirstShapeFault (mode : Mode) (w : Window) (rom : Rom) (list : List E
 
 -- the first fault of a frame
 abbrev pub FirstFrameFault : Window → Machine → List ℕ → List Entry → ℕ → FrameFault → Type 0
-FirstFrameFault w machine words list budget f = FaultAt frame_number Frame (frame_word machine words) 0 (FramePlaceKeeps w machine words list budget) f.word f.why
+FirstFrameFault w machine words list budget f =
+    FaultAt frame_number Frame (frame_word machine words) 0 (FramePlaceKeeps w machine words list budget) f.word f.why

@@ -82,11 +82,13 @@ PlaceKeeps missing odd keeps c word earlier p why = CellKeeps missing odd (λ i.
 
 -- the cell at a word address of an entry's shape keeps a rule, after these items
 abbrev pub ShapePlaceKeeps : Mode → Window → Rom → List Entry → Entry → List Item → ℕ → ShapeWhy → Type 0
-ShapePlaceKeeps mode w rom list e = PlaceKeeps shape.Unmapped shape.Odd (ShapeKeeps mode w e) (shape_context rom.machine list e) (rom_word rom)
+ShapePlaceKeeps mode w rom list e =
+    PlaceKeeps shape.Unmapped shape.Odd (ShapeKeeps mode w e) (shape_context rom.machine list e) (rom_word rom)
 
 -- the cell at a word address of a frame keeps a rule, after these items
 abbrev pub FramePlaceKeeps : Window → Machine → List ℕ → List Entry → ℕ → List Item → ℕ → FrameWhy → Type 0
-FramePlaceKeeps w machine words list budget = PlaceKeeps frame.Unmapped frame.Odd (FrameKeeps w budget) (frame_context machine list) (frame_word machine words)
+FramePlaceKeeps w machine words list budget =
+    PlaceKeeps frame.Unmapped frame.Odd (FrameKeeps w budget) (frame_context machine list) (frame_word machine words)
 
 -- every word address that items lead to keeps every rule
 abbrev pub AllKeep : {Why : Type 0} → Kind → Source → ℕ → (List Item → ℕ → Why → Type 0) → Type 0

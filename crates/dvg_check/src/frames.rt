@@ -154,9 +154,8 @@ pub fn check_frame<E: Entries>(
     ensures ok { IfOk result (λ yes. GoodFrame window.now rom.now.machine frame.now cert.now.entries budget yes.words yes.depth) }
     ensures err { IfErr result (FirstFrameFault window.now rom.now.machine frame.now cert.now.entries budget) }
 {
-    let _map = rom.map();
-    // Its clause says that the list is that of a certificate.
-    let _entries = cert.entries();
+    rom.prove_whole();
+    cert.prove_certificate();
     match find_frame_fault(rom.machine(), frame, entries, budget, window) {
         Ok(accepted) => Ok(accepted),
         Err(finding) => Err(finding.fault),

@@ -81,9 +81,8 @@ impl<'a, E: Entries> JudgedShapes<'a, E> {
         ensures sound { IfErr result (λ finding. IsSoundFound finding.found) }
         ensures cause { IfErr result (ShapeCauseOf window) }
     {
-        // Their clauses say that the ROM is whole, and that the list is that of a certificate.
-        let _map = rom.map();
-        let _entries = cert.entries();
+        rom.prove_whole();
+        cert.prove_certificate();
         find_shape_fault(rom, cert, entries, &window, mode)?;
         Ok(JudgedShapes {
             rom,
@@ -112,11 +111,9 @@ impl<'a, E: Entries> JudgedShapes<'a, E> {
         ensures cause { IfErr result (CauseOf self.now.window budget) }
         ensures means { IfOk result (λ yes. Means self.now.mode (record { frame = frame.now; rom = self.now.rom }) self.now.window yes.words yes.depth) }
     {
-        // Its clause says that the frame is whole.
-        let _words = frame.words();
+        frame.prove_whole();
         let machine = self.rom.machine();
-        // Its clause says that the window is a part of the screen, or the zone.
-        let _fits = self.window.is_for(machine);
+        self.window.prove_for_board();
         find_frame_fault(machine, frame, self.entries, budget, &self.window)
     }
 
@@ -132,8 +129,7 @@ impl<'a, E: Entries> JudgedShapes<'a, E> {
         requires good { Good mode window rom.now (E.list entries.now) }
         ensures { result ≡ record { rom = rom.now; list = E.list entries.now; window = window; mode = mode } }
     {
-        // Its clause says that the ROM is whole.
-        let _map = rom.map();
+        rom.prove_whole();
         JudgedShapes {
             rom,
             entries,

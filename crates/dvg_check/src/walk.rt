@@ -4,7 +4,7 @@
 ghost use Rattle.std.specs.Prelude.{◌≡◌, ◌<◌, IfSome, IfOk, IfErr};
 ghost use Rattle.dvg_words.specs.Decoding.{InstrFits};
 ghost use Rattle.dvg_words.specs.declared.map.TheConstants.{ADDRESS_END};
-ghost use Rattle.dvg_items.specs.Bounds.{IsClaim, IsSoundCursor, IsSoundSeen, IsSomeCertificate};
+ghost use Rattle.dvg_items.specs.Bounds.{IsClaim, IsSoundCursor, IsSomeCertificate};
 ghost use Rattle.dvg_items.specs.Seen.{seen_with};
 ghost use Rattle.dvg_check.specs.Rules.{PlaceKeeps};
 ghost use Rattle.dvg_check.specs.Finding.{FaultFound, IsSoundFound};
@@ -15,7 +15,7 @@ use crate::cells::Cells;
 use crate::fault::{Fault, Found};
 use crate::rules::Rules;
 use dvg_cert::{Entries, Entry};
-use dvg_items::{Cursor, Kind, Known, Seen, Step, callee, target};
+use dvg_items::{Cursor, Known, Step, target};
 use dvg_words::{Cell, Format, Instr, Machine};
 
 /// Judges an instruction that calls this entry: the first rule that it breaks, or where it leads.
@@ -73,30 +73,6 @@ fn judge<E: Entries, R: Rules>(
         }
         None => judge_calling(rules, machine, cursor, format, instr, None),
     }
-}
-
-/// What the rules see of the instruction at a cursor. The loop passes copies, so that it needs no address of what it goes by.
-fn see<E: Entries>(
-    kind: Kind,
-    machine: Machine,
-    entries: &E,
-    here: Cursor,
-    format: Format,
-    instr: Instr,
-) -> Seen
-    requires entries { IsSomeCertificate (E.list entries.now) }
-    requires here { IsSoundCursor here }
-    requires near { here.at < ADDRESS_END }
-    requires fields { InstrFits instr }
-    ensures value { result ≡ seen_by machine (E.list entries.now) kind here.known (record { at = here.at; format = format; instr = instr }) }
-    ensures sound { IsSoundSeen result }
-{
-    here.see(
-        machine,
-        format,
-        &instr,
-        callee(entries, target(kind, &instr), here.known.scale),
-    )
 }
 
 /// Goes over the items from a word address on: what is known after the last one, if each keeps all rules.
@@ -165,7 +141,7 @@ pub fn walk<C: Cells, E: Entries, R: Rules>(
         };
         match judge(rules, machine, &mut callees, &cursor, format, &instr) {
             Err(why) => {
-                let seen = see(R::KIND, machine, entries, cursor, format, instr);
+                let seen = cursor.see_by(machine, entries, R::KIND, format, instr);
                 return Err(Fault::at(&cursor, why, Found::Seen(seen)));
             }
             Ok(Step::Last(known)) => return Ok(known),

@@ -71,9 +71,8 @@ pub fn frame_clocks_seen<E: Entries, S: SeesItems>(
     ensures err { IfErr result (IsFirstOver timing.now.states (record { frame = frame.now; rom = rom.now }) (E.list entries.now)
         timing.now.limit) }
 {
-    // Their clauses say that the ROM and the frame are whole.
-    let _map = rom.map();
-    let _words = frame.words();
+    rom.prove_whole();
+    frame.prove_whole();
     let memory = FrameOn::new(rom.machine(), frame);
     let first = ScaleCursor {
         kind: Kind::Frame,

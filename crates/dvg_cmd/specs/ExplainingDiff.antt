@@ -40,7 +40,8 @@ told_text told = dump_line told.differences ++ told.account
 
 -- it was written, by one write if it fits one, and nothing else; `writes` and `writes_after` count the writes that took their whole
 -- piece
-pub record TellsDifferences (rom other : Option (List ℕ)) (differ : Bool) (old new : Option (List ℕ)) (writes writes_after : ℕ) : Type 0 where
+pub record TellsDifferences (rom other : Option (List ℕ)) (differ : Bool) (old new : Option (List ℕ)) (writes writes_after : ℕ) : Type
+    0 where
   pub told : Told rom other
   pub differ_is : differ ≡ is_some told.differences
   pub written : Appends old new (told_text told)

@@ -6,13 +6,14 @@ ghost use Rattle.dvg_words.specs.Decoding.{InstrFits};
 ghost use Rattle.dvg_cert.specs.Entry.{IsKey};
 ghost use Rattle.dvg_items.specs.Seen.{seen_with};
 ghost use Rattle.dvg_items.specs.Cursor.{first_cursor};
-ghost use Rattle.dvg_items.specs.Bounds.{IsClaim, IsSoundCursor, IsSoundSeen};
+ghost use Rattle.dvg_items.specs.Bounds.{IsClaim, IsSomeCertificate, IsSoundCursor, IsSoundSeen};
+ghost use Rattle.dvg_items.specs.Known.{callee_at, target};
 
 use crate::action::action_at;
-use crate::item::{Item, Kind};
-use crate::known::Known;
+use crate::item::{Item, Kind, target};
+use crate::known::{Known, callee};
 use crate::seen::Seen;
-use dvg_cert::{Entry, Key};
+use dvg_cert::{Entries, Entry, Key};
 use dvg_words::{Format, Instr, Machine};
 
 /// The word address of an item, and what is known before it.
@@ -70,5 +71,27 @@ impl Cursor {
             callee,
             after: self.known.past(action.place, &item, &callee),
         }
+    }
+
+    /// What the rules see of this instruction at the cursor, with the entry that it calls by its target and the scale that is known. It
+    /// takes copies, so that a loop needs no address of what it goes by.
+    pub fn see_by<E: Entries>(
+        self,
+        machine: Machine,
+        entries: &E,
+        kind: Kind,
+        format: Format,
+        instr: Instr,
+    ) -> Seen
+        requires entries { IsSomeCertificate (E.list entries.now) }
+        requires here { IsSoundCursor self }
+        requires near { self.at < ADDRESS_END }
+        requires fields { InstrFits instr }
+        ensures value { result ≡ seen_with machine (callee_at (E.list entries.now) (target kind instr) self.known.scale) self.known
+            (record { at = self.at; format = format; instr = instr }) }
+        ensures sound { IsSoundSeen result }
+    {
+        let named = callee(entries, target(kind, &instr), self.known.scale);
+        self.see(machine, format, &instr, named)
     }
 }

@@ -9,6 +9,7 @@ mod action;
 mod boxes;
 mod cursor;
 mod item;
+mod items;
 mod known;
 pub mod laws;
 mod lit;
@@ -17,6 +18,7 @@ mod seen;
 pub use boxes::{box_corners, is_in_box, joined, spanning, widened};
 pub use cursor::{Cursor, Step};
 pub use item::{Item, Kind, target};
+pub use items::Items;
 pub use known::{Effect, Known, callee, depth_under, place_past, scale_past};
 pub use lit::{
     LitExtent, absolute_corners, lit_in_box, lit_in_window, place_known, relative_corners,

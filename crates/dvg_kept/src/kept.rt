@@ -126,8 +126,7 @@ impl<'a> KeptShapes<'a> {
     ) -> Result<KeptShapes<'a>, AllocError>
         ensures { IfOk result (λ kept. kept ≡ record { rom = rom.entry; window = window; list = [] }) }
     {
-        // Its clause says that the ROM is whole.
-        let _map = rom.map();
+        rom.prove_whole();
         Ok(KeptShapes {
             rom,
             window,

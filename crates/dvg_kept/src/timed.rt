@@ -95,8 +95,7 @@ impl<'a> TimedShapes<'a> {
         ensures rom { IsRom self.now.kept.rom }
     {
         let rom = self.kept.rom();
-        // Its clause says that the ROM is whole.
-        let _map = rom.map();
+        rom.prove_whole();
         explain_timed(alloc, rom, frame, budget, self.kept.window(), timing)
     }
 

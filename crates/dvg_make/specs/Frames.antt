@@ -23,7 +23,8 @@ pub record FrameAsksFor (machine : Machine) (words : List ℕ) (list : List Entr
 
 -- if the item calls an address, the list has an entry for it, at the scale that is known by this list (profile)
 abbrev pub IsKeyed : Machine → List Entry → List Item → Item → Type 0
-IsKeyed machine list earlier i = (to : ℕ) → target Frame i.instr ≡ Some to → HasEntry list to (scale_before (frame_context machine list) earlier)
+IsKeyed machine list earlier i =
+    (to : ℕ) → target Frame i.instr ≡ Some to → HasEntry list to (scale_before (frame_context machine list) earlier)
 
 -- the list has an entry for each call among these items of a frame (profile)
 abbrev pub AllKeyed : Machine → List Entry → List Item → Type 0

@@ -41,8 +41,7 @@ impl<'a> EntryMaker<'a> {
     pub fn new(alloc: Global, rom: &'a RomImage<'a>) -> EntryMaker<'a>
         ensures { result ≡ record { rom = rom.now; list = [] } }
     {
-        // Its clause says that the ROM is whole.
-        let _map = rom.map();
+        rom.prove_whole();
         EntryMaker {
             alloc,
             rom,
@@ -68,7 +67,7 @@ impl<'a> EntryMaker<'a> {
         ensures none { OnErr result (self.new.list ≡ []) }
     {
         if let Err(blocked) = self.making.need(self.rom, addr, key) {
-            let _map = self.rom.map();
+            self.rom.prove_whole();
             self.making = Making::new(self.alloc);
             return Err(blocked.obstacle.fault());
         }

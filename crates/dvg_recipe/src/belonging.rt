@@ -327,7 +327,7 @@ pub fn belongs(
     ensures ok { IfOk result (λ _. Belongs rom.now recipe.now frame.now) }
     ensures err { IfErr result (IfLeaves (Belongs rom.now recipe.now frame.now → ⊥)) }
 {
-    let _words = frame.words();
+    frame.prove_whole();
     let all = frame_items(alloc, frame)?;
     let places = places_for(alloc, rom, recipe, &all.items)?;
     let mut tried = Tried::new(alloc);

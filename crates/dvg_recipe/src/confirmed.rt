@@ -119,8 +119,7 @@ fn find_bytes(
 ) -> Result<Option<FoundFrame>, AllocError>
     requires budget { asked.now.budget ≤ MOST_WORDS }
 {
-    // Its clause says that the list is that of a certificate.
-    let _entries = cert.entries();
+    cert.prove_certificate();
     let entries = HashIndex::new(alloc, cert)?;
     match find(alloc, rom, &entries, asked, stop, recipe)? {
         Some(LeadingFrame { words, turns }) => {

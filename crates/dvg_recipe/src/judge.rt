@@ -689,9 +689,8 @@ pub fn judge_over<E: Entries>(
     ensures means { IfOk result (λ yes. AllMean rom.now recipe.now asked.now.window yes.words yes.depth) }
     ensures good { IfOk result (λ yes. AreGoodFrames rom.now recipe.now asked.now.window (E.list entries.now) asked.now.budget) }
 {
-    // Their clauses say that the ROM is whole, and that the window is a part of the screen, or the zone.
-    let _map = rom.map();
-    let _fits = asked.window.is_for(Machine::Board);
+    rom.prove_whole();
+    asked.window.prove_for_board();
     let ends = past_recipe(alloc, entries, asked, recipe, notes)?;
     notes.see_end(recipe.halt(), &ends);
     accepted(asked, recipe.halt(), notes, counts(&ends))

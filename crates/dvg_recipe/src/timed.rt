@@ -69,8 +69,7 @@ fn clocks_by(
     ensures take { IfOk result (AllTake timing.now.states rom.now recipe.now) }
     ensures within { IfOk result (λ clocks. clocks.most ≤ timing.now.limit) }
 {
-    // Its clause says that the ROM is whole.
-    let _map = rom.map();
+    rom.prove_whole();
     let list = cert.entries();
     let entries = HashIndex::new(alloc, cert)?;
     let shapes = ShapeClocks::of_all(alloc, &timing.states, rom, &entries, list)?;

@@ -113,8 +113,7 @@ fn judge_by(
     ensures means { IfOk result (λ yes. AllMean rom.now recipe.now asked.now.window yes.words yes.depth) }
     ensures good { IfOk result (λ yes. AreGoodFrames rom.now recipe.now asked.now.window cert.now.entries asked.now.budget) }
 {
-    // Its clause says that the list is that of a certificate.
-    let _entries = cert.entries();
+    cert.prove_certificate();
     let entries = HashIndex::new(alloc, cert)?;
     if let Err(fault) = check_shapes_exact(rom, cert, &entries, &asked.window) {
         return Err(stuck_or(alloc, &entries, asked, recipe, fault, notes));

@@ -127,7 +127,6 @@ pub fn survey_frame<E: Entries>(
     requires { E.list entries.now ≡ cert.now.entries }
     ensures { IfOk result (IsSurvey (frame_context machine cert.now.entries) (frame_word machine frame.now)) }
 {
-    // Its clause says that the list is that of a certificate.
-    let _entries = cert.entries();
+    cert.prove_certificate();
     survey_items(alloc, &FrameOn::new(machine, frame), entries)
 }

@@ -69,8 +69,7 @@ pub fn see<F: Fetch, E: Entries>(memory: &F, entries: &E, kind: Kind, here: &Cur
     let Cell::Holds { format, instr } = read_cell(memory, here.at) else {
         return None;
     };
-    let named = callee(entries, target(kind, &instr), here.known.scale);
-    Some(here.see(memory.machine(), format, &instr, named))
+    Some(here.see_by(memory.machine(), entries, kind, format, instr))
 }
 
 /// Adds the call of an item, if it names an entry.

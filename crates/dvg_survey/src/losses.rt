@@ -109,8 +109,7 @@ pub fn frame_losses<E: Entries>(
     ensures some { IfSome result (AreLosses (frame_context machine cert.now.entries) (frame_word machine frame.now) 0 at) }
     ensures none { IfNone result (NoneLead Frame (frame_word machine frame.now) 0 at) }
 {
-    // Its clause says that the list is that of a certificate.
-    let _entries = cert.entries();
+    cert.prove_certificate();
     losses_before(
         &FrameOn::new(machine, frame),
         entries,
@@ -133,7 +132,6 @@ pub fn shape_losses<E: Entries>(
     ensures some { IfSome result (AreLosses (shape_context rom.now.machine cert.now.entries entry.now) (rom_word rom.now) entry.now.addr at) }
     ensures none { IfNone result (NoneLead Shape (rom_word rom.now) entry.now.addr at) }
 {
-    // Its clause says that the list is that of a certificate.
-    let _entries = cert.entries();
+    cert.prove_certificate();
     losses_before(rom, entries, &WalkContext::shape(entry), at)
 }

@@ -19,7 +19,8 @@ use Rattle.dvg_check.specs.declared.verdict.Yes.{Yes}
 use Rattle.dvg_check.specs.declared.verdict.Refusal.{Refusal}
 
 -- frame and budget are in range; the certificate that the text spells, and the verdict on the ROM and the frame by it
-pub record CertVerdict (machine : Machine) (mode : Mode) (w : Window) (rom cert frame : List ℕ) (budget : ℕ) (answer : Result Yes Refusal) : Type 0 where
+pub record CertVerdict (machine : Machine) (mode : Mode) (w : Window) (rom cert frame : List ℕ) (budget : ℕ)
+    (answer : Result Yes Refusal) : Type 0 where
   pub in_range : InRange frame budget
   pub certificate : Certificate
   pub spells : Spells certificate cert

@@ -114,6 +114,12 @@ impl<'a> RomImage<'a> {
         self.map
     }
 
+    /// A law, called for its clause: the ROM lies at its map, and has a word at each of the map's addresses. Does nothing.
+    #[tactic(auto, using(crate::proofs::WordLists::words_of_len))]
+    pub fn prove_whole(&self)
+        ensures { IsRom self.now }
+    {}
+
     /// The machine that runs the ROM.
     pub fn machine(&self) -> Machine
         ensures { result ≡ self.now.machine }
@@ -189,6 +195,12 @@ impl<'a> FrameImage<'a> {
     {
         (self.bytes.len() / 2) as u16
     }
+
+    /// A law, called for its clause: the frame has 1 to 1024 words. Does nothing.
+    #[tactic(auto, using(crate::proofs::WordLists::words_of_is_frame))]
+    pub fn prove_whole(&self)
+        ensures { IsFrame self.now }
+    {}
 
     /// The word at a word address, `None` past the last word.
     #[tactic(auto, using(crate::proofs::WordLists::words_of_len))]

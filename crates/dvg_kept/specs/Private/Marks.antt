@@ -76,7 +76,8 @@ pub record MarksOne (NeedNotWait : Type 0) (position : ℕ) (old new : Marks) : 
   pub marked : slice_get new.marked position ≡ Some true
   pub kept : (q : ℕ) → slice_get old.marked q ≡ Some true → slice_get new.marked q ≡ Some true
   pub waits : (q : ℕ) → Contains old.waiting q → Contains new.waiting q
-  pub others : (q : ℕ) → slice_get new.marked q ≡ Some true → (slice_get old.marked q ≡ Some true) ⊎ ((q ≡ position) × (Contains new.waiting q ⊎ NeedNotWait))
+  pub others : (q : ℕ) → slice_get new.marked q ≡ Some true → (slice_get old.marked q ≡ Some true)
+      ⊎ ((q ≡ position) × (Contains new.waiting q ⊎ NeedNotWait))
   pub less : length new.waiting + 2 * (length new.marked - new.count) ≤ length old.waiting + 2 * (length old.marked - old.count)
 
 -- the entry with this address and key is marked; where its shape is known to call nothing, it need not wait

@@ -96,7 +96,8 @@ BeginsAtOne areas items = (area : Area) × Contains areas area × BeginsAt area.
 
 -- all that lead to a list are good fronts
 pub record AreListStarts (w : Window) (list : List Entry) (budget : ℕ) (areas : List Area) (next : List Hull) : Type 0 where
-  pub each : (words : List ℕ) (items : List Item) → BeginsAtOne areas items → IsFront words items → IsGoodFront w list budget next words items
+  pub each : (words : List ℕ) (items : List Item) → BeginsAtOne areas items → IsFront words items
+      → IsGoodFront w list budget next words items
 
 -- all items of a recipe's lists are good fronts, where the entries are made
 pub record AreGoodMembers (w : Window) (list : List Entry) (budget : ℕ) (recipe : Recipe) (ends : List Hull) : Type 0 where
