@@ -42,14 +42,16 @@ module _ (machine : ℕ) (rom : List ℕ) (map : MemoryMap) (frame : List ℕ) (
   abbrev Runs : ClockRange → Type 0
   Runs = TakenOnCircuit (clocks_of_instr DVG_STATES) (record { frame = words_of frame; rom = rom_on (machine_of machine) map rom })
 
-  pub hold : (v : Result Yes FrameRefusal) (clocks : Option ClockRange) → a ≡ told_timed v clocks → IfSome clocks (λ (c : ClockRange). (machine_of machine ≡ Board) × Runs c) → ClocksHold machine rom map frame a
+  pub hold : (v : Result Yes FrameRefusal) (clocks : Option ClockRange) → a ≡ told_timed v clocks
+      → IfSome clocks (λ (c : ClockRange). (machine_of machine ≡ Board) × Runs c) → ClocksHold machine rom map frame a
   hold v None is runs some = absurd (some (ap (λ (x : Answer). x.clocks) is ∙ plain v))
     where
       plain : (v : Result Yes FrameRefusal) → (told_timed v None).clocks ≡ 0
       plain (Ok y) = refl
       plain (Err r) = untold (Err r)
   hold (Err r) (Some c) is runs some = absurd (some (ap (λ (x : Answer). x.clocks) is ∙ untold (Err r)))
-  hold (Ok y) (Some c) is runs some = (runs.0, c.least, subst (λ m. Runs (record { least = c.least; most = m })) (sym (ap (λ (x : Answer). x.clocks) is)) runs.1)
+  hold (Ok y) (Some c) is runs some =
+      (runs.0, c.least, subst (λ m. Runs (record { least = c.least; most = m })) (sym (ap (λ (x : Answer). x.clocks) is)) runs.1)
 
   -- a number alone tells none
   pub none : (n : ℕ) → a ≡ numbered n → ClocksHold machine rom map frame a

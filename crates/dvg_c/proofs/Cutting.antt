@@ -1,5 +1,6 @@
 -- Frames that are cut, one after another.
-use Rattle.dvg_c.proofs.Common.{◌≡◌, ℕ, ◌+◌, ◌<◌, List, [], ◌∷◌, ◌++◌, length, sum, take, drop, get_or, arith, common_steps, take-suc, take-append-drop, concat, of_each, of_each_append}
+use Rattle.dvg_c.proofs.Common.{◌≡◌, ℕ, ◌+◌, ◌<◌, List, [], ◌∷◌, ◌++◌, length, sum, take, drop, get_or, arith, common_steps, take-suc,
+    take-append-drop, concat, of_each, of_each_append}
 use Rattle.std.proofs.lemmas.List.Folds.{concat-append}
 use Rattle.std.proofs.lemmas.List.Sums.{sum_by_more}
 
@@ -10,8 +11,10 @@ pub record Cut (bytes lengths : List ℕ) (frames : List (List ℕ)) (rest : Lis
   pub total : sum (take i lengths) + length rest ≡ length bytes
 
 -- the next frame is cut off the rest
-pub cut_next : (bytes lengths : List ℕ) (frames : List (List ℕ)) (rest : List ℕ) (i n : ℕ) (frame behind : List ℕ) (more : List (List ℕ)) → Cut bytes lengths frames rest i → i < length lengths → more ≡ frames ++ frame ∷ []
-    → frame ≡ take n rest → behind ≡ drop n rest → length frame ≡ get_or lengths i 0 → length behind + get_or lengths i 0 ≡ length rest → Cut bytes lengths more behind (i + 1)
+pub cut_next : (bytes lengths : List ℕ) (frames : List (List ℕ)) (rest : List ℕ) (i n : ℕ) (frame behind : List ℕ) (more : List (List ℕ))
+    → Cut bytes lengths frames rest i → i < length lengths → more ≡ frames ++ frame ∷ []
+    → frame ≡ take n rest → behind ≡ drop n rest → length frame ≡ get_or lengths i 0 → length behind + get_or lengths i 0 ≡ length rest
+    → Cut bytes lengths more behind (i + 1)
 cut_next bytes lengths frames rest i n frame behind more h lt grown front back front_len back_len =
     let next : sum (take (i + 1) lengths) ≡ sum (take i lengths) + get_or lengths i 0 = sum_by_more (λ n. n) lengths i 0 lt in
     record {

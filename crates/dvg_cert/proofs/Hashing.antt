@@ -1,5 +1,6 @@
 -- Looking an entry up by the addresses and keys of a list, and one more of these for a rising list.
-use Rattle.dvg_cert.proofs.Common.{◌≡◌, ℕ, ◌+◌, ◌<◌, Bool, false, List, [], ◌∷◌, ◌++◌, length, take, get_or, position, Some, None, is_some, refl, sym, ap, ◌∙◌, arith, list_any, position_or_len, nat_tests, ◌&&◌, nat_eq, Entry, Key, IsRising, own_keys, is_at, entry_at}
+use Rattle.dvg_cert.proofs.Common.{◌≡◌, ℕ, ◌+◌, ◌<◌, Bool, false, List, [], ◌∷◌, ◌++◌, length, take, get_or, position, Some, None,
+    is_some, refl, sym, ap, ◌∙◌, arith, list_any, position_or_len, nat_tests, ◌&&◌, nat_eq, Entry, Key, IsRising, own_keys, is_at, entry_at}
 use Rattle.std.proofs.lemmas.List.{length-map, map-append, take_more}
 use Rattle.std.proofs.lemmas.List.Folds.{find_at}
 use Rattle.std.proofs.lemmas.Option.{gets}
@@ -32,11 +33,15 @@ module _ (addr : ℕ) (key : Key) where
   none_there es ks keys h = grind (arith, (is_there es))
 
   -- and it stands where these stand
-  pub at_index : (es : List Entry) (ks : List AddressKey) → ks ≡ own_keys es → (i : ℕ) (d : Entry) → Some i ≡ position here ks → Some (get_or es i d) ≡ entry_at es addr key
+  pub at_index : (es : List Entry) (ks : List AddressKey) → ks ≡ own_keys es → (i : ℕ) (d : Entry) → Some i ≡ position here ks
+      → Some (get_or es i d) ≡ entry_at es addr key
   at_index es ks keys i d h = grind (arith, nat_tests, length-map, (find_at (is_at addr key) es), (same_place es), gets)
 
-pub added : (ks : List AddressKey) (es : List Entry) (i : ℕ) (d : Entry) → IsRising es → i < length es → ks ≡ own_keys (take i es) → insert_key own_eq ks (own (get_or es i d)) ≡ own_keys (take (i + 1) es)
+pub added : (ks : List AddressKey) (es : List Entry) (i : ℕ) (d : Entry) → IsRising es → i < length es → ks ≡ own_keys (take i es)
+    → insert_key own_eq ks (own (get_or es i d)) ≡ own_keys (take (i + 1) es)
 added ks es i d rising lt keys =
     let e = get_or es i d in
-    let new : list_any (own_eq (own e)) ks ≡ false = ap (list_any (own_eq (own e))) keys ∙ sym (is_there e.addr e.key (take i es)) ∙ ap is_some (new_at es i d rising lt) in
-    rw new (ap (λ (l : List AddressKey). l ++ own e ∷ []) keys ∙ sym (map-append own (take i es) (e ∷ [])) ∙ ap own_keys (sym (take_more es i d lt)))
+    let new : list_any (own_eq (own e)) ks ≡ false =
+        ap (list_any (own_eq (own e))) keys ∙ sym (is_there e.addr e.key (take i es)) ∙ ap is_some (new_at es i d rising lt) in
+    rw new (ap (λ (l : List AddressKey). l ++ own e ∷ []) keys ∙ sym (map-append own (take i es) (e ∷ []))
+        ∙ ap own_keys (sym (take_more es i d lt)))

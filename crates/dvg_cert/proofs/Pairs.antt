@@ -1,5 +1,6 @@
 -- Looking an entry up among pairs of an address and key with an entry.
-use Rattle.dvg_cert.proofs.Common.{◌≡◌, ℕ, Bool, ◌&&◌, List, [], ◌∷◌, ◌++◌, refl, ap, ◌∙◌, arith, suc, nat_eq, Entry, Key, At, Any, IsOwn, IsKeyed, same_key, is_at, entry_at}
+use Rattle.dvg_cert.proofs.Common.{◌≡◌, ℕ, Bool, ◌&&◌, List, [], ◌∷◌, ◌++◌, refl, ap, ◌∙◌, arith, suc, nat_eq, Entry, Key, At, Any,
+    IsOwn, IsKeyed, same_key, is_at, entry_at}
 use Rattle.std.proofs.lemmas.List.{map-append}
 use Rattle.std.proofs.lemmas.List.Elements.{All-push}
 use Rattle.std.specs.Map.{lookup, values_of}
@@ -9,7 +10,8 @@ use Rattle.dvg_cert.specs.contracts.entry.KeyPartialEq.TheImpl.{ghosts}
 keyed_tail : (p : (ℕ × Key) × Entry) (ps : List ((ℕ × Key) × Entry)) → IsKeyed (p ∷ ps) → IsKeyed ps
 keyed_tail p ps h = λ k d lt. h (suc k) d (omega (arith, lt))
 
-pub lookup_is : (t : (ℕ × Key) → Bool) (addr : ℕ) (key : Key) → ((e : Entry) → t (e.addr, e.key) ≡ is_at addr key e) → (ps : List ((ℕ × Key) × Entry)) → IsKeyed ps → lookup t ps ≡ entry_at (values_of ps) addr key
+pub lookup_is : (t : (ℕ × Key) → Bool) (addr : ℕ) (key : Key) → ((e : Entry) → t (e.addr, e.key) ≡ is_at addr key e)
+    → (ps : List ((ℕ × Key) × Entry)) → IsKeyed ps → lookup t ps ≡ entry_at (values_of ps) addr key
 lookup_is t addr key h [] k = refl
 lookup_is t addr key h (p ∷ ps) k = rw (ap t (k 0 p (omega arith)) ∙ h p.1, lookup_is t addr key h ps (keyed_tail p ps k)) refl
 

@@ -1,5 +1,7 @@
 -- The runs of the worked frame, state by state.
-use Rattle.dvg_check.proofs.Common.{arith, ap, refl, true, false, inl, pos, ◌≡◌, ◌⊎◌, ◌∷◌, ℕ, [], Machine, Profile, Board, Point, Cell, Holds, Short, Long, Labs, Halt, DrawFields, displacement, labs_place, cell_at, instruction_of, State, Status, Running, Halted, Fault, Reached, start, next_status, word_at, Course, course_after, course_at_start, on, Draws, course_of, FewDraws}
+use Rattle.dvg_check.proofs.Common.{arith, ap, refl, true, false, inl, pos, ◌≡◌, ◌⊎◌, ◌∷◌, ℕ, [], Machine, Profile, Board, Point, Cell,
+    Holds, Short, Long, Labs, Halt, DrawFields, displacement, labs_place, cell_at, instruction_of, State, Status, Running, Halted, Fault,
+    Reached, start, next_status, word_at, Course, course_after, course_at_start, on, Draws, course_of, FewDraws}
 use Rattle.dvg_check.specs.CourseExample.{edge_memory, edge_move, edge_course, WorkedCourse}
 use Rattle.dvg_check.proofs.Course.{along}
 
@@ -31,25 +33,32 @@ abbrev IsThere : Machine → ℕ → Cell → Type 0
 IsThere machine p cell = cell_at (word_at (on machine edge_memory)) p ≡ cell
 
 -- the four items, where the LABS sets the beam, and how far a draw moves it
-there : (machine : Machine) → IsThere machine 0 (Holds Long (Labs 1022 100 0)) × IsThere machine 2 (Holds Long (Draws half)) × IsThere machine 4 (Holds Long (Draws half)) × IsThere machine 6 (Holds Short Halt)
+there : (machine : Machine) → IsThere machine 0 (Holds Long (Labs 1022 100 0)) × IsThere machine 2 (Holds Long (Draws half))
+    × IsThere machine 4 (Holds Long (Draws half)) × IsThere machine 6 (Holds Short Halt)
     × (labs_place machine 1022 100 ≡ record { x = pos 1046528; y = pos 102400 }) × (displacement machine half 0 ≡ edge_move machine)
 unfolding cell_at instruction_of displacement
 there machine = grind (arith)
 
-leads_next : (machine : Machine) (c : Course) (s : State) → Stands machine c s → Runs machine (course_after (on machine edge_memory) (Running s) c) (next_status (on machine edge_memory) s)
+leads_next : (machine : Machine) (c : Course) (s : State) → Stands machine c s
+    → Runs machine (course_after (on machine edge_memory) (Running s) c) (next_status (on machine edge_memory) s)
 unfolding next_status
 leads_next machine c s h3 = grind (arith, cell_at, word_at, on, labs_place, displacement, (there machine))
 
 -- each state of each run
 runs :
-    (machine : Machine) (place : Point) (scale steps : ℕ) (after : Status) (run : Reached (on machine edge_memory) steps (Running (start place scale)) after)
+    (machine : Machine) (place : Point) (scale steps : ℕ) (after : Status)
+        (run : Reached (on machine edge_memory) steps (Running (start place scale)) after)
     → Runs machine (course_of (on machine edge_memory) place scale steps after run) after
-runs machine place scale steps after run = grind (arith, (along (on machine edge_memory) (Runs machine) (leads_next machine) steps (course_at_start place) (Running (start place scale)) after run (inl (refl, refl))), (on machine edge_memory), (leads_next machine), (course_at_start place), (start place scale))
+runs machine place scale steps after run =
+    grind (arith, (along (on machine edge_memory) (Runs machine) (leads_next machine) steps (course_at_start place)
+    (Running (start place scale)) after run (inl (refl, refl))), (on machine edge_memory), (leads_next machine), (course_at_start place),
+    (start place scale))
 
 -- ---- what is claimed
 
 -- a run to the HALT, of four steps
-halting : (machine : Machine) (place : Point) (scale : ℕ) → (h : State) × Reached (on machine edge_memory) 4 (Running (start place scale)) (Halted h)
+halting : (machine : Machine) (place : Point) (scale : ℕ) → (h : State)
+    × Reached (on machine edge_memory) 4 (Running (start place scale)) (Halted h)
 unfolding next_status cell_at instruction_of displacement
 halting Profile place scale = (_, (_, refl, (_, refl, (_, refl, (_, refl, refl)))))
 halting Board place scale = (_, (_, refl, (_, refl, (_, refl, (_, refl, refl)))))
@@ -57,7 +66,8 @@ halting Board place scale = (_, (_, refl, (_, refl, (_, refl, (_, refl, refl))))
 pub worked_course : (machine : Machine) → WorkedCourse machine
 worked_course machine =
     record {
-      rounds = λ place scale steps s small run. let stands = runs machine place scale steps (Running s) run in grind (arith, cell_at, word_at, on, (there Profile));
+      rounds = λ place scale steps s small run. let stands =
+          runs machine place scale steps (Running s) run in grind (arith, cell_at, word_at, on, (there Profile));
       two = λ place scale steps after small run set. let stands = runs machine place scale steps after run in grind (arith);
       more_than_one = more;
       course = λ place scale steps h run. runs machine place scale steps (Halted h) run;

@@ -1,5 +1,8 @@
 -- The worked example: what stands at its places, and that each item keeps each rule.
-use Rattle.dvg_check.proofs.Common.{Shape, ShapeWhy, ShapePlaceKeeps, LeadsTo, AllBefore, GoodFrame, words_before, depth_before, ◌+◌, ℕ, arith, List, refl, pos, ◌≡◌, ◌∷◌, [], ints, displacement, screen, cell_at, instruction_of, frame_word, rom_word, Machine, DrawFields, Holds, Long, Short, Labs, Halt, Jsrl, Rtsl, frame_context, FramePlaceKeeps, GoodShape, Good, FrameWhy, Mode, Bound, Exact, Item, Frame, Entry, length-replicate, Draws, rom_for, example_entry, example_list, WorkedExample}
+use Rattle.dvg_check.proofs.Common.{Shape, ShapeWhy, ShapePlaceKeeps, LeadsTo, AllBefore, GoodFrame, words_before, depth_before, ◌+◌, ℕ,
+    arith, List, refl, pos, ◌≡◌, ◌∷◌, [], ints, displacement, screen, cell_at, instruction_of, frame_word, rom_word, Machine, DrawFields,
+    Holds, Long, Short, Labs, Halt, Jsrl, Rtsl, frame_context, FramePlaceKeeps, GoodShape, Good, FrameWhy, Mode, Bound, Exact, Item,
+    Frame, Entry, length-replicate, Draws, rom_for, example_entry, example_list, WorkedExample}
 use Rattle.dvg_words.specs.Example.{example_frame}
 use Rattle.dvg_check.proofs.Faults.{all_kept}
 
@@ -26,7 +29,8 @@ return_there machine = grind (arith)
 shape_good : (machine : Machine) (mode : Mode) → GoodShape mode screen (rom_for machine) example_list example_entry
 unfolding cell_at instruction_of displacement
 shape_good machine mode =
-    all_kept Shape (rom_word (rom_for machine)) 2048 ShapeWhy (ShapePlaceKeeps mode screen (rom_for machine) example_list example_entry) (draw_item ∷ []) return_item
+    all_kept Shape (rom_word (rom_for machine)) 2048 ShapeWhy (ShapePlaceKeeps mode screen (rom_for machine) example_list example_entry)
+        (draw_item ∷ []) return_item
     (refl, draw_there machine, refl) (return_there machine) refl ((tt, λ why. grind (arith, ints)), λ why. grind (arith, ints))
 
 shapes_good : (machine : Machine) (mode : Mode) → Good mode screen (rom_for machine) example_list
@@ -41,15 +45,20 @@ abbrev call_item : Item
 call_item = record { at = 2; format = Short; instr = Jsrl 2048 }
 
 -- a frame whose items and HALT keep all rules
-pub accepted : (machine : Machine) (words : List ℕ) (list : List Entry) (items : List Item) (at : ℕ) → LeadsTo Frame (frame_word machine words) 0 items at → cell_at (frame_word machine words) at ≡ Holds Short Halt
+pub accepted : (machine : Machine) (words : List ℕ) (list : List Entry) (items : List Item) (at : ℕ)
+    → LeadsTo Frame (frame_word machine words) 0 items at → cell_at (frame_word machine words) at ≡ Holds Short Halt
     → AllBefore (FramePlaceKeeps screen machine words list 20000) (record { at = at; format = Short; instr = Halt } ∷ items)
-    → GoodFrame screen machine words list 20000 (words_before (frame_context machine list) items + 1) (depth_before (frame_context machine list) items)
+    → GoodFrame screen machine words list 20000 (words_before (frame_context machine list) items + 1)
+        (depth_before (frame_context machine list) items)
 accepted machine words list items at leads halts kept =
-    record { keeps = all_kept Frame (frame_word machine words) 0 FrameWhy (FramePlaceKeeps screen machine words list 20000) items (record { at = at; format = Short; instr = Halt }) leads halts refl kept; items = items; at = at; format = Short; leads = leads; halts = halts; count_is = refl; depth_is = refl }
+    record { keeps = all_kept Frame (frame_word machine words) 0 FrameWhy (FramePlaceKeeps screen machine words list 20000) items
+        (record { at = at; format = Short; instr = Halt }) leads halts refl kept; items = items; at = at; format = Short; leads =
+        leads; halts = halts; count_is = refl; depth_is = refl }
 
 frame_good : (machine : Machine) → GoodFrame screen machine example_frame example_list 20000 7 1
 unfolding cell_at instruction_of
-frame_good machine = accepted machine example_frame example_list (call_item ∷ labs_item ∷ []) 3 (grind (arith)) (grind (arith)) (((tt, λ why. grind (arith, ints)), λ why. grind (arith, ints)), λ why. grind (arith, ints))
+frame_good machine = accepted machine example_frame example_list (call_item ∷ labs_item ∷ []) 3 (grind (arith)) (grind (arith))
+    (((tt, λ why. grind (arith, ints)), λ why. grind (arith, ints)), λ why. grind (arith, ints))
 
 -- ---- all
 

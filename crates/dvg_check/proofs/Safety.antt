@@ -1,8 +1,10 @@
 -- What is safe, state by state.
-use Rattle.dvg_check.proofs.Common.{arith, ℕ, Status, state_of, InWindow, Memory, Window, Ends, IsSafeState, IsSafeStatus, at_place, StrokeInWindow, SafeStrokes}
+use Rattle.dvg_check.proofs.Common.{arith, ℕ, Status, state_of, InWindow, Memory, Window, Ends, IsSafeState, IsSafeStatus, at_place,
+    StrokeInWindow, SafeStrokes}
 
 -- what is safe is no fault
-pub safe_state : (m : Memory) (w : Window) (words depth steps : ℕ) (after : Status) → IsSafeStatus m w words depth steps after → IsSafeState m w words depth steps (state_of after)
+pub safe_state : (m : Memory) (w : Window) (words depth steps : ℕ) (after : Status) → IsSafeStatus m w words depth steps after
+    → IsSafeState m w words depth steps (state_of after)
 safe_state m w words depth steps after h = grind (arith)
 
 pub safe_strokes : StrokeInWindow → SafeStrokes

@@ -1,5 +1,7 @@
 -- A draw moves the generator's beam and the circuit's counters alike, and the counters pass places between its ends.
-use Rattle.dvg_circuit.proofs.Common.{◌≡◌, ℕ, ◌≤◌, refl, ap, arith, ℤ, pos, negsuc, ◌+ℤ◌, ◌*ℤ◌, nat_abs, cases_lt, ints, DrawFields, Point, Board, shift, axis_move, displacement, effective_scale, Counters, counts, counters_after, signed, moved, twelve_bits, IsSamePlace, IsAmong, IsDrawnAs, DrawnOnStroke}
+use Rattle.dvg_circuit.proofs.Common.{◌≡◌, ℕ, ◌≤◌, refl, ap, arith, ℤ, pos, negsuc, ◌+ℤ◌, ◌*ℤ◌, nat_abs, cases_lt, ints, DrawFields,
+    Point, Board, shift, axis_move, displacement, effective_scale, Counters, counts, counters_after, signed, moved, twelve_bits,
+    IsSamePlace, IsAmong, IsDrawnAs, DrawnOnStroke}
 use Rattle.dvg_words.proofs.Machines.{board_moves}
 use Rattle.dvg_circuit.proofs.Rounding.{rounded_half_up, more_pulses}
 use Rattle.dvg_circuit.proofs.Places.{counter_is_place}
@@ -9,7 +11,8 @@ use Rattle.dvg_circuit.proofs.Places.{counter_is_place}
 moved_to : (from size : ℤ) (local global : ℕ) → nat_abs size ≤ 1023
     → pos 1024 *ℤ from +ℤ axis_move Board size local global ≡ pos 1024 *ℤ (from +ℤ moved size (counts (effective_scale local global)))
 moved_to from size local global small =
-    let move : axis_move Board size local global ≡ pos 1024 *ℤ moved size (counts (effective_scale local global)) = grind (arith, board_moves, rounded_half_up, cases_lt, ints) in
+    let move : axis_move Board size local global ≡ pos 1024 *ℤ moved size (counts (effective_scale local global)) =
+        grind (arith, board_moves, rounded_half_up, cases_lt, ints) in
     omega (arith, ints, move)
 
 -- the sizes have ten bits
@@ -43,7 +46,8 @@ among a b from (negsuc m) some all e f le low high g k = omega (arith, ints)
 
 -- the stroke of a draw
 pub drawn_as : (d : DrawFields) (g : ℕ) (p : Point) (c : Counters) (small : AreSizes d) (h : IsSamePlace p c)
-    → IsDrawnAs (record { from = p; to = shift p (displacement Board d g) }) (record { draw = d; from = c; counts = counts (effective_scale d.lscale g) })
+    → IsDrawnAs (record { from = p; to = shift p (displacement Board d g) })
+        (record { draw = d; from = c; counts = counts (effective_scale d.lscale g) })
 unfolding beam_moved
 drawn_as d g p c small h = record { from = h; to = (beam_moved d g p c small h).place }
 
@@ -54,6 +58,8 @@ drawn_on_stroke stroke l h n le =
     record {
       place = record { x = pos 1024 *ℤ x; y = pos 1024 *ℤ y };
       same = record { x = x; y = y; place = refl; counters = counted h.from.x h.from.y l.draw n l.from h.from.counters };
-      across = among _ _ _ l.draw.dx _ _ (ap (λ (p : Point). p.x) h.from.place) (ap (λ (p : Point). p.x) h.to) (more_pulses (nat_abs l.draw.dx) n l.counts le);
-      up = among _ _ _ l.draw.dy _ _ (ap (λ (p : Point). p.y) h.from.place) (ap (λ (p : Point). p.y) h.to) (more_pulses (nat_abs l.draw.dy) n l.counts le);
+      across = among _ _ _ l.draw.dx _ _ (ap (λ (p : Point). p.x) h.from.place) (ap (λ (p : Point). p.x) h.to)
+          (more_pulses (nat_abs l.draw.dx) n l.counts le);
+      up = among _ _ _ l.draw.dy _ _ (ap (λ (p : Point). p.y) h.from.place) (ap (λ (p : Point). p.y) h.to)
+          (more_pulses (nat_abs l.draw.dy) n l.counts le);
     }

@@ -1,5 +1,6 @@
 -- How many pulses a multiplier lets through.
-use Rattle.dvg_circuit.proofs.Common.{◌/◌, ◌-◌, nat_lt, refl, ◌==◌, if◌then◌else◌, ending_ones, ◌≡◌, ℕ, zero, suc, ◌+◌, ◌*◌, ◌%◌, ◌^◌, ◌<◌, ◌≤◌, ap, arith, pow-succ', cases_eq, nat_tests, rules, pow-suc, mod-eq_of_lt, bit, pulses, RoundedHalfUp}
+use Rattle.dvg_circuit.proofs.Common.{◌/◌, ◌-◌, nat_lt, refl, ◌==◌, if◌then◌else◌, ending_ones, ◌≡◌, ℕ, zero, suc, ◌+◌, ◌*◌, ◌%◌, ◌^◌,
+    ◌<◌, ◌≤◌, ap, arith, pow-succ', cases_eq, nat_tests, rules, pow-suc, mod-eq_of_lt, bit, pulses, RoundedHalfUp}
 use Rattle.std.proofs.lemmas.Grind.{common_steps}
 use Rattle.std.proofs.Math.Pow.{pow_mono}
 use Rattle.std.proofs.lemmas.Nat.{mod-pow-add, pow_pos}
@@ -16,7 +17,8 @@ pulses_of bits size zero = 0
 pulses_of bits size (suc n) = pulses_of bits size n + multiplier bits size n
 
 -- a pulse goes by how many ones the count ends in
-pub gated : (bits size count : ℕ) → multiplier bits size count ≡ (if nat_lt (ending_ones bits count) bits then bit (bits - suc (ending_ones bits count)) size else 0)
+pub gated : (bits size count : ℕ)
+    → multiplier bits size count ≡ (if nat_lt (ending_ones bits count) bits then bit (bits - suc (ending_ones bits count)) size else 0)
 gated zero size count = refl
 gated (suc bits) size count = grind (arith, nat_tests, (gated bits size (count / 2)))
 
@@ -47,12 +49,17 @@ rounded_one A b r few small = grind (arith)
 rounded : (bits size k : ℕ) → k ≤ bits → IsRounded (2 ^ bits) (2 ^ k) (size % 2 ^ bits) (pulses_of bits size (2 ^ k))
 rounded zero size zero le = grind (arith)
 rounded zero size (suc k) le = absurd (omega arith)
-rounded (suc bits) size zero le = grind (arith, (pow-succ' 2 bits), (mod-pow-add size 1 bits), pow_pos, (rounded_one (2 ^ bits) (bit bits size) (size % 2 ^ bits)))
-rounded (suc bits) size (suc k) le = grind (arith, (pow-succ' 2 k), (pow-succ' 2 bits), (mod-pow-add size 1 bits), (twice bits size (2 ^ k)), (rounded_step (2 ^ bits) (2 ^ k) (bit bits size) (size % 2 ^ bits) (pulses_of bits size (2 ^ k)) (rounded bits size k (omega (arith, le)))))
+rounded (suc bits) size zero le =
+    grind (arith, (pow-succ' 2 bits), (mod-pow-add size 1 bits), pow_pos, (rounded_one (2 ^ bits) (bit bits size) (size % 2 ^ bits)))
+rounded (suc bits) size (suc k) le =
+    grind (arith, (pow-succ' 2 k), (pow-succ' 2 bits), (mod-pow-add size 1 bits), (twice bits size (2 ^ k)),
+    (rounded_step (2 ^ bits) (2 ^ k) (bit bits size) (size % 2 ^ bits) (pulses_of bits size (2 ^ k))
+    (rounded bits size k (omega (arith, le)))))
 
 pub rounded_half_up : RoundedHalfUp
 rounded_half_up = record {
-  rounds = λ size scale small le. grind (arith, (rounded 10 size (scale + 1) (omega (arith, le))), nat_tests, (all_multiplied size (2 ^ (scale + 1))));
+  rounds = λ size scale small le. grind
+      (arith, (rounded 10 size (scale + 1) (omega (arith, le))), nat_tests, (all_multiplied size (2 ^ (scale + 1))));
   stays = λ size scale over. grind (arith, nat_tests);
 }
 

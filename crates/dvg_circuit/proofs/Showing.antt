@@ -1,5 +1,6 @@
 -- What is shown of a stroke.
-use Rattle.dvg_circuit.proofs.Common.{◌≡◌, ap, arith, ℤ, pos, negsuc, ◌+ℤ◌, ◌*ℤ◌, ints, Window, IsWindowOrZone, clipped, InWindow, Point, Stroke, bit, IsShown, Counters, counters_after, LitDraw, IsBetween, moved, twelve_bits, IsDrawnAs}
+use Rattle.dvg_circuit.proofs.Common.{◌≡◌, ap, arith, ℤ, pos, negsuc, ◌+ℤ◌, ◌*ℤ◌, ints, Window, IsWindowOrZone, clipped, InWindow, Point,
+    Stroke, bit, IsShown, Counters, counters_after, LitDraw, IsBetween, moved, twelve_bits, IsDrawnAs}
 use Rattle.dvg_circuit.specs.Showing.{IsDrawInWindow, ShownInWindow, LitInWindow, LitOnScreen, ScreenIsShown}
 use Rattle.dvg_circuit.proofs.Moves.{drawn_on_stroke}
 
@@ -15,14 +16,16 @@ lit_in_window w stroke c on from to = (
 -- ---- places of a window
 
 -- a coordinate of the zone whose bit 10 is clear is one of the screen, and the counter holds it
-there : (x : ℤ) → IsBetween (negsuc 1023) (pos 2047) x → bit 10 (twelve_bits x) ≡ 0 → IsBetween (pos 0) (pos 1023) x × (x ≡ pos (twelve_bits x))
+there : (x : ℤ) → IsBetween (negsuc 1023) (pos 2047) x → bit 10 (twelve_bits x) ≡ 0 → IsBetween (pos 0) (pos 1023) x
+    × (x ≡ pos (twelve_bits x))
 there x h clear = grind (arith, ints)
 
 pub shown_in_window : ShownInWindow
 shown_in_window = grind (arith, there, ints)
 
 -- what the clauses say of a lit stroke of the window
-pub drawn_in_window : (w : Window) (stroke : Stroke) (l : LitDraw) → IsWindowOrZone w → InWindow w stroke.from → InWindow w stroke.to → IsDrawnAs stroke l → IsDrawInWindow w l
+pub drawn_in_window : (w : Window) (stroke : Stroke) (l : LitDraw) → IsWindowOrZone w → InWindow w stroke.from → InWindow w stroke.to
+    → IsDrawnAs stroke l → IsDrawInWindow w l
 unfolding drawn_on_stroke
 drawn_in_window w stroke l is from to h =
     record {
@@ -30,7 +33,8 @@ drawn_in_window w stroke l is from to h =
       y = h.from.y;
       each = λ n le.
           let on = drawn_on_stroke stroke l h n le in
-          grind (arith, (shown_in_window.place w (h.from.x +ℤ moved l.draw.dx n) (h.from.y +ℤ moved l.draw.dy n) is (lit_in_window w stroke (counters_after l.draw l.from n) on from to)), on);
+          grind (arith, (shown_in_window.place w (h.from.x +ℤ moved l.draw.dx n) (h.from.y +ℤ moved l.draw.dy n) is
+              (lit_in_window w stroke (counters_after l.draw l.from n) on from to)), on);
     }
 
 -- ---- strokes of the zone

@@ -1,5 +1,10 @@
 -- What is said of entries: that it is little for each word, and that words are said so, too.
-use Rattle.dvg_clocks.proofs.Common.{◌≡◌, ℕ, ◌+◌, ◌≤◌, ◌<◌, zero, suc, List, [], ◌∷◌, length, length-append, Option, None, Some, refl, sym, ◌∙◌, ap, arith, Contains, Rom, rom_word, cell_at, Holds, Format, Instr, Draws, word_count, Entry, Key, At, Any, Item, Shape, LeadsTo, next_address, Context, shape_context, target, callee, scale_before, words_before, named_listed, word_count-some, callee_words, Window, Mode, Good, Forecast, ClockRange, plus, just, callee_taken, taken_before, IsSumOfItems, words_known, words_of_instr, taken_after, taken_next, States, states_of, clocks_known, counts_known, FewTaken, IsFew, FewClocks, WordsAreTaken, TightForecast, effective_scale}
+use Rattle.dvg_clocks.proofs.Common.{◌≡◌, ℕ, ◌+◌, ◌≤◌, ◌<◌, zero, suc, List, [], ◌∷◌, length, length-append, Option, None, Some, refl,
+    sym, ◌∙◌, ap, arith, Contains, Rom, rom_word, cell_at, Holds, Format, Instr, Draws, word_count, Entry, Key, At, Any, Item, Shape,
+    LeadsTo, next_address, Context, shape_context, target, callee, scale_before, words_before, named_listed, word_count-some,
+    callee_words, Window, Mode, Good, Forecast, ClockRange, plus, just, callee_taken, taken_before, IsSumOfItems, words_known,
+    words_of_instr, taken_after, taken_next, States, states_of, clocks_known, counts_known, FewTaken, IsFew, FewClocks, WordsAreTaken,
+    TightForecast, effective_scale}
 use Rattle.std.specs.Prelude.{◌*◌, ◌-◌}
 use Rattle.std.proofs.Math.Nat.{mul-add, mul-le-mul_left}
 use Rattle.dvg_check.specs.declared.fault.Mode.TheVariants.{Exact}
@@ -10,19 +15,26 @@ use Rattle.dvg_clocks.proofs.Forecasts.{few_counts}
 use Rattle.dvg_clocks.proofs.ShapeRuns.{rule, find_last}
 
 -- what is said alike of all called entries is the same for the items
-pub same_taken : (forecast : Forecast) (a b : Entry → ClockRange) (c : Context) (items : List Item) → ((f : Entry) → Contains c.list f → f.words < words_before c items → a f ≡ b f) → taken_before forecast a c items ≡ taken_before forecast b c items
+pub same_taken : (forecast : Forecast) (a b : Entry → ClockRange) (c : Context) (items : List Item)
+    → ((f : Entry) → Contains c.list f → f.words < words_before c items → a f ≡ b f)
+    → taken_before forecast a c items ≡ taken_before forecast b c items
 same_taken forecast a b c [] same = refl
 same_taken forecast a b c (i ∷ earlier) same =
     let rest = same_taken forecast a b c earlier (λ f l lt. same f l (omega (arith, lt))) in
-    let here : callee_taken a (callee c earlier i.instr) ≡ callee_taken b (callee c earlier i.instr) = called (callee c earlier i.instr) refl in
-    ap (λ x. plus (plus (forecast i.format i.instr (scale_before c earlier)) x) (taken_before forecast a c earlier)) here ∙ ap (λ x. plus (plus (forecast i.format i.instr (scale_before c earlier)) (callee_taken b (callee c earlier i.instr))) x) rest
+    let here : callee_taken a (callee c earlier i.instr) ≡ callee_taken b (callee c earlier i.instr) =
+        called (callee c earlier i.instr) refl in
+    ap (λ x. plus (plus (forecast i.format i.instr (scale_before c earlier)) x) (taken_before forecast a c earlier)) here
+        ∙ ap (λ x. plus (plus (forecast i.format i.instr (scale_before c earlier)) (callee_taken b (callee c earlier i.instr))) x) rest
   where
     called : (o : Option Entry) → callee c earlier i.instr ≡ o → callee_taken a o ≡ callee_taken b o
     called None is = refl
-    called (Some f) is = same f (named_listed c.list (target c.kind i.instr) (scale_before c earlier) f is) (omega (arith, ap callee_words is, word_count-some i.format))
+    called (Some f) is = same f (named_listed c.list (target c.kind i.instr) (scale_before c earlier) f is)
+        (omega (arith, ap callee_words is, word_count-some i.format))
 
 -- what holds of each entry, if it holds of those with fewer words, holds of all
-pub up_to : (P : Entry → Type 0) (list : List Entry) → ((e : Entry) → Contains list e → ((f : Entry) → Contains list f → f.words < e.words → P f) → P e) → (n : ℕ) (e : Entry) → Contains list e → e.words ≤ n → P e
+pub up_to : (P : Entry → Type 0) (list : List Entry)
+    → ((e : Entry) → Contains list e → ((f : Entry) → Contains list f → f.words < e.words → P f) → P e) → (n : ℕ) (e : Entry)
+    → Contains list e → e.words ≤ n → P e
 up_to P list next zero e listed le = next e listed (λ f l lt. absurd (omega arith))
 up_to P list next (suc n) e listed le = next e listed (λ f l lt. up_to P list next n f l (omega arith))
 
@@ -38,23 +50,30 @@ module _ (mode : Mode) (w : Window) (rom : Rom) (list : List Entry) (good : Good
 
   pub walk : (e : Entry) → Contains list e → Walk e
   walk e listed =
-      let (items, i, lead, is, last) = find_last mode rom w list e (good e listed) (suc e.words) [] e.addr refl (omega arith) (omega arith) in
-      record { items = items; i = i; lead = lead; is = is; last = last; few = rule mode rom w list e (good e listed) items i lead is shape.TooManyWords }
+      let (items, i, lead, is, last) =
+          find_last mode rom w list e (good e listed) (suc e.words) [] e.addr refl (omega arith) (omega arith) in
+      record { items = items; i = i; lead = lead; is = is; last = last; few =
+          rule mode rom w list e (good e listed) items i lead is shape.TooManyWords }
 
 -- ---- few for each word
 
 module _ (forecast : Forecast) (each : ℕ) (few : IsFew forecast each) (by_entry : Entry → ClockRange) where
-  few_items : (c : Context) (items : List Item) → ((f : Entry) → Contains c.list f → f.words < words_before c items → (by_entry f).most ≤ each * f.words) → (taken_before forecast by_entry c items).most ≤ each * words_before c items
+  few_items : (c : Context) (items : List Item)
+      → ((f : Entry) → Contains c.list f → f.words < words_before c items → (by_entry f).most ≤ each * f.words)
+      → (taken_before forecast by_entry c items).most ≤ each * words_before c items
   few_items c [] h = omega arith
   few_items c (i ∷ earlier) h =
       let rest = few_items c earlier (λ f l lt. h f l (omega (arith, lt))) in
       let here = called (callee c earlier i.instr) refl in
       let one = few i.format i.instr (scale_before c earlier) in
-      omega (arith, rest, here, one, mul-add each (word_count i.format + callee_words (callee c earlier i.instr)) (words_before c earlier), mul-add each (word_count i.format) (callee_words (callee c earlier i.instr)))
+      omega (arith, rest, here, one,
+          mul-add each (word_count i.format + callee_words (callee c earlier i.instr)) (words_before c earlier),
+          mul-add each (word_count i.format) (callee_words (callee c earlier i.instr)))
     where
       called : (o : Option Entry) → callee c earlier i.instr ≡ o → (callee_taken by_entry o).most ≤ each * callee_words o
       called None is = omega arith
-      called (Some f) is = h f (named_listed c.list (target c.kind i.instr) (scale_before c earlier) f is) (omega (arith, ap callee_words is, word_count-some i.format))
+      called (Some f) is = h f (named_listed c.list (target c.kind i.instr) (scale_before c earlier) f is)
+          (omega (arith, ap callee_words is, word_count-some i.format))
 
 few_taken : (forecast : Forecast) (each : ℕ) → IsFew forecast each → FewTaken forecast each
 few_taken forecast each few =
@@ -63,15 +82,20 @@ few_taken forecast each few =
       items = λ by_entry c h items. few_items forecast each few by_entry c items (λ f l lt. h f l);
     }
   where
-    entries : (by_entry : Entry → ClockRange) (mode : Mode) (w : Window) (rom : Rom) (list : List Entry) → Good mode w rom list → IsSumOfItems forecast rom list by_entry → (e : Entry) → Contains list e → (by_entry e).most ≤ each * e.words
-    entries by_entry mode w rom list good sums e listed = up_to (λ f. (by_entry f).most ≤ each * f.words) list next e.words e listed (omega arith) where
-      next : (f : Entry) → Contains list f → ((g : Entry) → Contains list g → g.words < f.words → (by_entry g).most ≤ each * g.words) → (by_entry f).most ≤ each * f.words
+    entries : (by_entry : Entry → ClockRange) (mode : Mode) (w : Window) (rom : Rom) (list : List Entry) → Good mode w rom list
+        → IsSumOfItems forecast rom list by_entry → (e : Entry) → Contains list e → (by_entry e).most ≤ each * e.words
+    entries by_entry mode w rom list good sums e listed =
+        up_to (λ f. (by_entry f).most ≤ each * f.words) list next e.words e listed (omega arith) where
+      next : (f : Entry) → Contains list f → ((g : Entry) → Contains list g → g.words < f.words → (by_entry g).most ≤ each * g.words)
+          → (by_entry f).most ≤ each * f.words
       next f there smaller =
           let k = walk mode w rom list good f there in
-          let all = few_items forecast each few by_entry (shape_context rom.machine list f) (k.i ∷ k.items) (λ g l lt. smaller g l (omega (arith, lt, k.few))) in
+          let all = few_items forecast each few by_entry (shape_context rom.machine list f) (k.i ∷ k.items)
+              (λ g l lt. smaller g l (omega (arith, lt, k.few))) in
           omega (arith, all, ap (λ (r : ClockRange). r.most) (sums f there k.items k.i k.lead k.is k.last), mul-le-mul_left each k.few)
 
-few_for_word : (t : States) (most : ℕ) → ((format : Format) (i : Instr) → states_of t format i ≤ most) → IsFew (clocks_known t) (1024 + most)
+few_for_word : (t : States) (most : ℕ) → ((format : Format) (i : Instr) → states_of t format i ≤ most)
+    → IsFew (clocks_known t) (1024 + most)
 few_for_word t most h format i key =
     let c = few_known i key in
     omega (arith, c, h format i, mul-le-mul_left (1024 + most) (word_count-some format), word_count-some format)
@@ -92,7 +116,8 @@ words_items c [] = refl
 words_items c (i ∷ earlier) =
     let rest = words_items c earlier in
     let here = called (callee c earlier i.instr) in
-    ap (λ x. plus (plus (just (word_count i.format)) x) (taken_before words_known (λ e. just e.words) c earlier)) here ∙ ap (λ x. plus (plus (just (word_count i.format)) (just (callee_words (callee c earlier i.instr)))) x) rest
+    ap (λ x. plus (plus (just (word_count i.format)) x) (taken_before words_known (λ e. just e.words) c earlier)) here
+        ∙ ap (λ x. plus (plus (just (word_count i.format)) (just (callee_words (callee c earlier i.instr)))) x) rest
   where
     called : (o : Option Entry) → callee_taken (λ e. just e.words) o ≡ just (callee_words o)
     called None = refl
@@ -106,9 +131,12 @@ words_entries w rom list good e listed earlier i lead is last =
 words_step : (reads : Reads) (r : Run) → length (step reads r).fetched ≡ length r.fetched + taken_next words_of_instr reads r
 words_step reads r = grind (arith, length-append, places)
 
-words_run : (reads : ℕ → Reads) (r : Run) (n : ℕ) → length r.fetched ≡ 0 → length (run_after reads n r).fetched ≡ taken_after words_of_instr reads n r
+words_run : (reads : ℕ → Reads) (r : Run) (n : ℕ) → length r.fetched ≡ 0
+    → length (run_after reads n r).fetched ≡ taken_after words_of_instr reads n r
 words_run reads r zero none = none
-words_run reads r (suc n) none = words_step (reads n) (run_after reads n r) ∙ ap (λ k. k + taken_next words_of_instr (reads n) (run_after reads n r)) (words_run reads r n none)
+words_run reads r (suc n) none =
+    words_step (reads n) (run_after reads n r)
+    ∙ ap (λ k. k + taken_next words_of_instr (reads n) (run_after reads n r)) (words_run reads r n none)
 
 pub words_are_taken : WordsAreTaken
 words_are_taken = record { items = words_items; entries = words_entries; runs = λ reads c n. words_run reads (begin c) n refl }

@@ -9,12 +9,14 @@ use Rattle.dvg_make.specs.Judging.{VerdictByMade}
 use Rattle.dvg_make.proofs.OneFrame.{one_frames_made}
 use Rattle.dvg_clocks.specs.Judging.{IsAccepted}
 
-module _ (rom : Rom) (words : List ℕ) (w : Window) (budget : ℕ) (few : budget ≤ MOST_WORDS) (yes : Yes) (list : List Entry) (made : FrameMade rom words list) where
+module _ (rom : Rom) (words : List ℕ) (w : Window) (budget : ℕ) (few : budget ≤ MOST_WORDS) (yes : Yes) (list : List Entry)
+    (made : FrameMade rom words list) where
   abbrev pub accepted : VerdictByMade rom words w budget (Ok yes) → IsAccepted (record { frame = words; rom = rom }) list
   accepted v =
       let same : v.list ≡ list = one_frames_made rom [] (words ∷ []) v.list list v.made made in
       record {
         shapes = record { mode = Exact; window = w; good = subst (Good Exact w rom) same v.verdict.0 };
         words = yes.words;
-        frame = record { window = w; budget = budget; depth = yes.depth; few = few; good = subst (λ (l : List Entry). GoodFrame w rom.machine words l budget yes.words yes.depth) same v.verdict.1 };
+        frame = record { window = w; budget = budget; depth = yes.depth; few = few; good =
+            subst (λ (l : List Entry). GoodFrame w rom.machine words l budget yes.words yes.depth) same v.verdict.1 };
       }

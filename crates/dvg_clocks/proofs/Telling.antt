@@ -1,5 +1,8 @@
 -- What the loop over the entries of a certificate keeps: those with fewer words come first.
-use Rattle.dvg_clocks.proofs.Common.{◌≡◌, ℕ, ◌+◌, ◌*◌, ◌≤◌, ◌<◌, Bool, true, List, [], ◌∷◌, length, Option, Some, None, refl, sym, ◌∙◌, ap, subst, arith, inl, inr, ◌⊎◌, ⊎_elim, Contains, Entry, Key, Rom, rom_word, Shape, shape_context, words_before, ClockRange, States, just, clocks_known, sum_of, AreGood, WORD_CLOCKS, Kept, found_at, clocks_in, IsKeptToo, IsFewFor, AreAllFew, IsToldOf, AreTold, IsTaken, IsWalkable}
+use Rattle.dvg_clocks.proofs.Common.{◌≡◌, ℕ, ◌+◌, ◌*◌, ◌≤◌, ◌<◌, Bool, true, List, [], ◌∷◌, length, Option, Some, None, refl, sym, ◌∙◌,
+    ap, subst, arith, inl, inr, ◌⊎◌, ⊎_elim, Contains, Entry, Key, Rom, rom_word, Shape, shape_context, words_before, ClockRange, States,
+    just, clocks_known, sum_of, AreGood, WORD_CLOCKS, Kept, found_at, clocks_in, IsKeptToo, IsFewFor, AreAllFew, IsToldOf, AreTold,
+    IsTaken, IsWalkable}
 use Rattle.std.specs.Prelude.{◌==◌, ◌&&◌, cond, false, get_or, unwrap_or, IfSome, IfNone, IsPermutation}
 use Rattle.std.specs.List.Sorted.{IsNonDecreasingBy}
 use Rattle.std.proofs.lemmas.List.{get_or_default}
@@ -38,7 +41,8 @@ module _ (t : States) (rom : Rom) (list order : List Entry) where
     pub few : AreAllFew kept list
 
   pub begins : IsPermutation list order → IsNonDecreasingBy (λ (e : Entry). e.words) order → Telling 0 []
-  begins moves rising = record { moves = moves; rising = rising; told = λ e i lt. absurd (omega (arith, lt)); few = λ e listed. record { ordered = omega arith; few = omega arith } }
+  begins moves rising = record { moves = moves; rising = rising; told = λ e i lt. absurd (omega (arith, lt)); few =
+      λ e listed. record { ordered = omega arith; few = omega arith } }
 
   pub ends : (kept : Kept) (n : ℕ) → length order ≤ n → Telling n kept → AreTold t rom list kept
   ends kept n all k e h =
@@ -75,26 +79,34 @@ module _ (t : States) (rom : Rom) (list order : List Entry) where
               nat_below : (i : ℕ) → ((n ≤ i) → ⊥) → i < n
               nat_below i not = grind (arith)
 
-      module _ (clocks : ClockRange) (limit : ℕ) (taken : IsTaken t (rom_word rom) list kept (record { kind = Shape; at = e.addr; scale = e.key }) limit clocks) where
+      module _ (clocks : ClockRange) (limit : ℕ)
+          (taken : IsTaken t (rom_word rom) list kept (record { kind = Shape; at = e.addr; scale = e.key }) limit clocks) where
         words_few : words_before (shape_context rom.machine list e) (taken.item ∷ taken.items) ≤ e.words
-        words_few = rule good.mode rom good.window list e (good.good e here) taken.items taken.item taken.whole.lead taken.whole.is shape.TooManyWords
+        words_few = rule good.mode rom good.window list e (good.good e here) taken.items taken.item taken.whole.lead taken.whole.is
+            shape.TooManyWords
 
         sum_is : clocks ≡ sum_of (clocks_known t) rom list e
         sum_is =
             taken.sum_is
-            ∙ same_taken (clocks_known t) (clocks_in kept) (sum_of (clocks_known t) rom list) (shape_context rom.machine list e) (taken.item ∷ taken.items) (λ g h less. fewer g h (omega (arith, less, words_few)))
-            ∙ sym (entries_sum (clocks_known t) good.mode good.window rom list good.good e here taken.items taken.item taken.whole.lead taken.whole.is taken.whole.last)
+            ∙ same_taken (clocks_known t) (clocks_in kept) (sum_of (clocks_known t) rom list) (shape_context rom.machine list e)
+                (taken.item ∷ taken.items) (λ g h less. fewer g h (omega (arith, less, words_few)))
+            ∙ sym (entries_sum (clocks_known t) good.mode good.window rom list good.good e here taken.items taken.item taken.whole.lead
+                taken.whole.is taken.whole.last)
 
         few_words : clocks.most ≤ WORD_CLOCKS * e.words
         few_words = omega (arith, taken.few, mul-le-mul_left WORD_CLOCKS words_few)
 
         module _ (more : Kept) (adds : IsKeptToo e clocks kept more) where
           -- at an entry's address and key there is what was there, or it is this entry
-          pub either : (f : Entry) → Contains list f → (f ≡ e) × (found_at more f.addr f.key ≡ Some clocks) ⊎ (found_at more f.addr f.key ≡ found_at kept f.addr f.key)
+          pub either : (f : Entry) → Contains list f → (f ≡ e) × (found_at more f.addr f.key ≡ Some clocks)
+              ⊎ (found_at more f.addr f.key ≡ found_at kept f.addr f.key)
           either f h = by ((e.addr == f.addr) && same_key e.key f.key) refl
             where
-              by : (b : Bool) → ((e.addr == f.addr) && same_key e.key f.key) ≡ b → (f ≡ e) × (found_at more f.addr f.key ≡ Some clocks) ⊎ (found_at more f.addr f.key ≡ found_at kept f.addr f.key)
-              by true is = inl (only list certificate.1.rising e f here h (grind (arith, is)) (sym (key_same e.key f.key (grind (arith, is)))), adds f.addr f.key ∙ ap (λ b. cond b (Some clocks) (found_at kept f.addr f.key)) is)
+              by : (b : Bool) → ((e.addr == f.addr) && same_key e.key f.key) ≡ b → (f ≡ e) × (found_at more f.addr f.key ≡ Some clocks)
+                  ⊎ (found_at more f.addr f.key ≡ found_at kept f.addr f.key)
+              by true is = inl (only list certificate.1.rising e f here h (grind (arith, is))
+                  (sym (key_same e.key f.key (grind (arith, is)))),
+                  adds f.addr f.key ∙ ap (λ b. cond b (Some clocks) (found_at kept f.addr f.key)) is)
               by false is = inr (adds f.addr f.key ∙ ap (λ b. cond b (Some clocks) (found_at kept f.addr f.key)) is)
 
           found_here : found_at more e.addr e.key ≡ Some clocks
@@ -106,7 +118,8 @@ module _ (t : States) (rom : Rom) (list order : List Entry) where
                 told = found ∙ ap (λ x. Some x) sum_is ∙ ap (λ x. Some (sum_of (clocks_known t) rom list x)) (sym is);
                 few = record {
                   ordered = subst (λ o. (unwrap_or o (just 0)).least ≤ (unwrap_or o (just 0)).most) (sym found) taken.ordered;
-                  few = subst (λ o. (unwrap_or o (just 0)).most ≤ WORD_CLOCKS * f.words) (sym found) (subst (λ (x : Entry). clocks.most ≤ WORD_CLOCKS * x.words) (sym is) few_words);
+                  few = subst (λ o. (unwrap_or o (just 0)).most ≤ WORD_CLOCKS * f.words) (sym found)
+                      (subst (λ (x : Entry). clocks.most ≤ WORD_CLOCKS * x.words) (sym is) few_words);
                 };
               }
 
@@ -118,7 +131,8 @@ module _ (t : States) (rom : Rom) (list order : List Entry) where
               }
 
           told_still : (f : Entry) → Contains list f → IsToldOf t rom list kept f → IsToldOf t rom list more f
-          told_still f h was = ⊎_elim (λ now. told_this f now.0 now.1) (λ same. record { told = same ∙ was.told; few = few_still f same was.few }) (either f h)
+          told_still f h was = ⊎_elim (λ now. told_this f now.0 now.1)
+              (λ same. record { told = same ∙ was.told; few = few_still f same was.few }) (either f h)
 
           pub onward : Telling (n + 1) more
           onward =
@@ -129,7 +143,8 @@ module _ (t : States) (rom : Rom) (list order : List Entry) where
                 few = λ f h. ⊎_elim (λ now. (told_this f now.0 now.1).few) (λ same. few_still f same (k.few f h)) (either f h);
               }
             where
-              by : (f : Entry) (i : ℕ) → i < n + 1 → i < length order → get_or order i f ≡ f → (b : Bool) → (i == n) ≡ b → IsToldOf t rom list more f
+              by : (f : Entry) (i : ℕ) → i < n + 1 → i < length order → get_or order i f ≡ f → (b : Bool) → (i == n) ≡ b
+                  → IsToldOf t rom list more f
               by f i below small is true eq =
                   let at : i ≡ n = grind (arith, eq) in
                   let same : f ≡ e = sym is ∙ ap (λ j. get_or order j f) at ∙ get_or_default order n f d lt in

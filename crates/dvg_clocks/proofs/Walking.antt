@@ -1,5 +1,11 @@
 -- What the loop over items keeps, and what follows where it stops.
-use Rattle.dvg_clocks.proofs.Common.{◌≡◌, ℕ, ◌+◌, ◌*◌, ◌≤◌, ◌<◌, List, [], ◌∷◌, Option, Some, None, refl, sym, ◌∙◌, ap, subst, arith, Contains, Entry, Key, Any, Rom, rom_word, Shape, Item, LeadsTo, next_address, shape_context, words_before, scale_before, Context, target, callee, callee_words, word_count, word_count-some, named_listed, Cell, Holds, Format, Instr, cell_at, ClockRange, States, plus, just, callee_taken, taken_before, clocks_known, sum_of, ShapeKeeps, seen_at, AreGood, WORD_CLOCKS, frame_sum, frame_context, frame_word, Frame, Halt, FrameKeeps, FrameWhy, CellKeeps, GoodFrame, Window, Memory, IsMemory, Board, IsAcceptedFrame, TakenOnCircuit, clocks_of_instr, ScaleCursor, Kept, AreTold, AreAllFew, IsFewFor, clocks_in, context_at, cursor_past, AreFew, IsWalkable, IsWhole, IsTaken, IsOver, IsFirstOver}
+use Rattle.dvg_clocks.proofs.Common.{◌≡◌, ℕ, ◌+◌, ◌*◌, ◌≤◌, ◌<◌, List, [], ◌∷◌, Option, Some, None, refl, sym, ◌∙◌, ap, subst, arith,
+    Contains, Entry, Key, Any, Rom, rom_word, Shape, Item, LeadsTo, next_address, shape_context, words_before, scale_before, Context,
+    target, callee, callee_words, word_count, word_count-some, named_listed, Cell, Holds, Format, Instr, cell_at, ClockRange, States,
+    plus, just, callee_taken, taken_before, clocks_known, sum_of, ShapeKeeps, seen_at, AreGood, WORD_CLOCKS, frame_sum, frame_context,
+    frame_word, Frame, Halt, FrameKeeps, FrameWhy, CellKeeps, GoodFrame, Window, Memory, IsMemory, Board, IsAcceptedFrame,
+    TakenOnCircuit, clocks_of_instr, ScaleCursor, Kept, AreTold, AreAllFew, IsFewFor, clocks_in, context_at, cursor_past, AreFew,
+    IsWalkable, IsWhole, IsTaken, IsOver, IsFirstOver}
 use Rattle.std.proofs.Math.Nat.{mul-add, mul-le-mul_left}
 use Rattle.std.specs.Prelude.{IfSome, IfOk, IfErr, Result, Ok, Err, unwrap_or}
 use Rattle.dvg_words.specs.Values.{Source}
@@ -15,7 +21,8 @@ use Rattle.dvg_clocks.proofs.ShapeRuns.{rule, holds}
 use Rattle.dvg_clocks.proofs.Existing.{entries_sum, frames_sum, clocks_on_circuit}
 
 -- little is kept of what is called
-pub few_of : (kept : Kept) (list : List Entry) → AreAllFew kept list → (to : Option ℕ) (scale : Key) (o : Option Entry) → o ≡ callee_at list to scale → IfSome o (IsFewFor kept)
+pub few_of : (kept : Kept) (list : List Entry) → AreAllFew kept list → (to : Option ℕ) (scale : Key) (o : Option Entry)
+    → o ≡ callee_at list to scale → IfSome o (IsFewFor kept)
 few_of kept list few to scale None is = tt
 few_of kept list few to scale (Some f) is = few f (named_listed list to scale f (sym is))
 
@@ -37,14 +44,16 @@ module _ (t : States) (source : Source) (list : List Entry) (kept : Kept) (first
     pub below : sum.most ≤ limit
 
   pub begins : IsKey first.scale → Going first (just 0)
-  begins key = record { items = []; leads = refl; kind = refl; scale = refl; key = key; sum_is = refl; ordered = omega arith; few = omega arith; within = omega arith; below = omega arith }
+  begins key = record { items = []; leads = refl; kind = refl; scale = refl; key = key; sum_is = refl; ordered = omega arith; few =
+      omega arith; within = omega arith; below = omega arith }
 
   module _ (walk : IsWalkable source list first) (here : ScaleCursor) (sum : ClockRange) (k : Going here sum) where
     -- there is an item
     pub stands : (format : Format) × (i : Instr) × (cell_at source here.at ≡ Holds format i)
     stands = walk.few.there k.items here.at k.leads
 
-    module _ (format : Format) (i : Instr) (is : cell_at source here.at ≡ Holds format i) (called : Option Entry) (names : called ≡ callee_at list (target here.kind i) here.scale) where
+    module _ (format : Format) (i : Instr) (is : cell_at source here.at ≡ Holds format i) (called : Option Entry)
+        (names : called ≡ callee_at list (target here.kind i) here.scale) where
       abbrev item : Item
       item = record { at = here.at; format = format; instr = i }
 
@@ -58,10 +67,12 @@ module _ (t : States) (source : Source) (list : List Entry) (kept : Kept) (first
       all_words : word_count format + callee_words called + words_before c k.items ≤ MOST_WORDS
       all_words = omega (arith, walk.few.few k.items item k.leads is, ap callee_words named, walk.within)
 
-      module _ (one : ClockRange) (one_is : one ≡ plus (clocks_known t format i here.scale) (callee_taken (clocks_in kept) called)) (one_ordered : one.least ≤ one.most) (one_few : one.most ≤ WORD_CLOCKS * (1 + callee_words called)) where
+      module _ (one : ClockRange) (one_is : one ≡ plus (clocks_known t format i here.scale) (callee_taken (clocks_in kept) called))
+          (one_ordered : one.least ≤ one.most) (one_few : one.most ≤ WORD_CLOCKS * (1 + callee_words called)) where
         few_here : one.most + sum.most ≤ WORD_CLOCKS * words_before c (item ∷ k.items)
         few_here =
-            omega (arith, one_few, k.few, mul-add WORD_CLOCKS (1 + callee_words called) (words_before c k.items), mul-le-mul_left WORD_CLOCKS words_fit)
+            omega (arith, one_few, k.few, mul-add WORD_CLOCKS (1 + callee_words called) (words_before c k.items),
+                mul-le-mul_left WORD_CLOCKS words_fit)
           where
             words_fit : 1 + callee_words called + words_before c k.items ≤ words_before c (item ∷ k.items)
             words_fit = omega (arith, word_count-some format, ap callee_words named)
@@ -69,7 +80,8 @@ module _ (t : States) (source : Source) (list : List Entry) (kept : Kept) (first
         sum_here : plus one sum ≡ taken_before (clocks_known t) (clocks_in kept) c (item ∷ k.items)
         sum_here = cc (one_is, named, k.scale, k.sum_is)
 
-        pub onward : one.most + sum.most ≤ limit → (next : ScaleCursor) → cursor_past here item called ≡ Some next → IsKey next.scale → Going next (plus one sum)
+        pub onward : one.most + sum.most ≤ limit → (next : ScaleCursor) → cursor_past here item called ≡ Some next → IsKey next.scale
+            → Going next (plus one sum)
         onward below next goes key = by (next_address here.kind item) refl
           where
             by : (o : Option ℕ) → next_address here.kind item ≡ o → Going next (plus one sum)
@@ -123,39 +135,56 @@ module _ (rom : Rom) (list : List Entry) (all : AreGood rom list) (e : Entry) (l
   pub shape_few : AreFew (shape_context rom.machine list e) (rom_word rom) e.addr e.words
   shape_few =
       record {
-        there = λ earlier p lead. holds (λ x. ShapeKeeps all.mode all.window e (seen_at (shape_context rom.machine list e) earlier x)) p (cell_at (rom_word rom) p) (all.good e listed earlier p lead shape.Unmapped) (all.good e listed earlier p lead shape.Odd);
+        there = λ earlier p lead. holds (λ x. ShapeKeeps all.mode all.window e (seen_at (shape_context rom.machine list e) earlier x)) p
+            (cell_at (rom_word rom) p) (all.good e listed earlier p lead shape.Unmapped) (all.good e listed earlier p lead shape.Odd);
         few = λ earlier i lead is. rule all.mode rom all.window list e (all.good e listed) earlier i lead is shape.TooManyWords;
       }
 
-  pub shape_sum : (t : States) (items : List Item) (j : Item) → IsWhole Shape (rom_word rom) e.addr items j → taken_before (clocks_known t) (sum_of (clocks_known t) rom list) (shape_context rom.machine list e) (j ∷ items) ≡ sum_of (clocks_known t) rom list e
-  shape_sum t items j whole = sym (entries_sum (clocks_known t) all.mode all.window rom list all.good e listed items j whole.lead whole.is whole.last)
+  pub shape_sum : (t : States) (items : List Item) (j : Item) → IsWhole Shape (rom_word rom) e.addr items j
+      → taken_before (clocks_known t) (sum_of (clocks_known t) rom list) (shape_context rom.machine list e) (j ∷ items)
+      ≡ sum_of (clocks_known t) rom list e
+  shape_sum t items j whole = sym
+      (entries_sum (clocks_known t) all.mode all.window rom list all.good e listed items j whole.lead whole.is whole.last)
 
 -- ---- frames
 
-holds_frame : (K : Item → FrameWhy → Type 0) (p : ℕ) (cell : Cell) → CellKeeps frame.Unmapped frame.Odd K p cell frame.Unmapped → CellKeeps frame.Unmapped frame.Odd K p cell frame.Odd → (format : Format) × (instr : Instr) × (cell ≡ Holds format instr)
+holds_frame : (K : Item → FrameWhy → Type 0) (p : ℕ) (cell : Cell) → CellKeeps frame.Unmapped frame.Odd K p cell frame.Unmapped
+    → CellKeeps frame.Unmapped frame.Odd K p cell frame.Odd → (format : Format) × (instr : Instr) × (cell ≡ Holds format instr)
 holds_frame K p (Holds format instr) a b = (format, instr, refl)
 holds_frame K p cell a b = grind (arith)
 
-module _ (m : Memory) (w : Window) (list : List Entry) (budget words depth : ℕ) (gf : GoodFrame w m.rom.machine m.frame list budget words depth) where
+module _ (m : Memory) (w : Window) (list : List Entry) (budget words depth : ℕ)
+    (gf : GoodFrame w m.rom.machine m.frame list budget words depth) where
   abbrev f : Context
   f = frame_context m.rom.machine list
 
   pub frame_few : AreFew f (frame_word m.rom.machine m.frame) 0 budget
   frame_few =
       record {
-        there = λ earlier p lead. holds_frame (λ x. FrameKeeps w budget (seen_at f earlier x)) p (cell_at (frame_word m.rom.machine m.frame) p) (gf.keeps earlier p lead frame.Unmapped) (gf.keeps earlier p lead frame.Odd);
-        few = λ earlier i lead is. subst (λ x. CellKeeps frame.Unmapped frame.Odd (λ j. FrameKeeps w budget (seen_at f earlier j)) i.at x frame.Budget) is (gf.keeps earlier i.at lead frame.Budget);
+        there = λ earlier p lead. holds_frame (λ x. FrameKeeps w budget (seen_at f earlier x)) p
+            (cell_at (frame_word m.rom.machine m.frame) p) (gf.keeps earlier p lead frame.Unmapped) (gf.keeps earlier p lead frame.Odd);
+        few = λ earlier i lead is. subst
+            (λ x. CellKeeps frame.Unmapped frame.Odd (λ j. FrameKeeps w budget (seen_at f earlier j)) i.at x frame.Budget) is
+            (gf.keeps earlier i.at lead frame.Budget);
       }
 
-  pub frame_sum_is : (t : States) (items : List Item) (j : Item) → IsWhole Frame (frame_word m.rom.machine m.frame) 0 items j → taken_before (clocks_known t) (sum_of (clocks_known t) m.rom list) f (j ∷ items) ≡ frame_sum (clocks_known t) m list words
+  pub frame_sum_is : (t : States) (items : List Item) (j : Item) → IsWhole Frame (frame_word m.rom.machine m.frame) 0 items j
+      → taken_before (clocks_known t) (sum_of (clocks_known t) m.rom list) f (j ∷ items) ≡ frame_sum (clocks_known t) m list words
   frame_sum_is t items j whole =
       let i : Item = record { at = gf.at; format = gf.format; instr = Halt } in
-      let one : j ∷ items ≡ i ∷ gf.items = same_walk Frame (frame_word m.rom.machine m.frame) 0 items gf.items j i whole (record { lead = gf.leads; is = gf.halts; last = refl }) in
-      ap (taken_before (clocks_known t) (sum_of (clocks_known t) m.rom list) f) one ∙ sym (frames_sum (clocks_known t) m w list budget words depth gf)
+      let one : j ∷ items ≡ i ∷ gf.items =
+          same_walk Frame (frame_word m.rom.machine m.frame) 0 items gf.items j i whole
+          (record { lead = gf.leads; is = gf.halts; last = refl }) in
+      ap (taken_before (clocks_known t) (sum_of (clocks_known t) m.rom list) f) one
+          ∙ sym (frames_sum (clocks_known t) m w list budget words depth gf)
 
-pub frame_on_circuit : (t : States) (m : Memory) (list : List Entry) (words : ℕ) (range : ClockRange) → IsMemory m → IsSomeCertificate list → AreGood m.rom list → IsAcceptedFrame m list words → range ≡ frame_sum (clocks_known t) m list words → m.rom.machine ≡ Board → TakenOnCircuit (clocks_of_instr t) m range
+pub frame_on_circuit : (t : States) (m : Memory) (list : List Entry) (words : ℕ) (range : ClockRange) → IsMemory m
+    → IsSomeCertificate list → AreGood m.rom list → IsAcceptedFrame m list words → range ≡ frame_sum (clocks_known t) m list words
+    → m.rom.machine ≡ Board → TakenOnCircuit (clocks_of_instr t) m range
 frame_on_circuit t m list words range mem certificate all gf is board =
-    subst (TakenOnCircuit (clocks_of_instr t) m) (sym is) (clocks_on_circuit t all.mode m all.window gf.window list gf.budget words gf.depth mem board (λ e listed. (listed_claim list e certificate listed).depth) all.good gf.good)
+    subst (TakenOnCircuit (clocks_of_instr t) m) (sym is)
+        (clocks_on_circuit t all.mode m all.window gf.window list gf.budget words gf.depth mem board
+        (λ e listed. (listed_claim list e certificate listed).depth) all.good gf.good)
 
 -- an accepted frame
 module _ (m : Memory) (list : List Entry) (words : ℕ) (gf : IsAcceptedFrame m list words) where
@@ -164,7 +193,9 @@ module _ (m : Memory) (list : List Entry) (words : ℕ) (gf : IsAcceptedFrame m 
       let f = frame_few m gf.window list gf.budget words gf.depth gf.good in
       record { there = f.there; few = λ earlier i lead is. omega (arith, f.few earlier i lead is, gf.few) }
 
-  pub accepted_sum : (t : States) (items : List Item) (j : Item) → IsWhole Frame (frame_word m.rom.machine m.frame) 0 items j → taken_before (clocks_known t) (sum_of (clocks_known t) m.rom list) (frame_context m.rom.machine list) (j ∷ items) ≡ frame_sum (clocks_known t) m list words
+  pub accepted_sum : (t : States) (items : List Item) (j : Item) → IsWhole Frame (frame_word m.rom.machine m.frame) 0 items j
+      → taken_before (clocks_known t) (sum_of (clocks_known t) m.rom list) (frame_context m.rom.machine list) (j ∷ items)
+      ≡ frame_sum (clocks_known t) m list words
   accepted_sum t items j whole = frame_sum_is m gf.window list gf.budget words gf.depth gf.good t items j whole
 
   -- it can be gone over
@@ -173,14 +204,19 @@ module _ (m : Memory) (list : List Entry) (words : ℕ) (gf : IsAcceptedFrame m 
 
   module _ (t : States) (kept : Kept) (told : AreTold t m.rom list kept) (limit : ℕ) where
     -- what its items take by what is kept is what they take
-    as_told : (items : List Item) → taken_before (clocks_known t) (clocks_in kept) (frame_context m.rom.machine list) items ≡ taken_before (clocks_known t) (sum_of (clocks_known t) m.rom list) (frame_context m.rom.machine list) items
-    as_told items = same_taken (clocks_known t) (clocks_in kept) (sum_of (clocks_known t) m.rom list) (frame_context m.rom.machine list) items (λ g h less. ap (λ o. unwrap_or o (just 0)) (told g h).told)
+    as_told : (items : List Item) → taken_before (clocks_known t) (clocks_in kept) (frame_context m.rom.machine list) items
+        ≡ taken_before (clocks_known t) (sum_of (clocks_known t) m.rom list) (frame_context m.rom.machine list) items
+    as_told items = same_taken (clocks_known t) (clocks_in kept) (sum_of (clocks_known t) m.rom list) (frame_context m.rom.machine list)
+        items (λ g h less. ap (λ o. unwrap_or o (just 0)) (told g h).told)
 
     -- in all, its sum
-    pub frame_is : (sum : ClockRange) → (taken : IsTaken t (frame_word m.rom.machine m.frame) list kept (record { kind = Frame; at = 0; scale = Any }) limit sum) → sum ≡ frame_sum (clocks_known t) m list words
+    pub frame_is : (sum : ClockRange)
+        → (taken : IsTaken t (frame_word m.rom.machine m.frame) list kept (record { kind = Frame; at = 0; scale = Any }) limit sum)
+        → sum ≡ frame_sum (clocks_known t) m list words
     frame_is sum taken = taken.sum_is ∙ as_told (taken.item ∷ taken.items) ∙ accepted_sum t taken.items taken.item taken.whole
 
-    pub frame_over : (at : ℕ) → IsOver t (frame_word m.rom.machine m.frame) list kept (record { kind = Frame; at = 0; scale = Any }) limit at → IsFirstOver t m list limit at
+    pub frame_over : (at : ℕ) → IsOver t (frame_word m.rom.machine m.frame) list kept (record { kind = Frame; at = 0; scale = Any })
+        limit at → IsFirstOver t m list limit at
     frame_over at o =
         record {
           items = o.items;
@@ -193,14 +229,20 @@ module _ (m : Memory) (list : List Entry) (words : ℕ) (gf : IsAcceptedFrame m 
         }
 
     -- so for an answer
-    pub are : (r : Result ClockRange ℕ) → IfOk r (IsTaken t (frame_word m.rom.machine m.frame) list kept (record { kind = Frame; at = 0; scale = Any }) limit) → IfOk r (λ sum. sum ≡ frame_sum (clocks_known t) m list words)
+    pub are : (r : Result ClockRange ℕ)
+        → IfOk r (IsTaken t (frame_word m.rom.machine m.frame) list kept (record { kind = Frame; at = 0; scale = Any }) limit)
+        → IfOk r (λ sum. sum ≡ frame_sum (clocks_known t) m list words)
     are (Ok sum) taken = frame_is sum taken
     are (Err at) h = tt
 
-    pub first_over : (r : Result ClockRange ℕ) → IfErr r (IsOver t (frame_word m.rom.machine m.frame) list kept (record { kind = Frame; at = 0; scale = Any }) limit) → IfErr r (IsFirstOver t m list limit)
+    pub first_over : (r : Result ClockRange ℕ)
+        → IfErr r (IsOver t (frame_word m.rom.machine m.frame) list kept (record { kind = Frame; at = 0; scale = Any }) limit)
+        → IfErr r (IsFirstOver t m list limit)
     first_over (Ok sum) h = tt
     first_over (Err at) o = frame_over at o
 
-    pub on_circuit : IsMemory m → IsSomeCertificate list → AreGood m.rom list → (r : Result ClockRange ℕ) → IfOk r (λ sum. sum ≡ frame_sum (clocks_known t) m list words) → m.rom.machine ≡ Board → IfOk r (TakenOnCircuit (clocks_of_instr t) m)
+    pub on_circuit : IsMemory m → IsSomeCertificate list → AreGood m.rom list → (r : Result ClockRange ℕ)
+        → IfOk r (λ sum. sum ≡ frame_sum (clocks_known t) m list words) → m.rom.machine ≡ Board
+        → IfOk r (TakenOnCircuit (clocks_of_instr t) m)
     on_circuit mem certificate all (Ok sum) is board = frame_on_circuit t m list words sum mem certificate all gf is board
     on_circuit mem certificate all (Err at) is board = tt

@@ -1,5 +1,6 @@
 -- What was read of dumps, what all of it is, and what is told of it.
-use Rattle.dvg_cmd.proofs.Common.{arith, common_steps, sym, subst, inl, inr, ◌≡◌, ◌<◌, ◌++◌, ◌↔◌, ℕ, List, [], Option, None, Some, length, IfSome, IsPrefix}
+use Rattle.dvg_cmd.proofs.Common.{arith, common_steps, sym, subst, inl, inr, ◌≡◌, ◌<◌, ◌++◌, ◌↔◌, ℕ, List, [], Option, None, Some,
+    length, IfSome, IsPrefix}
 use Rattle.dvg_dumps.specs.Differences.{counted}
 use Rattle.dvg_dumps.specs.declared.differences.Differences.{Differences}
 use Rattle.dvg_spelling.specs.Dumps.{dump_line}
@@ -10,7 +11,8 @@ use Rattle.dvg_cmd.proofs.Whole.{held_bytes, held_told, read_short}
 module _ (reader : Option (List ℕ)) (bytes : List ℕ) (read : IsPrefix 4097 reader bytes) where
   -- a dump that is not too long was read as a whole
   pub dump_held : IsDumpLength (length bytes) → Held reader bytes
-  dump_held h = subst (λ all. Held reader all) (sym (read_short 4097 reader bytes read (inl (omega (arith, h.few))))) (held_told reader bytes)
+  dump_held h = subst (λ all. Held reader all) (sym (read_short 4097 reader bytes read (inl (omega (arith, h.few)))))
+      (held_told reader bytes)
 
   dump_back : IsDumpLength (length (held_bytes reader bytes)) → IsDumpLength (length bytes)
   dump_back h = subst (λ (all : List ℕ). IsDumpLength (length all)) (sym (read_short 4097 reader bytes read (inr (omega (arith, h.few))))) h
@@ -20,10 +22,13 @@ module _ (reader : Option (List ℕ)) (bytes : List ℕ) (read : IsPrefix 4097 r
   no_dump wrong = (held_bytes reader bytes, held_told reader bytes, λ h. wrong (dump_back h))
 
 -- what is told of two dumps that are not too long
-abbrev pub told_of : (rom other : Option (List ℕ)) (good dump : List ℕ) → IsPrefix 4097 rom good → IsPrefix 4097 other dump → (one two : List ℕ) → IsDumpLength (length good) × (one ≡ good) → IsDumpLength (length dump) × (two ≡ dump)
-    → (d : Option Differences) → (d ≡ None) ↔ (one ≡ two) → IfSome d (λ d. d ≡ counted one two) → (account : List ℕ) → (d ≡ None → account ≡ []) → Told rom other
+abbrev pub told_of : (rom other : Option (List ℕ)) (good dump : List ℕ) → IsPrefix 4097 rom good → IsPrefix 4097 other dump
+    → (one two : List ℕ) → IsDumpLength (length good) × (one ≡ good) → IsDumpLength (length dump) × (two ≡ dump)
+    → (d : Option Differences) → (d ≡ None) ↔ (one ≡ two) → IfSome d (λ d. d ≡ counted one two) → (account : List ℕ)
+    → (d ≡ None → account ≡ []) → Told rom other
 told_of rom other good dump read_good read_dump one two is_good is_dump d equal counts account nothing =
-    let differ : DifferBy good dump d = subst (λ x. DifferBy x dump d) is_good.1 (subst (λ y. DifferBy one y d) is_dump.1 (record { equal = equal; counts = counts })) in
+    let differ : DifferBy good dump d =
+        subst (λ x. DifferBy x dump d) is_good.1 (subst (λ y. DifferBy one y d) is_dump.1 (record { equal = equal; counts = counts })) in
     record {
       good = good;
       dump = dump;

@@ -1,5 +1,6 @@
 -- The bytes of a name that were read so far.
-use Rattle.dvg_cmd.proofs.Common.{◌≡◌, ◌≢◌, ◌≤◌, ℕ, cases_lt, common_steps, suc, List, [], ◌∷◌, ◌++◌, length, length-append, get_or, take, ap, subst, ◌∙◌, Option, inl, arith, Consumes-trans, Consumes, MOST_NAME_READ, Lacks, ReadsName}
+use Rattle.dvg_cmd.proofs.Common.{◌≡◌, ◌≢◌, ◌≤◌, ℕ, cases_lt, common_steps, suc, List, [], ◌∷◌, ◌++◌, length, length-append, get_or,
+    take, ap, subst, ◌∙◌, Option, inl, arith, Consumes-trans, Consumes, MOST_NAME_READ, Lacks, ReadsName}
 
 pub record NameSoFar (end : ℕ) (old now : Option (List ℕ)) (len : ℕ) (name : List ℕ) : Type 0 where
   pub bytes : List ℕ
@@ -20,7 +21,8 @@ pub first_byte : (n : ℕ) (buf : List ℕ) → n ≤ length buf → length buf 
 first_byte n buf most one some = grind (arith)
 
 module _ (end : ℕ) (old mid new : Option (List ℕ)) (len : ℕ) (name : List ℕ) (h : NameSoFar end old mid len name) where
-  pub one_byte : (byte next : ℕ) (more : List ℕ) → Consumes mid new (byte ∷ []) → byte ≢ end → next ≡ suc len → more ≡ take MOST_NAME_READ (name ++ byte ∷ []) → NameSoFar end old new next more
+  pub one_byte : (byte next : ℕ) (more : List ℕ) → Consumes mid new (byte ∷ []) → byte ≢ end → next ≡ suc len
+      → more ≡ take MOST_NAME_READ (name ++ byte ∷ []) → NameSoFar end old new next more
   one_byte byte next more read other is kept =
       record {
         bytes = h.bytes ++ byte ∷ [];

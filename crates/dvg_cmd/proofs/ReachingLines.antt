@@ -1,12 +1,14 @@
 -- The lines of the frames that reach a touched shape, over plain values.
-use Rattle.dvg_cmd.proofs.Common.{◌≡◌, ℕ, zero, suc, ◌+◌, ◌<◌, ◌≤◌, List, [], ◌∷◌, length, drop, get_or, true, string_bytes, refl, sym, ap, ◌∙◌, arith, of_each, rules, common_steps, Bool, false, String, Global, min, drop-cons, cases_lt, drop_all, reaching_lines}
+use Rattle.dvg_cmd.proofs.Common.{◌≡◌, ℕ, zero, suc, ◌+◌, ◌<◌, ◌≤◌, List, [], ◌∷◌, length, drop, get_or, true, string_bytes, refl, sym,
+    ap, ◌∙◌, arith, of_each, rules, common_steps, Bool, false, String, Global, min, drop-cons, cases_lt, drop_all, reaching_lines}
 use Rattle.dvg_spelling.specs.Touched.{frame_touched_line}
 
 -- the lines of the frames from this one on
 abbrev pub lines_from : List (String Global) → List Bool → ℕ → List (List ℕ)
 lines_from names reaching n = reaching_lines (of_each (λ name. string_bytes name) (drop n names)) (drop n reaching)
 
-passed : (names : List (String Global)) (reaching : List Bool) (n : ℕ) → n < length reaching → get_or reaching n false ≡ false → lines_from names reaching n ≡ lines_from names reaching (suc n)
+passed : (names : List (String Global)) (reaching : List Bool) (n : ℕ) → n < length reaching → get_or reaching n false ≡ false
+    → lines_from names reaching n ≡ lines_from names reaching (suc n)
 passed names (b ∷ reaching) zero lt is = grind (arith, of_each)
 passed (m ∷ names) (b ∷ reaching) (suc n) lt is = passed names reaching n (omega (arith, lt)) is
 passed names reaching n lt is = grind (arith)

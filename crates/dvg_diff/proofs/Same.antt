@@ -1,5 +1,7 @@
 -- A shape that reads no word in which two ROMs differ has the same items over both.
-use Rattle.dvg_diff.proofs.Common.{◌≡◌, ◌≢◌, ℕ, ◌+◌, ◌∙◌, List, [], ◌∷◌, Option, Some, Contains, refl, sym, subst, arith, nat_tests, Format, Long, format_of, cell_of_words, cell_at, places, fetches, Rom, word_of_rom, rom_word, Item, Shape, LeadsTo, AreAlike, taken_at, IsTouched}
+use Rattle.dvg_diff.proofs.Common.{◌≡◌, ◌≢◌, ℕ, ◌+◌, ◌∙◌, List, [], ◌∷◌, Option, Some, Contains, refl, sym, subst, arith, nat_tests,
+    Format, Long, format_of, cell_of_words, cell_at, places, fetches, Rom, word_of_rom, rom_word, Item, Shape, LeadsTo, AreAlike,
+    taken_at, IsTouched}
 use Rattle.dvg_words.specs.declared.machine.Machine.{Machine}
 
 -- words that don't differ are the same
@@ -14,7 +16,8 @@ takes_first first p = grind (arith)
 pub takes_second : (x p : ℕ) → format_of x ≡ Long → Contains (fetches (Some x) p) (p + 1)
 takes_second x p e = subst (λ (l : Format). Contains (places l p) (p + 1)) (sym e) (0, omega arith, refl)
 
-words_same : (machine : Machine) (first a b : Option ℕ) → ((x : ℕ) → first ≡ Some x → format_of x ≡ Long → a ≡ b) → cell_of_words machine first a ≡ cell_of_words machine first b
+words_same : (machine : Machine) (first a b : Option ℕ) → ((x : ℕ) → first ≡ Some x → format_of x ≡ Long → a ≡ b)
+    → cell_of_words machine first a ≡ cell_of_words machine first b
 words_same machine first a b h = grind (arith)
 
 -- ---- the items
@@ -30,10 +33,12 @@ module _ (rom : Rom) (others : List ℕ) (addr : ℕ) (untouched : IsTouched rom
   abbrev other : Rom
   other = with_words rom others
 
-  pub word_there : (earlier : List Item) (at : ℕ) → LeadsTo Shape (rom_word rom) addr earlier at → (p : ℕ) → Contains (taken_at rom at) p → word_of_rom rom p ≡ word_of_rom other p
+  pub word_there : (earlier : List Item) (at : ℕ) → LeadsTo Shape (rom_word rom) addr earlier at → (p : ℕ) → Contains (taken_at rom at) p
+      → word_of_rom rom p ≡ word_of_rom other p
   word_there earlier at lead p taken = grind (arith, same_word)
 
-  pub cell_there : (earlier : List Item) (at : ℕ) → LeadsTo Shape (rom_word rom) addr earlier at → cell_at (rom_word rom) at ≡ cell_at (rom_word other) at
+  pub cell_there : (earlier : List Item) (at : ℕ) → LeadsTo Shape (rom_word rom) addr earlier at
+      → cell_at (rom_word rom) at ≡ cell_at (rom_word other) at
   unfolding cell_at
   cell_there earlier at lead = grind (arith, word_there, takes_first, takes_second, words_same)
 
@@ -50,6 +55,7 @@ module _ (rom : Rom) (others : List ℕ) (addr : ℕ) (untouched : IsTouched rom
   untouched_back t =
       let r = t.1.reads in
       let lead = back r.earlier r.at r.leads in
-      let first : word_of_rom rom r.at ≡ word_of_rom other r.at = word_there r.earlier r.at lead r.at (takes_first (word_of_rom rom r.at) r.at) in
+      let first : word_of_rom rom r.at ≡ word_of_rom other r.at =
+          word_there r.earlier r.at lead r.at (takes_first (word_of_rom rom r.at) r.at) in
       let taken : Contains (taken_at rom r.at) t.0 = subst (λ (o : Option ℕ). Contains (fetches o r.at) t.0) (sym first) r.taken in
       t.1.differs (sym (word_there r.earlier r.at lead t.0 taken))

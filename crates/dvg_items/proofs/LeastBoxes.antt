@@ -25,13 +25,16 @@ pub record IsSpanning (p q : Point) (box : LitBox) : Type 0 where
   pub second : InBox box q
   pub least : (other : LitBox) → InBox other p → InBox other q → IsInside box other
 
-pub spanning_is : (p q : Point) (box : LitBox) (x0 x1 y0 y1 : ℤ) → box ≡ Span x0 x1 y0 y1 → IsReach x0 x1 p.x p.x q.x q.x → IsReach y0 y1 p.y p.y q.y q.y → IsSpanning p q box
+pub spanning_is : (p q : Point) (box : LitBox) (x0 x1 y0 y1 : ℤ) → box ≡ Span x0 x1 y0 y1 → IsReach x0 x1 p.x p.x q.x q.x
+    → IsReach y0 y1 p.y p.y q.y q.y → IsSpanning p q box
 spanning_is p q box x0 x1 y0 y1 e h k =
     let a = reach_first x0 x1 p.x p.x q.x q.x h in
     let b = reach_first y0 y1 p.y p.y q.y q.y k in
     let c = reach_second x0 x1 p.x p.x q.x q.x h in
     let d = reach_second y0 y1 p.y p.y q.y q.y k in
-    let s : IsSpanning p q (Span x0 x1 y0 y1) = record { first = record { left = a.0; right = a.1; bottom = b.0; top = b.1 }; second = record { left = c.0; right = c.1; bottom = d.0; top = d.1 }; least = inside } in
+    let s : IsSpanning p q (Span x0 x1 y0 y1) =
+        record { first = record { left = a.0; right = a.1; bottom = b.0; top = b.1 }; second =
+        record { left = c.0; right = c.1; bottom = d.0; top = d.1 }; least = inside } in
     subst (IsSpanning p q) (sym e) s
   where
     inside : (other : LitBox) → InBox other p → InBox other q → IsInside (Span x0 x1 y0 y1) other
@@ -47,7 +50,8 @@ pub record IsJoined (a b box : LitBox) : Type 0 where
   pub second : IsInside b box
   pub least : (other : LitBox) → IsInside a other → IsInside b other → IsInside box other
 
-joined_spans : (a0 a1 b0 b1 c0 c1 d0 d1 x0 x1 y0 y1 : ℤ) → IsReach x0 x1 a0 a1 c0 c1 → IsReach y0 y1 b0 b1 d0 d1 → IsJoined (Span a0 a1 b0 b1) (Span c0 c1 d0 d1) (Span x0 x1 y0 y1)
+joined_spans : (a0 a1 b0 b1 c0 c1 d0 d1 x0 x1 y0 y1 : ℤ) → IsReach x0 x1 a0 a1 c0 c1 → IsReach y0 y1 b0 b1 d0 d1
+    → IsJoined (Span a0 a1 b0 b1) (Span c0 c1 d0 d1) (Span x0 x1 y0 y1)
 joined_spans a0 a1 b0 b1 c0 c1 d0 d1 x0 x1 y0 y1 h k =
     let p = reach_first x0 x1 a0 a1 c0 c1 h in
     let q = reach_first y0 y1 b0 b1 d0 d1 k in
@@ -62,10 +66,12 @@ joined_spans a0 a1 b0 b1 c0 c1 d0 d1 x0 x1 y0 y1 h k =
         let y = reach_least y0 y1 b0 b1 d0 d1 s t k i.2 i.3 j.2 j.3 in
         (x.0, x.1, y.0, y.1)
 
-pub joined_is : (a b box : LitBox) (a0 a1 b0 b1 c0 c1 d0 d1 x0 x1 y0 y1 : ℤ) → a ≡ Span a0 a1 b0 b1 → b ≡ Span c0 c1 d0 d1 → box ≡ Span x0 x1 y0 y1 → IsReach x0 x1 a0 a1 c0 c1 → IsReach y0 y1 b0 b1 d0 d1 → IsJoined a b box
+pub joined_is : (a b box : LitBox) (a0 a1 b0 b1 c0 c1 d0 d1 x0 x1 y0 y1 : ℤ) → a ≡ Span a0 a1 b0 b1 → b ≡ Span c0 c1 d0 d1
+    → box ≡ Span x0 x1 y0 y1 → IsReach x0 x1 a0 a1 c0 c1 → IsReach y0 y1 b0 b1 d0 d1 → IsJoined a b box
 joined_is a b box a0 a1 b0 b1 c0 c1 d0 d1 x0 x1 y0 y1 e f g h k =
     let s : IsJoined (Span a0 a1 b0 b1) (Span c0 c1 d0 d1) (Span x0 x1 y0 y1) = joined_spans a0 a1 b0 b1 c0 c1 d0 d1 x0 x1 y0 y1 h k in
-    subst (λ z. IsJoined z b box) (sym e) (subst (λ z. IsJoined (Span a0 a1 b0 b1) z box) (sym f) (subst (IsJoined (Span a0 a1 b0 b1) (Span c0 c1 d0 d1)) (sym g) s))
+    subst (λ z. IsJoined z b box) (sym e)
+        (subst (λ z. IsJoined (Span a0 a1 b0 b1) z box) (sym f) (subst (IsJoined (Span a0 a1 b0 b1) (Span c0 c1 d0 d1)) (sym g) s))
 
 pub in_wider : (a b : LitBox) (p : Point) → IsInside a b → InBox a p → InBox b p
 in_wider a b p i h = grind (arith, ints)

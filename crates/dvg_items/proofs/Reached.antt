@@ -1,5 +1,6 @@
 -- What so many steps of one length reach, more steps reach; and of what is reached, places, boxes and corners are made.
-use Rattle.dvg_items.proofs.Common.{arith, rules, ints, ap, ◌≡◌, ◌∙◌, ◌+◌, ◌≤◌, ℕ, shift, AllByRecursion, Point, End, Rel, Abs, Lost, Effect, place_past, Span}
+use Rattle.dvg_items.proofs.Common.{arith, rules, ints, ap, ◌≡◌, ◌∙◌, ◌+◌, ◌≤◌, ℕ, shift, AllByRecursion, Point, End, Rel, Abs, Lost,
+    Effect, place_past, Span}
 use Rattle.std.proofs.Common.{◌*◌, neg_ℤ, pos}
 use Rattle.std.proofs.Math.Nat.{mul-le-mul_left}
 use Rattle.dvg_cert.specs.declared.entry.LitBox.{LitBox}
@@ -34,16 +35,19 @@ module _ (step : ℕ) where
   pub reached_shift : (m n all : ℕ) (p d : Point) → all ≡ m + n → IsReached step m p → IsReached step n d → IsReached step all (shift p d)
   reached_shift m n all p d is h k =
       let sum : step * all ≡ step * m + step * n = ap (λ x. step * x) is ∙ omega arith in
-      record { left = omega (arith, ints, h.left, k.left, sum); right = omega (arith, ints, h.right, k.right, sum); down = omega (arith, ints, h.down, k.down, sum); up = omega (arith, ints, h.up, k.up, sum) }
+      record { left = omega (arith, ints, h.left, k.left, sum); right = omega (arith, ints, h.right, k.right, sum); down =
+          omega (arith, ints, h.down, k.down, sum); up = omega (arith, ints, h.up, k.up, sum) }
 
-  pub place_after : (m n all : ℕ) (place : End) (e : Effect) → all ≡ m + n → IsReachedPlace step m place → IsReachedEffect step n e → IsReachedPlace step all (place_past e place)
+  pub place_after : (m n all : ℕ) (place : End) (e : Effect) → all ≡ m + n → IsReachedPlace step m place → IsReachedEffect step n e
+      → IsReachedPlace step all (place_past e place)
   place_after m n all place (Sets p) is h k = reached_more n all p (omega (arith, is)) k
   place_after m n all place Loses is h k = tt
   place_after m n all (Rel x y) (Moves d) is h k = reached_shift m n all (record { x = x; y = y }) d is h k
   place_after m n all (Abs x y) (Moves d) is h k = reached_shift m n all (record { x = x; y = y }) d is h k
   place_after m n all Lost (Moves d) is h k = tt
 
-  pub corners_reached : (m n all : ℕ) (lit : LitExtent) (place : End) → all ≡ m + n → IsReachedPlace step m place → IsReachedExtent step n lit → AllByRecursion (IsReached step all) (relative_corners lit place)
+  pub corners_reached : (m n all : ℕ) (lit : LitExtent) (place : End) → all ≡ m + n → IsReachedPlace step m place
+      → IsReachedExtent step n lit → AllByRecursion (IsReached step all) (relative_corners lit place)
   corners_reached m n all Nothing (Rel x y) is h k = tt
   corners_reached m n all (Between a b) (Rel x y) is h k =
       (reached_shift m n all (record { x = x; y = y }) a is h k.0, (reached_shift m n all (record { x = x; y = y }) b is h k.1, tt))
@@ -64,7 +68,8 @@ module _ (step : ℕ) where
   inside_wall n box h = grind (arith)
 
   -- a box inside the greatest one, that has this point
-  pub reached_by_point : (n : ℕ) (p : Point) (box : LitBox) → IsReached step n p → InBox box p → IsInside box (wall n) → IsReachedBox step n box
+  pub reached_by_point : (n : ℕ) (p : Point) (box : LitBox) → IsReached step n p → InBox box p → IsInside box (wall n)
+      → IsReachedBox step n box
   reached_by_point n p box h i w = search (rules)
 
   pub nothing_reached : (n : ℕ) (box : LitBox) → IsInside box Empty → IsReachedBox step n box

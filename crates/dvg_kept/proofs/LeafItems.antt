@@ -4,7 +4,8 @@ use Rattle.dvg_words.specs.Memory.{Rom, rom_word}
 use Rattle.dvg_words.specs.declared.instruction.Format.{Format}
 use Rattle.dvg_words.specs.declared.instruction.Instr.{Instr}
 use Rattle.dvg_items.proofs.Leading.{everywhere}
-use Rattle.dvg_make.proofs.Common.{arith, sym, subst, ◌∙◌, ⊎_elim, Entry, Item, Shape, LeadsTo, Holds, cell_at, target, next_address, AtEachOf}
+use Rattle.dvg_make.proofs.Common.{arith, sym, subst, ◌∙◌, ⊎_elim, Entry, Item, Shape, LeadsTo, Holds, cell_at, target, next_address,
+    AtEachOf}
 use Rattle.dvg_kept.specs.Private.Leaves.{AreLeaves, IsLeaf}
 use Rattle.dvg_kept.specs.Private.Marks.{AllAskedMarked, Marks, shape_start}
 use Rattle.dvg_kept.proofs.Marking.{set_others}
@@ -22,7 +23,8 @@ module _ (rom : Rom) (addr : ℕ) where
   pub begins : Straight addr
   begins = record { items = []; leads = refl; each = tt }
 
-  module _ (at : ℕ) (k : Straight at) (format : Format) (instr : Instr) (is : cell_at (rom_word rom) at ≡ Holds format instr) (none : target Shape instr ≡ None) where
+  module _ (at : ℕ) (k : Straight at) (format : Format) (instr : Instr) (is : cell_at (rom_word rom) at ≡ Holds format instr)
+      (none : target Shape instr ≡ None) where
     abbrev item : Item
     item = record { at = at; format = format; instr = instr }
 
@@ -33,13 +35,17 @@ module _ (rom : Rom) (addr : ℕ) where
     onward next goes = record { items = item ∷ k.items; leads = (k.leads, is, goes); each = (k.each, here) }
 
     pub done : next_address Shape item ≡ None → IsLeaf rom addr
-    done last earlier i lead stands = everywhere Shape (rom_word rom) addr NoneAt k.items item k.leads is last (k.each, here) earlier i.at lead i.format i.instr stands
+    done last earlier i lead stands =
+        everywhere Shape (rom_word rom) addr NoneAt k.items item k.leads is last (k.each, here) earlier i.at lead i.format i.instr stands
 
-pub leaf_asked : (rom : Rom) (list : List Entry) (e : Entry) (m : Marks) → IsLeaf rom e.addr → AllAskedMarked (rom_word rom) list (shape_start e) m
+pub leaf_asked : (rom : Rom) (list : List Entry) (e : Entry) (m : Marks) → IsLeaf rom e.addr
+    → AllAskedMarked (rom_word rom) list (shape_start e) m
 leaf_asked rom list e m leaf to scale a = let no : Some to ≡ None = sym a.target_is ∙ leaf a.earlier a.item a.leads a.stands in absurd (cc)
 
-pub one_leaf : (rom : Rom) (leaves : List Bool) (addr : ℕ) → AreLeaves rom leaves → IsLeaf rom addr → AreLeaves rom (slice_set leaves addr true)
-one_leaf rom leaves addr are leaf at h = ⊎_elim (λ old. are at old) (λ same. subst (λ x. IsLeaf rom x) (sym same) leaf) (set_others leaves addr at h)
+pub one_leaf : (rom : Rom) (leaves : List Bool) (addr : ℕ) → AreLeaves rom leaves → IsLeaf rom addr
+    → AreLeaves rom (slice_set leaves addr true)
+one_leaf rom leaves addr are leaf at h =
+    ⊎_elim (λ old. are at old) (λ same. subst (λ x. IsLeaf rom x) (sym same) leaf) (set_others leaves addr at h)
 
 pub none_of : {A : Type 0} (o : Option A) → is_some o ≡ false → o ≡ None
 none_of None h = refl

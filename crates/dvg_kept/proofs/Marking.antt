@@ -1,7 +1,9 @@
 -- One mark more, and what follows where the loop over items goes on or ends.
-use Rattle.std.specs.Prelude.{◌≡◌, ◌⊎◌, ℕ, zero, suc, ◌+◌, ◌<◌, ◌≤◌, List, [], ◌∷◌, ◌++◌, length, Some, Bool, true, false, Contains, slice_get, slice_set, replicate, refl}
+use Rattle.std.specs.Prelude.{◌≡◌, ◌⊎◌, ℕ, zero, suc, ◌+◌, ◌<◌, ◌≤◌, List, [], ◌∷◌, ◌++◌, length, Some, Bool, true, false, Contains,
+    slice_get, slice_set, replicate, refl}
 use Rattle.std.proofs.Common.{inl, inr}
-use Rattle.dvg_make.proofs.Common.{arith, sym, ap, subst, ◌∙◌, ⊎_elim, Contains-append_cases, Contains-append_left, Contains-append_right, length-append}
+use Rattle.dvg_make.proofs.Common.{arith, sym, ap, subst, ◌∙◌, ⊎_elim, Contains-append_cases, Contains-append_left,
+    Contains-append_right, length-append}
 use Rattle.dvg_kept.specs.Private.Marks.{IsCounted, Marks, MarksOne, trues}
 use Rattle.std.proofs.lemmas.Option.{slice_get_within}
 use Rattle.dvg_kept.proofs.Picking.{none_there}
@@ -72,7 +74,8 @@ module _ (old : Marks) (counted : IsCounted old) (p : ℕ) (free : slice_get old
         marked = set_same old.marked p true lt;
         kept = λ q h. set_kept old.marked p q h;
         waits = λ q c. Contains-append_left old.waiting (p ∷ []) q c;
-        others = λ q h. ⊎_elim (λ s. inl s) (λ s. inr (s, inl (Contains-append_right old.waiting (p ∷ []) q (zero, omega arith, sym s)))) (set_others old.marked p q h);
+        others = λ q h. ⊎_elim (λ s. inl s) (λ s. inr (s, inl (Contains-append_right old.waiting (p ∷ []) q (zero, omega arith, sym s))))
+            (set_others old.marked p q h);
         less = omega (arith, set_len old.marked p true, counted.count_is, trues_less old.marked p free, length-append old.waiting (p ∷ []));
       }
 
@@ -80,7 +83,9 @@ module _ (old : Marks) (counted : IsCounted old) (p : ℕ) (free : slice_get old
   counted_more =
       record {
         count_is = ap (λ n. n + 1) counted.count_is ∙ let h = set_trues old.marked p free in omega (arith, h);
-        wait = λ q c. ⊎_elim (λ h. set_kept old.marked p q (counted.wait q h)) (λ h. subst (λ x. slice_get (slice_set old.marked p true) x ≡ Some true) (sym (only q h)) (set_same old.marked p true lt)) (Contains-append_cases old.waiting (p ∷ []) q c);
+        wait = λ q c. ⊎_elim (λ h. set_kept old.marked p q (counted.wait q h))
+            (λ h. subst (λ x. slice_get (slice_set old.marked p true) x ≡ Some true) (sym (only q h)) (set_same old.marked p true lt))
+            (Contains-append_cases old.waiting (p ∷ []) q c);
       }
     where
       only : (q : ℕ) → Contains (p ∷ []) q → q ≡ p

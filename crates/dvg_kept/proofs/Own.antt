@@ -1,7 +1,9 @@
 -- The list that is made for a frame is that of the kept entries that are marked.
 use Rattle.std.specs.Prelude.{◌≡◌, ℕ, zero, List, [], ◌∷◌, Option, Some, None, Contains, refl}
 use Rattle.std.proofs.Common.{inl, inr}
-use Rattle.dvg_make.proofs.Common.{arith, sym, ap, subst, ◌∙◌, ⊎_elim, Machine, rom_word, frame_word, Entry, Key, Item, Shape, Frame, LeadsTo, Holds, cell_at, target, callee_at, scale_before, known_before, known_past, keyed_context, shape_context, frame_context, seen_at, HasEntry, MadeEntry, AllFine, Extends, IsLeast, Known, AllKeyed, FrameAsksFor, HasCalls, Needs, IsStraight, entry_at}
+use Rattle.dvg_make.proofs.Common.{arith, sym, ap, subst, ◌∙◌, ⊎_elim, Machine, rom_word, frame_word, Entry, Key, Item, Shape, Frame,
+    LeadsTo, Holds, cell_at, target, callee_at, scale_before, known_before, known_past, keyed_context, shape_context, frame_context,
+    seen_at, HasEntry, MadeEntry, AllFine, Extends, IsLeast, Known, AllKeyed, FrameAsksFor, HasCalls, Needs, IsStraight, entry_at}
 use Rattle.dvg_make.specs.Frames.{IsKeyed}
 use Rattle.dvg_make.proofs.Matching.{SameAt, Matched, Gathered, gathered_same, seen_matched, exact_named, found_listed}
 use Rattle.dvg_make.proofs.Ends.{made_ends, ends_made}
@@ -20,20 +22,26 @@ use Rattle.dvg_kept.specs.Private.Marks.{AllAskedMarked, Asks, IsCounted, IsMark
 use Rattle.dvg_kept.specs.Private.Own.{HasOwn}
 use Rattle.dvg_kept.proofs.Picking.{at_contains, at_picked, contains_at, picked_at, picked_each, picked_few, picked_len, picked_rising}
 
-at_other : (list : List Entry) (f : Entry) (to : ℕ) (scale : Key) → f.addr ≡ to → f.key ≡ scale → entry_at list f.addr f.key ≡ Some f → entry_at list to scale ≡ Some f
-at_other list f to scale a s h = subst (λ (x : ℕ). entry_at list x scale ≡ Some f) a (subst (λ (x : Key). entry_at list f.addr x ≡ Some f) s h)
+at_other : (list : List Entry) (f : Entry) (to : ℕ) (scale : Key) → f.addr ≡ to → f.key ≡ scale → entry_at list f.addr f.key ≡ Some f
+    → entry_at list to scale ≡ Some f
+at_other list f to scale a s h =
+    subst (λ (x : ℕ). entry_at list x scale ≡ Some f) a (subst (λ (x : Key). entry_at list f.addr x ≡ Some f) s h)
 
 -- the entry that both lists have, at a known target
 had : (a b : List Entry) (o : Option ℕ) (to : ℕ) (scale : Key) → o ≡ Some to → SameAt a b o scale → HasEntry b to scale
 had a b o to scale is same = let s : SameAt a b (Some to) scale = subst (λ (x : Option ℕ). SameAt a b x scale) is same in (s.0, s.2)
 
 -- what is known along a frame's items by a list is known by each that has more
-pub frame_same : (machine : Machine) (a b : List Entry) → Extends a b → (items : List Item) → AllKeyed machine a items → known_before (frame_context machine a) items ≡ known_before (frame_context machine b) items
+pub frame_same : (machine : Machine) (a b : List Entry) → Extends a b → (items : List Item) → AllKeyed machine a items
+    → known_before (frame_context machine a) items ≡ known_before (frame_context machine b) items
 frame_same machine a b ext [] h = refl
-frame_same machine a b ext (i ∷ earlier) h = grind (arith, (frame_same machine a b ext earlier h.0), target, scale_before, frame_context, callee_at, known_before, known_past, entry_at, exact_named)
+frame_same machine a b ext (i ∷ earlier) h =
+    grind (arith, (frame_same machine a b ext earlier h.0), target, scale_before, frame_context, callee_at, known_before, known_past,
+    entry_at, exact_named)
 
 abbrev pub KeepsAt : Window → Machine → List Entry → Entry → List Item → ℕ → ShapeWhy → Cell → Type 0
-KeepsAt w machine list e earlier p why cell = CellKeeps shape.Unmapped shape.Odd (λ j. ShapeKeeps Exact w e (seen_at (shape_context machine list e) earlier j)) p cell why
+KeepsAt w machine list e earlier p why cell =
+    CellKeeps shape.Unmapped shape.Odd (λ j. ShapeKeeps Exact w e (seen_at (shape_context machine list e) earlier j)) p cell why
 
 module _ (k : Kept) (kept : IsKept k) (m : Marks) where
   abbrev own : List Entry
@@ -57,8 +65,11 @@ module _ (k : Kept) (kept : IsKept k) (m : Marks) where
       at_other k.list e addr key l.addr_is l.key_is (found_listed k.list e kept.certificate.rising (listed e l.listed))
 
   -- the shape of an entry all of whose calls are marked
-  module _ (e : Entry) (c : Contains own e) (closed : AllAskedMarked (rom_word k.rom) k.list (record { kind = Shape; at = e.addr; scale = e.key }) m) where
-    same_item : (earlier : List Item) (i : Item) → LeadsTo Shape (rom_word k.rom) e.addr earlier i.at → cell_at (rom_word k.rom) i.at ≡ Holds i.format i.instr → (o : Option ℕ) → target Shape i.instr ≡ o → SameAt k.list own o (scale_before (keyed_context k.rom.machine k.list e.key) earlier)
+  module _ (e : Entry) (c : Contains own e)
+      (closed : AllAskedMarked (rom_word k.rom) k.list (record { kind = Shape; at = e.addr; scale = e.key }) m) where
+    same_item : (earlier : List Item) (i : Item) → LeadsTo Shape (rom_word k.rom) e.addr earlier i.at
+        → cell_at (rom_word k.rom) i.at ≡ Holds i.format i.instr → (o : Option ℕ) → target Shape i.instr ≡ o
+        → SameAt k.list own o (scale_before (keyed_context k.rom.machine k.list e.key) earlier)
     same_item earlier i lead is None t = tt
     same_item earlier i lead is (Some to) t =
         let scale : Key = scale_before (keyed_context k.rom.machine k.list e.key) earlier in
@@ -70,29 +81,39 @@ module _ (k : Kept) (kept : IsKept k) (m : Marks) where
     matched [] p lead = tt
     matched (i ∷ earlier) p lead = (matched earlier i.at lead.0, same_item earlier i lead.0 lead.1 (target Shape i.instr) refl)
 
-    matched_with : (earlier : List Item) (i : Item) → LeadsTo Shape (rom_word k.rom) e.addr earlier i.at → cell_at (rom_word k.rom) i.at ≡ Holds i.format i.instr → Matched k.rom.machine k.list own e.key (i ∷ earlier)
+    matched_with : (earlier : List Item) (i : Item) → LeadsTo Shape (rom_word k.rom) e.addr earlier i.at
+        → cell_at (rom_word k.rom) i.at ≡ Holds i.format i.instr → Matched k.rom.machine k.list own e.key (i ∷ earlier)
     matched_with earlier i lead is = (matched earlier i.at lead, same_item earlier i lead is (target Shape i.instr) refl)
 
-    scale_same : (items : List Item) (p : ℕ) → LeadsTo Shape (rom_word k.rom) e.addr items p → scale_before (keyed_context k.rom.machine k.list e.key) items ≡ scale_before (keyed_context k.rom.machine own e.key) items
-    scale_same items p lead = ap (λ (x : Gathered). x.known.scale) (gathered_same k.rom.machine k.list own e.key items (matched items p lead))
+    scale_same : (items : List Item) (p : ℕ) → LeadsTo Shape (rom_word k.rom) e.addr items p
+        → scale_before (keyed_context k.rom.machine k.list e.key) items ≡ scale_before (keyed_context k.rom.machine own e.key) items
+    scale_same items p lead = ap (λ (x : Gathered). x.known.scale)
+        (gathered_same k.rom.machine k.list own e.key items (matched items p lead))
 
-    fine_over : (items : List Item) (p : ℕ) → LeadsTo Shape (rom_word k.rom) e.addr items p → AllFine (keyed_context k.rom.machine k.list e.key) items → AllFine (keyed_context k.rom.machine own e.key) items
+    fine_over : (items : List Item) (p : ℕ) → LeadsTo Shape (rom_word k.rom) e.addr items p
+        → AllFine (keyed_context k.rom.machine k.list e.key) items → AllFine (keyed_context k.rom.machine own e.key) items
     fine_over [] p lead h = tt
     fine_over (i ∷ earlier) p lead h = (
       fine_over earlier i.at lead.0 h.0,
       record {
         straight = subst IsStraight (seen_matched k.rom.machine k.list own e.key earlier i (matched (i ∷ earlier) p lead)) h.1.straight;
-        keyed = λ to t. subst (λ (x : Key). HasEntry own to x) (scale_same earlier i.at lead.0) (had k.list own (target Shape i.instr) to _ t (matched (i ∷ earlier) p lead).1);
+        keyed = λ to t. subst (λ (x : Key). HasEntry own to x) (scale_same earlier i.at lead.0)
+            (had k.list own (target Shape i.instr) to _ t (matched (i ∷ earlier) p lead).1);
       },
     )
 
-    place_keeps : (earlier : List Item) (p : ℕ) → LeadsTo Shape (rom_word k.rom) e.addr earlier p → (why : ShapeWhy) → ShapePlaceKeeps Exact k.window k.rom k.list e earlier p why → ShapePlaceKeeps Exact k.window k.rom own e earlier p why
+    place_keeps : (earlier : List Item) (p : ℕ) → LeadsTo Shape (rom_word k.rom) e.addr earlier p → (why : ShapeWhy)
+        → ShapePlaceKeeps Exact k.window k.rom k.list e earlier p why → ShapePlaceKeeps Exact k.window k.rom own e earlier p why
     place_keeps earlier p lead why = by_cell (cell_at (rom_word k.rom) p) refl
       where
-        by_cell : (cell : Cell) → cell_at (rom_word k.rom) p ≡ cell → KeepsAt k.window k.rom.machine k.list e earlier p why cell → KeepsAt k.window k.rom.machine own e earlier p why cell
+        by_cell : (cell : Cell) → cell_at (rom_word k.rom) p ≡ cell → KeepsAt k.window k.rom.machine k.list e earlier p why cell
+            → KeepsAt k.window k.rom.machine own e earlier p why cell
         by_cell Missing is h = h
         by_cell Odd is h = h
-        by_cell (Holds format i) is h = subst (λ v. ShapeKeeps Exact k.window e v why) (seen_matched k.rom.machine k.list own e.key earlier (record { at = p; format = format; instr = i }) (matched_with earlier (record { at = p; format = format; instr = i }) lead is)) h
+        by_cell (Holds format i) is h =
+            subst (λ v. ShapeKeeps Exact k.window e v why)
+            (seen_matched k.rom.machine k.list own e.key earlier (record { at = p; format = format; instr = i })
+            (matched_with earlier (record { at = p; format = format; instr = i }) lead is)) h
 
     pub good_shape : GoodShape Exact k.window k.rom own e
     good_shape earlier p lead why = place_keeps earlier p lead why (kept.good e (listed e c) earlier p lead why)
@@ -100,22 +121,28 @@ module _ (k : Kept) (kept : IsKept k) (m : Marks) where
     pub made : MadeEntry k.rom own e
     made =
         let h = made_ends k.rom k.list e (kept.each e (listed e c)) in
-        let same = gathered_same k.rom.machine k.list own e.key (h.stops.i ∷ h.stops.items) (matched_with h.stops.items h.stops.i h.stops.leads h.stops.is) in
+        let same = gathered_same k.rom.machine k.list own e.key (h.stops.i ∷ h.stops.items)
+            (matched_with h.stops.items h.stops.i h.stops.leads h.stops.is) in
         ends_made k.rom own e (record {
           stops = h.stops;
-          sums = record { known = ap (λ (x : Gathered). x.known) (sym same) ∙ h.sums.known; box = subst (λ (x : Gathered). IsLeast x.lit e.lit) same h.sums.box };
+          sums = record { known = ap (λ (x : Gathered). x.known) (sym same) ∙ h.sums.known; box =
+              subst (λ (x : Gathered). IsLeast x.lit e.lit) same h.sums.box };
           fine = (
             fine_over h.stops.items h.stops.i.at h.stops.leads h.fine.0,
             record {
-              straight = subst IsStraight (seen_matched k.rom.machine k.list own e.key h.stops.items h.stops.i (matched_with h.stops.items h.stops.i h.stops.leads h.stops.is)) h.fine.1.straight;
-              keyed = λ to t. subst (λ (x : Key). HasEntry own to x) (scale_same h.stops.items h.stops.i.at h.stops.leads) (had k.list own (target Shape h.stops.i.instr) to _ t (matched_with h.stops.items h.stops.i h.stops.leads h.stops.is).1);
+              straight = subst IsStraight (seen_matched k.rom.machine k.list own e.key h.stops.items h.stops.i
+                  (matched_with h.stops.items h.stops.i h.stops.leads h.stops.is)) h.fine.1.straight;
+              keyed = λ to t. subst (λ (x : Key). HasEntry own to x) (scale_same h.stops.items h.stops.i.at h.stops.leads)
+                  (had k.list own (target Shape h.stops.i.instr) to _ t (matched_with h.stops.items h.stops.i h.stops.leads h.stops.is).1);
             },
           );
         })
 
   -- what the frame calls, where all of that is marked
   module _ (words : List ℕ) (asked : AllAskedMarked (frame_word k.rom.machine words) k.list frame_start m) where
-    keyed_item : (earlier : List Item) (i : Item) → AllKeyed k.rom.machine own earlier → LeadsTo Frame (frame_word k.rom.machine words) 0 earlier i.at → cell_at (frame_word k.rom.machine words) i.at ≡ Holds i.format i.instr → IsKeyed k.rom.machine own earlier i
+    keyed_item : (earlier : List Item) (i : Item) → AllKeyed k.rom.machine own earlier
+        → LeadsTo Frame (frame_word k.rom.machine words) 0 earlier i.at
+        → cell_at (frame_word k.rom.machine words) i.at ≡ Holds i.format i.instr → IsKeyed k.rom.machine own earlier i
     keyed_item earlier i keyed lead is to t =
         let scale : Key = scale_before (frame_context k.rom.machine own) earlier in
         let there = ap (λ (x : Known). x.scale) (frame_same k.rom.machine own k.list extends earlier keyed) in
@@ -128,12 +155,15 @@ module _ (k : Kept) (kept : IsKept k) (m : Marks) where
     all_keyed (i ∷ earlier) p lead = let rest = all_keyed earlier i.at lead.0 in (rest, keyed_item earlier i rest lead.0 lead.1)
 
     pub has_calls : HasCalls k.rom.machine words own
-    has_calls to scale c = subst (λ (x : Key). HasEntry own to x) c.scale_is (keyed_item c.earlier c.item (all_keyed c.earlier c.item.at c.leads) c.leads c.stands to c.target_is)
+    has_calls to scale c = subst (λ (x : Key). HasEntry own to x) c.scale_is
+        (keyed_item c.earlier c.item (all_keyed c.earlier c.item.at c.leads) c.leads c.stands to c.target_is)
 
 -- the marked entries of a frame are its own list
-module _ (k : Kept) (kept : IsKept k) (words : List ℕ) (m : Marks) (marking : IsMarking k.rom words k.list m) (counted : IsCounted m) (none : m.waiting ≡ []) where
+module _ (k : Kept) (kept : IsKept k) (words : List ℕ) (m : Marks) (marking : IsMarking k.rom words k.list m) (counted : IsCounted m)
+    (none : m.waiting ≡ []) where
   closed : (e : Entry) → IsMarked k.list m e → AllAskedMarked (rom_word k.rom) k.list (shape_start e) m
-  closed e h = ⊎_elim (λ w. let c : Contains [] w.0 = subst (λ (x : List ℕ). Contains x w.0) none w.1 in absurd (omega (arith, c.1))) (λ a. a) (marking.closed e h)
+  closed e h = ⊎_elim (λ w. let c : Contains [] w.0 = subst (λ (x : List ℕ). Contains x w.0) none w.1 in absurd (omega (arith, c.1)))
+      (λ a. a) (marking.closed e h)
 
   each : (e : Entry) → Contains (own k kept m) e → MadeEntry k.rom (own k kept m) e
   each e c = made k kept m e c (closed e (own_marked k kept m e c))
@@ -142,26 +172,37 @@ module _ (k : Kept) (kept : IsKept k) (words : List ℕ) (m : Marks) (marking : 
   calls = has_calls k kept m words marking.frame
 
   -- an entry that the shape of another one calls is needed
-  needs : (e f : Entry) → IsMarked k.list m e → Contains (own k kept m) f → Asks (shape_context k.rom.machine k.list e) (rom_word k.rom) e.addr f.addr f.key → Needs k.rom (own k kept m) e f
+  needs : (e f : Entry) → IsMarked k.list m e → Contains (own k kept m) f
+      → Asks (shape_context k.rom.machine k.list e) (rom_word k.rom) e.addr f.addr f.key → Needs k.rom (own k kept m) e f
   needs e f h c a =
       let here = marked_own k kept m e h in
-      let scale : scale_before (shape_context k.rom.machine (own k kept m) e) a.earlier ≡ f.key = sym (scale_same k kept m e here (closed e h) a.earlier a.item.at a.leads) ∙ a.scale_is in
+      let scale : scale_before (shape_context k.rom.machine (own k kept m) e) a.earlier ≡ f.key =
+          sym (scale_same k kept m e here (closed e h) a.earlier a.item.at a.leads) ∙ a.scale_is in
       record {
         earlier = a.earlier;
         item = a.item;
         leads = a.leads;
         stands = a.stands;
-        callee_is = ap (λ (o : Option ℕ). callee_at (own k kept m) o (scale_before (shape_context k.rom.machine (own k kept m) e) a.earlier)) a.target_is ∙ ap (λ (x : Key). callee_at (own k kept m) (Some f.addr) x) scale ∙ exact_named (own k kept m) f.addr f.key f (found k kept m f c);
+        callee_is = ap (λ (o : Option ℕ). callee_at (own k kept m) o
+            (scale_before (shape_context k.rom.machine (own k kept m) e) a.earlier)) a.target_is
+            ∙ ap (λ (x : Key). callee_at (own k kept m) (Some f.addr) x) scale
+            ∙ exact_named (own k kept m) f.addr f.key f (found k kept m f c);
       }
 
   made_list : FrameMade k.rom words (own k kept m)
   made_list =
       record {
-        certificate = record { map_is = kept.certificate.map_is; each = picked_each _ m.marked k.list kept.certificate.each; rising = picked_rising m.marked k.list kept.certificate.rising; few = omega (arith, picked_few m.marked k.list, kept.certificate.few) };
+        certificate = record { map_is = kept.certificate.map_is; each = picked_each _ m.marked k.list kept.certificate.each; rising =
+            picked_rising m.marked k.list kept.certificate.rising; few = omega (arith, picked_few m.marked k.list, kept.certificate.few) };
         each = each;
-        rooted = λ addr key a. ⊎_elim (λ c. absurd (omega (arith, c.1))) (λ f. calls addr key (subst (λ (x : List ℕ). FrameAsksFor k.rom.machine x (own k kept m) addr key) (sym (only_listed words f.0 f.1)) f.2)) a;
+        rooted = λ addr key a. ⊎_elim (λ c. absurd (omega (arith, c.1)))
+            (λ f. calls addr key (subst (λ (x : List ℕ). FrameAsksFor k.rom.machine x (own k kept m) addr key)
+            (sym (only_listed words f.0 f.1)) f.2)) a;
         needed = λ f c. ⊎_elim
-            (λ a. inl (inr (words, (zero, omega arith, refl), calls_shrink k.rom.machine words (own k kept m) k.list (extends k kept m) calls f.addr f.key (record { earlier = a.earlier; item = a.item; leads = a.leads; stands = a.stands; target_is = a.target_is; scale_is = a.scale_is }))))
+            (λ a. inl (inr (words, (zero, omega arith, refl),
+                calls_shrink k.rom.machine words (own k kept m) k.list (extends k kept m) calls f.addr f.key
+                (record { earlier = a.earlier; item = a.item; leads = a.leads; stands = a.stands; target_is = a.target_is; scale_is =
+                a.scale_is }))))
             (λ e. inr (e.0, marked_own k kept m e.0 e.1, needs e.0 f e.1 c e.2))
             (marking.called f (own_marked k kept m f c));
       }

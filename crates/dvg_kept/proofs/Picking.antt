@@ -16,14 +16,16 @@ at_contains xs x c = (c.0, slice_get_read xs (length xs) c.0 x refl c.1 (sym c.2
 pub none_there : {A : Type 0} (q : ℕ) (x : A) → slice_get [] q ≡ Some x → ⊥
 none_there q x h = let lt = slice_get_within [] q x h in omega (arith, lt)
 
-pub picked_at : (ms : List Bool) (es : List Entry) (p : ℕ) (e : Entry) → slice_get (picked ms es) p ≡ Some e → (q : ℕ) × (slice_get ms q ≡ Some true) × (slice_get es q ≡ Some e)
+pub picked_at : (ms : List Bool) (es : List Entry) (p : ℕ) (e : Entry) → slice_get (picked ms es) p ≡ Some e → (q : ℕ)
+    × (slice_get ms q ≡ Some true) × (slice_get es q ≡ Some e)
 picked_at (true ∷ ms) (x ∷ es) zero e h = (zero, refl, h)
 picked_at (true ∷ ms) (x ∷ es) (suc p) e h = let r = picked_at ms es p e h in (suc r.0, r.1, r.2)
 picked_at (false ∷ ms) (x ∷ es) p e h = let r = picked_at ms es p e h in (suc r.0, r.1, r.2)
 picked_at [] es p e h = absurd (none_there p e h)
 picked_at (b ∷ ms) [] p e h = absurd (none_there p e h)
 
-pub at_picked : (ms : List Bool) (es : List Entry) (q : ℕ) (e : Entry) → slice_get ms q ≡ Some true → slice_get es q ≡ Some e → (p : ℕ) × (slice_get (picked ms es) p ≡ Some e)
+pub at_picked : (ms : List Bool) (es : List Entry) (q : ℕ) (e : Entry) → slice_get ms q ≡ Some true → slice_get es q ≡ Some e → (p : ℕ)
+    × (slice_get (picked ms es) p ≡ Some e)
 at_picked (true ∷ ms) (x ∷ es) zero e m h = (zero, h)
 at_picked (false ∷ ms) (x ∷ es) zero e m h = absurd (cc m)
 at_picked (true ∷ ms) (x ∷ es) (suc q) e m h = let r = at_picked ms es q e m h in (suc r.0, r.1)

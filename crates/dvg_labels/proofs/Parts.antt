@@ -1,6 +1,7 @@
 -- How lists are cut at the first element that passes a test.
 use Rattle.std.proofs.lemmas.List.Splits.{slice_split_first}
-use Rattle.dvg_labels.proofs.Common.{◌≡◌, ℕ, suc, ◌+◌, ◌<◌, Bool, true, false, not, cond, List, [], ◌∷◌, length, take, drop, refl, ap, sym, arith, one-add, slice_split, position_or_len, onto_first, filter, words, is_blank, has_bytes, first_of}
+use Rattle.dvg_labels.proofs.Common.{◌≡◌, ℕ, suc, ◌+◌, ◌<◌, Bool, true, false, not, cond, List, [], ◌∷◌, length, take, drop, refl, ap,
+    sym, arith, one-add, slice_split, position_or_len, onto_first, filter, words, is_blank, has_bytes, first_of}
 
 -- the parts behind the first one, by what is left behind it
 abbrev pub parts_behind : {X : Type 0} → (X → Bool) → List X → List (List X)
@@ -8,16 +9,19 @@ parts_behind p [] = []
 parts_behind p (x ∷ xs) = slice_split p xs
 
 by_first : {X : Type 0} (p : X → Bool) (x : X) (xs : List X) (b : Bool) (n : ℕ) → slice_split p xs ≡ take n xs ∷ parts_behind p (drop n xs)
-    → cond b ([] ∷ slice_split p xs) (onto_first x (slice_split p xs)) ≡ take (cond (not b) (1 + n) 0) (x ∷ xs) ∷ parts_behind p (drop (cond (not b) (1 + n) 0) (x ∷ xs))
+    → cond b ([] ∷ slice_split p xs) (onto_first x (slice_split p xs))
+        ≡ take (cond (not b) (1 + n) 0) (x ∷ xs) ∷ parts_behind p (drop (cond (not b) (1 + n) 0) (x ∷ xs))
 by_first p x xs b n h = grind (arith)
 
 -- the first part ends at the first element that passes
-pub cut_first : {X : Type 0} (p : X → Bool) (xs : List X) → slice_split p xs ≡ take (position_or_len p xs) xs ∷ parts_behind p (drop (position_or_len p xs) xs)
+pub cut_first : {X : Type 0} (p : X → Bool) (xs : List X)
+    → slice_split p xs ≡ take (position_or_len p xs) xs ∷ parts_behind p (drop (position_or_len p xs) xs)
 cut_first p [] = refl
 cut_first p (x ∷ xs) = by_first p x xs (p x) (position_or_len p xs) (cut_first p xs)
 
 -- behind a first part that ends before the list does come the parts of what stands behind its end
-pub cut_at : {X : Type 0} (p : X → Bool) (n : ℕ) (xs : List X) → n ≡ position_or_len p xs → n < length xs → slice_split p xs ≡ take n xs ∷ slice_split p (drop (n + 1) xs)
+pub cut_at : {X : Type 0} (p : X → Bool) (n : ℕ) (xs : List X) → n ≡ position_or_len p xs → n < length xs
+    → slice_split p xs ≡ take n xs ∷ slice_split p (drop (n + 1) xs)
 cut_at p n [] is lt = absurd (omega arith)
 cut_at p n (x ∷ xs) is lt = grind (arith, (slice_split_first p (x ∷ xs) x))
 
@@ -35,7 +39,8 @@ abbrev pub Passing : {X : Type 0} → (X → Bool) → List X → Type 0
 Passing p [] = Unit {0}
 Passing p (x ∷ xs) = p x ≡ true
 
-passing_step : {X : Type 0} (p : X → Bool) (x : X) (xs : List X) (b : Bool) (n : ℕ) → Passing p (drop n xs) → p x ≡ b → Passing p (drop (cond (not b) (1 + n) 0) (x ∷ xs))
+passing_step : {X : Type 0} (p : X → Bool) (x : X) (xs : List X) (b : Bool) (n : ℕ) → Passing p (drop n xs) → p x ≡ b
+    → Passing p (drop (cond (not b) (1 + n) 0) (x ∷ xs))
 passing_step p x xs b n h is = grind (arith)
 
 pub first_passes : {X : Type 0} (p : X → Bool) (xs : List X) → Passing p (drop (position_or_len p xs) xs)
@@ -52,7 +57,8 @@ IsCut ys n = (take n ys ≡ first_of (words ys)) × (words (drop n ys) ≡ drop 
 word_step : (x : ℕ) (xs : List ℕ) (n : ℕ) → words (x ∷ xs) ≡ (x ∷ take n xs) ∷ words (drop n xs) → IsCut (x ∷ xs) (suc n)
 word_step x xs n h = (sym (ap first_of h), sym (ap (λ l. drop 1 l) h))
 
-visible_step : (x : ℕ) (xs : List ℕ) (b : Bool) → is_blank x ≡ b → not b ≡ true → IsCut (x ∷ xs) (cond (not b) (1 + position_or_len is_blank xs) 0)
+visible_step : (x : ℕ) (xs : List ℕ) (b : Bool) → is_blank x ≡ b → not b ≡ true
+    → IsCut (x ∷ xs) (cond (not b) (1 + position_or_len is_blank xs) 0)
 visible_step x xs true is h = absurd (grind (arith, h))
 visible_step x xs false is h = grind (arith, one-add, word_step, cond, cut_first, words_behind, first_passes)
 
@@ -61,7 +67,8 @@ word_cut [] h = (refl, refl)
 word_cut (x ∷ xs) h = visible_step x xs (is_blank x) refl h
 
 -- blanks and a word taken off a line
-pub word_off : (xs rest : List ℕ) (m n : ℕ) → rest ≡ drop m xs → m ≡ position_or_len (λ b. not (is_blank b)) xs → n ≡ position_or_len is_blank rest
+pub word_off : (xs rest : List ℕ) (m n : ℕ) → rest ≡ drop m xs → m ≡ position_or_len (λ b. not (is_blank b)) xs
+    → n ≡ position_or_len is_blank rest
     → (take n rest ≡ first_of (words xs)) × (words (drop n rest) ≡ drop 1 (words xs))
 word_off xs rest m n rest_is m_is n_is =
     grind (arith, (first_passes (λ b. not (is_blank b)) xs), (skipped xs), (word_cut rest))

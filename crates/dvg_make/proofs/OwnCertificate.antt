@@ -1,5 +1,8 @@
 -- A frame judged by the certificate that is made for it.
-use Rattle.dvg_make.proofs.Common.{Machine, ◌≡◌, ℕ, ◌≤◌, List, [], ◌∷◌, Option, None, Some, subst, arith, Result, Ok, Err, Rom, frame_word, Window, Entry, frame_context, seen_at, GoodFrame, Exact, EntryFault, Memory, FrameCall, FramesRefuse, FrameRefused, max, IfOk, IfErr, Frame, AllKeep, FramePlaceKeeps, Means, no_fault, no_shape_fault, one_count, FrameMade, BarsFrame, CallBarredAt, VerdictByMade, AreLeast, CheckMeans, checked, refusal_at, IsJudged}
+use Rattle.dvg_make.proofs.Common.{Machine, ◌≡◌, ℕ, ◌≤◌, List, [], ◌∷◌, Option, None, Some, subst, arith, Result, Ok, Err, Rom,
+    frame_word, Window, Entry, frame_context, seen_at, GoodFrame, Exact, EntryFault, Memory, FrameCall, FramesRefuse, FrameRefused, max,
+    IfOk, IfErr, Frame, AllKeep, FramePlaceKeeps, Means, no_fault, no_shape_fault, one_count, FrameMade, BarsFrame, CallBarredAt,
+    VerdictByMade, AreLeast, CheckMeans, checked, refusal_at, IsJudged}
 use Rattle.dvg_check.specs.Verdict.{PartsVerdict}
 use Rattle.dvg_check.specs.Causes.{verdict_of, refusal_of}
 use Rattle.dvg_check.specs.declared.finding.RomFinding.{RomFinding}
@@ -14,7 +17,8 @@ module _ (machine : Machine) (w : Window) (words : List ℕ) (list : List Entry)
   -- a frame that is good within a budget is so within each greater one
   raised : (a b count depth : ℕ) → a ≤ b → GoodFrame w machine words list a count depth → GoodFrame w machine words list b count depth
   raised a b count depth le g =
-      let keeps : AllKeep Frame (frame_word machine words) 0 (FramePlaceKeeps w machine words list b) = λ earlier p lead why. grind (arith, seen_at, frame_context, (g.keeps earlier p lead why)) in
+      let keeps : AllKeep Frame (frame_word machine words) 0 (FramePlaceKeeps w machine words list b) =
+          λ earlier p lead why. grind (arith, seen_at, frame_context, (g.keeps earlier p lead why)) in
       search keeps
 
 -- ---- the verdict
@@ -36,7 +40,8 @@ module _ (rom : Rom) (words : List ℕ) (w : Window) (budget : ℕ) (made : List
       (omega (arith, same.count_is, best.2), omega (arith, same.depth_is, best.3))
 
   judged_refused : (r : Refusal) → IsOfItem r → PartsVerdict Exact w rom made words budget (Err r) → CheckMeans rom words w budget r
-  judged_refused (refusal.Shape f) item v = λ mode list b n d le a. no_shape_fault Exact w rom made f (none_better rom words w mode list made b n d a m).4.good v
+  judged_refused (refusal.Shape f) item v =
+      λ mode list b n d le a. no_shape_fault Exact w rom made f (none_better rom words w mode list made b n d a m).4.good v
   judged_refused (refusal.Frame f) item v = λ mode list b n d le a.
       let best = none_better rom words w mode list made b n d a m in
       no_fault w rom.machine words made budget best.0 best.1 f (raised rom.machine w words made b budget best.0 best.1 le best.4.frame) v.1
@@ -53,16 +58,19 @@ module _ (rom : Rom) (words : List ℕ) (w : Window) (budget : ℕ) (made : List
 
 -- what the fault of the maker means, of one frame
 module _ (rom : Rom) (words : List ℕ) where
-  here : (call : FrameCall) (why : EntryFault) → FramesRefuse rom [] (words ∷ []) (record { call = Some call; why = why }) → CallBarredAt rom words call.at why × BarsFrame rom words why
+  here : (call : FrameCall) (why : EntryFault) → FramesRefuse rom [] (words ∷ []) (record { call = Some call; why = why })
+      → CallBarredAt rom words call.at why × BarsFrame rom words why
   here call why h =
       let f = h.frame in
       let same : f.0 ≡ words = grind (arith, f.1) in
       (subst (λ x. CallBarredAt rom x call.at why) same f.2, subst (λ x. BarsFrame rom x why) same f.3)
 
-  pub made_refused : (w : Window) (budget : ℕ) (call : Option FrameCall) (why : EntryFault) → FramesRefuse rom [] (words ∷ []) (record { call = call; why = why }) → FrameRefused rom words w budget (refusal_at call why)
+  pub made_refused : (w : Window) (budget : ℕ) (call : Option FrameCall) (why : EntryFault)
+      → FramesRefuse rom [] (words ∷ []) (record { call = call; why = why }) → FrameRefused rom words w budget (refusal_at call why)
   made_refused w budget None why h = tt
   made_refused w budget (Some call) Memory h = tt
   made_refused w budget (Some call) why h = (h.list, (here call why h).1)
 
-  pub made_verdict : (w : Window) (budget : ℕ) (call : Option FrameCall) (why : EntryFault) → FramesRefuse rom [] (words ∷ []) (record { call = call; why = why }) → VerdictByMade rom words w budget (Err (refusal_at call why))
+  pub made_verdict : (w : Window) (budget : ℕ) (call : Option FrameCall) (why : EntryFault)
+      → FramesRefuse rom [] (words ∷ []) (record { call = call; why = why }) → VerdictByMade rom words w budget (Err (refusal_at call why))
   made_verdict w budget call why h = grind (arith, here)

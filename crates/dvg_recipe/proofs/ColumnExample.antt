@@ -1,7 +1,10 @@
 -- The worked recipe with places up to the last one from which the stroke stays on the screen: the two shapes, and each frame of it.
-use Rattle.dvg_recipe.proofs.Common.{◌≡◌, ◌≤◌, ◌+◌, ◌∙◌, ℕ, zero, suc, List, [], ◌∷◌, Some, false, get_or, refl, sym, ap, subst, inl, arith, Contains, LeadsTo, next_address}
+use Rattle.dvg_recipe.proofs.Common.{◌≡◌, ◌≤◌, ◌+◌, ◌∙◌, ℕ, zero, suc, List, [], ◌∷◌, Some, false, get_or, refl, sym, ap, subst, inl,
+    arith, Contains, LeadsTo, next_address}
 use Rattle.std.specs.Prelude.{true, replicate}
-use Rattle.dvg_check.proofs.Common.{ints, ℤ, pos, ◌≤ℤ◌, ◌*ℤ◌, Board, Short, Long, Format, Holds, Halt, Labs, Jsrl, Instr, Cell, Item, Frame, Shape, Source, Entry, At, Rel, Empty, shift, InWindow, screen, rom_word, frame_word, frame_context, seen_at, FrameKeeps, CellKeeps, FramePlaceKeeps, ShapePlaceKeeps, GoodShape, Good, GoodFrame, IsJudged, rom_for, example_entry, words_before, depth_before}
+use Rattle.dvg_check.proofs.Common.{ints, ℤ, pos, ◌≤ℤ◌, ◌*ℤ◌, Board, Short, Long, Format, Holds, Halt, Labs, Jsrl, Instr, Cell, Item,
+    Frame, Shape, Source, Entry, At, Rel, Empty, shift, InWindow, screen, rom_word, frame_word, frame_context, seen_at, FrameKeeps,
+    CellKeeps, FramePlaceKeeps, ShapePlaceKeeps, GoodShape, Good, GoodFrame, IsJudged, rom_for, example_entry, words_before, depth_before}
 unfoldable use Rattle.dvg_check.proofs.Common.{cell_at, instruction_of, displacement}
 use Rattle.dvg_check.specs.declared.fault.Mode.TheVariants.{Exact}
 use Rattle.dvg_check.specs.declared.fault.ShapeWhy.{ShapeWhy}
@@ -32,7 +35,10 @@ call_item to = record { at = 2; format = Short; instr = Jsrl to }
 abbrev pub halt_item : Item
 halt_item = record { at = 3; format = Short; instr = Halt }
 
-pub belongs_by : (y : ℕ) (words : List ℕ) (top : ℤ) (p : ColumnParts top) → IsFrame words → LeadsTo Frame (frame_word Board words) 0 (call_item 0x800 ∷ place_item 0 y ∷ []) 3 → cell_at (frame_word Board words) 3 ≡ Holds Short Halt → IsInSpan (record { low = pos 0; high = top }) (signed_field y) → Belongs (rom_for Board) (column_recipe p) words
+pub belongs_by : (y : ℕ) (words : List ℕ) (top : ℤ) (p : ColumnParts top) → IsFrame words
+    → LeadsTo Frame (frame_word Board words) 0 (call_item 0x800 ∷ place_item 0 y ∷ []) 3
+    → cell_at (frame_word Board words) 3 ≡ Holds Short Halt → IsInSpan (record { low = pos 0; high = top }) (signed_field y)
+    → Belongs (rom_for Board) (column_recipe p) words
 belongs_by y words top p whole leads halts there =
     let items : List Item = call_item 0x800 ∷ place_item 0 y ∷ [] in
     record {
@@ -50,8 +56,10 @@ belongs_by y words top p whole leads halts there =
         between = items;
         spelled = row_of (column_piece top ∷ call_piece p.targets.0 ∷ []) p.row (rom_for Board) [] items (
           place_item 0 y ∷ [],
-          record { item = place_item 0 y; one_more = refl; taken = (record { low = omega (arith, ints); high = omega (arith, ints) }, there, refl); arrives = tt },
-          (items, record { item = call_item 0x800; one_more = refl; taken = subst (λ (l : List ℕ). Contains l 0x800) (sym p.targets.1) (0, omega arith, refl); arrives = tt }, refl),
+          record { item = place_item 0 y; one_more = refl; taken =
+              (record { low = omega (arith, ints); high = omega (arith, ints) }, there, refl); arrives = tt },
+          (items, record { item = call_item 0x800; one_more = refl; taken =
+              subst (λ (l : List ℕ). Contains l 0x800) (sym p.targets.1) (0, omega arith, refl); arrives = tt }, refl),
         );
         jumped = refl;
       };
@@ -67,7 +75,8 @@ edge_halts = refl
 
 edge_belongs : (p : ColumnParts (pos 256)) → Belongs (rom_for Board) (column_recipe p) edge_words
 edge_belongs p =
-    belongs_by 256 edge_words (pos 256) p (record { some = omega arith; few = omega arith }) edge_leads edge_halts (record { low = omega (arith, ints); high = omega (arith, ints) })
+    belongs_by 256 edge_words (pos 256) p (record { some = omega arith; few = omega arith }) edge_leads edge_halts
+        (record { low = omega (arith, ints); high = omega (arith, ints) })
 
 -- ---- the shapes
 
@@ -82,12 +91,15 @@ both = example_entry ∷ return_entry ∷ []
 stroke_good : GoodShape Exact screen (rom_for Board) both example_entry
 unfolding cell_at instruction_of displacement
 stroke_good =
-    all_kept Shape (rom_word (rom_for Board)) 2048 ShapeWhy (ShapePlaceKeeps Exact screen (rom_for Board) both example_entry) (draw_item ∷ []) return_item (refl, draw_there Board, refl) (return_there Board) refl ((tt, λ why. grind (arith, ints)), λ why. grind (arith, ints))
+    all_kept Shape (rom_word (rom_for Board)) 2048 ShapeWhy (ShapePlaceKeeps Exact screen (rom_for Board) both example_entry)
+        (draw_item ∷ []) return_item (refl, draw_there Board, refl) (return_there Board) refl
+        ((tt, λ why. grind (arith, ints)), λ why. grind (arith, ints))
 
 return_good : GoodShape Exact screen (rom_for Board) both return_entry
 unfolding cell_at instruction_of displacement
 return_good =
-    all_kept Shape (rom_word (rom_for Board)) 2050 ShapeWhy (ShapePlaceKeeps Exact screen (rom_for Board) both return_entry) [] return_item refl (return_there Board) refl (tt, λ why. grind (arith, ints))
+    all_kept Shape (rom_word (rom_for Board)) 2050 ShapeWhy (ShapePlaceKeeps Exact screen (rom_for Board) both return_entry) []
+        return_item refl (return_there Board) refl (tt, λ why. grind (arith, ints))
 
 shapes_good : Good Exact screen (rom_for Board) both
 shapes_good e (zero, lt, is) = subst (GoodShape Exact screen (rom_for Board) both) is stroke_good
@@ -105,11 +117,13 @@ judged = record { rom = (worked_example Board).memory.rom; list = (asteroids, ce
 -- ---- each frame
 
 -- both corners of the stroke's box are on the screen
-corner_near : (x y : ℤ) → pos 0 ≤ℤ x → x ≤ℤ pos 0 → pos 0 ≤ℤ y → y ≤ℤ pos 256 → InWindow screen (shift (record { x = pos 1024 *ℤ x; y = pos 1024 *ℤ y }) (record { x = pos 0; y = pos 0 }))
+corner_near : (x y : ℤ) → pos 0 ≤ℤ x → x ≤ℤ pos 0 → pos 0 ≤ℤ y → y ≤ℤ pos 256
+    → InWindow screen (shift (record { x = pos 1024 *ℤ x; y = pos 1024 *ℤ y }) (record { x = pos 0; y = pos 0 }))
 corner_near x y a b c d =
     record { left = omega (arith, ints, a); right = omega (arith, ints, b); bottom = omega (arith, ints, c); top = omega (arith, ints, d) }
 
-corner_far : (x y : ℤ) → pos 0 ≤ℤ x → x ≤ℤ pos 0 → pos 0 ≤ℤ y → y ≤ℤ pos 256 → InWindow screen (shift (record { x = pos 1024 *ℤ x; y = pos 1024 *ℤ y }) (record { x = pos 1047552; y = pos 785408 }))
+corner_far : (x y : ℤ) → pos 0 ≤ℤ x → x ≤ℤ pos 0 → pos 0 ≤ℤ y → y ≤ℤ pos 256
+    → InWindow screen (shift (record { x = pos 1024 *ℤ x; y = pos 1024 *ℤ y }) (record { x = pos 1047552; y = pos 785408 }))
 corner_far x y a b c d =
     record { left = omega (arith, ints, a); right = omega (arith, ints, b); bottom = omega (arith, ints, c); top = omega (arith, ints, d) }
 
@@ -122,24 +136,28 @@ record IsInColumn (x y : ℕ) : Type 0 where
   across : IsInSpan (record { low = pos 0; high = pos 0 }) (signed_field x)
   up : IsInSpan (record { low = pos 0; high = pos 256 }) (signed_field y)
 
-stroke_keeps : (x y : ℕ) → IsInColumn x y → (why : FrameWhy) → FrameKeeps screen 20000 (seen_at (frame_context Board both) (place_item x y ∷ []) (call_item 0x800)) why
+stroke_keeps : (x y : ℕ) → IsInColumn x y → (why : FrameWhy)
+    → FrameKeeps screen 20000 (seen_at (frame_context Board both) (place_item x y ∷ []) (call_item 0x800)) why
 stroke_keeps x y h rule.OffScreen = (
   corner_near (signed_field x) (signed_field y) h.across.low h.across.high h.up.low h.up.high,
   (corner_far (signed_field x) (signed_field y) h.across.low h.across.high h.up.low h.up.high, tt),
 )
 stroke_keeps x y h why = grind (arith)
 
-return_keeps : (x y : ℕ) (why : FrameWhy) → FrameKeeps screen 20000 (seen_at (frame_context Board both) (place_item x y ∷ []) (call_item 0x802)) why
+return_keeps : (x y : ℕ) (why : FrameWhy)
+    → FrameKeeps screen 20000 (seen_at (frame_context Board both) (place_item x y ∷ []) (call_item 0x802)) why
 return_keeps x y why = grind (arith)
 
-halt_keeps : (x y to : ℕ) → words_before (frame_context Board both) (call_item to ∷ place_item x y ∷ []) ≤ 6 → (why : FrameWhy) → FrameKeeps screen 20000 (seen_at (frame_context Board both) (call_item to ∷ place_item x y ∷ []) halt_item) why
+halt_keeps : (x y to : ℕ) → words_before (frame_context Board both) (call_item to ∷ place_item x y ∷ []) ≤ 6 → (why : FrameWhy)
+    → FrameKeeps screen 20000 (seen_at (frame_context Board both) (call_item to ∷ place_item x y ∷ []) halt_item) why
 halt_keeps x y to few why = grind (arith)
 
 -- what these words are of
 record IsCalled (to : ℕ) : Type 0 where
   few : (x y : ℕ) → words_before (frame_context Board both) (call_item to ∷ place_item x y ∷ []) ≤ 6
   deep : (x y : ℕ) → depth_before (frame_context Board both) (call_item to ∷ place_item x y ∷ []) ≤ 1
-  keeps : (x y : ℕ) → IsInColumn x y → (why : FrameWhy) → FrameKeeps screen 20000 (seen_at (frame_context Board both) (place_item x y ∷ []) (call_item to)) why
+  keeps : (x y : ℕ) → IsInColumn x y → (why : FrameWhy)
+      → FrameKeeps screen 20000 (seen_at (frame_context Board both) (place_item x y ∷ []) (call_item to)) why
 
 stroke_called : IsCalled 0x800
 stroke_called = record { few = λ x y. omega arith; deep = λ x y. omega arith; keeps = stroke_keeps }
@@ -153,15 +171,22 @@ one_called to (suc zero, lt, is) = subst IsCalled is return_called
 one_called to (suc (suc k), lt, is) = absurd (omega (arith, lt))
 
 -- where a cell holds an item that keeps a rule, its place keeps it
-at_place : (words : List ℕ) (earlier : List Item) (i : Item) → cell_at (frame_word Board words) i.at ≡ Holds i.format i.instr → ((why : FrameWhy) → FrameKeeps screen 20000 (seen_at (frame_context Board both) earlier i) why) → (why : FrameWhy) → FramePlaceKeeps screen Board words both 20000 earlier i.at why
+at_place : (words : List ℕ) (earlier : List Item) (i : Item) → cell_at (frame_word Board words) i.at ≡ Holds i.format i.instr
+    → ((why : FrameWhy) → FrameKeeps screen 20000 (seen_at (frame_context Board both) earlier i) why) → (why : FrameWhy)
+    → FramePlaceKeeps screen Board words both 20000 earlier i.at why
 at_place words earlier i is keeps why =
-    subst (λ (cell : Cell). CellKeeps rule.Unmapped rule.Odd (λ j. FrameKeeps screen 20000 (seen_at (frame_context Board both) earlier j)) i.at cell why) (sym is) (keeps why)
+    subst (λ (cell : Cell). CellKeeps rule.Unmapped rule.Odd
+        (λ j. FrameKeeps screen 20000 (seen_at (frame_context Board both) earlier j)) i.at cell why) (sym is) (keeps why)
 
-member : (words : List ℕ) (x y to : ℕ) → IsInColumn x y → IsCalled to → LeadsTo Frame (frame_word Board words) 0 (call_item to ∷ place_item x y ∷ []) 3 → cell_at (frame_word Board words) 3 ≡ Holds Short Halt
-    → GoodFrame screen Board words both 20000 (words_before (frame_context Board both) (call_item to ∷ place_item x y ∷ []) + 1) (depth_before (frame_context Board both) (call_item to ∷ place_item x y ∷ []))
+member : (words : List ℕ) (x y to : ℕ) → IsInColumn x y → IsCalled to
+    → LeadsTo Frame (frame_word Board words) 0 (call_item to ∷ place_item x y ∷ []) 3
+    → cell_at (frame_word Board words) 3 ≡ Holds Short Halt
+    → GoodFrame screen Board words both 20000 (words_before (frame_context Board both) (call_item to ∷ place_item x y ∷ []) + 1)
+        (depth_before (frame_context Board both) (call_item to ∷ place_item x y ∷ []))
 member words x y to place call leads halts =
     accepted Board words both (call_item to ∷ place_item x y ∷ []) 3 leads halts (
-      ((tt, at_place words [] (place_item x y) leads.0.1 (place_keeps x y)), at_place words (place_item x y ∷ []) (call_item to) leads.1 (call.keeps x y place)),
+      ((tt, at_place words [] (place_item x y) leads.0.1 (place_keeps x y)),
+          at_place words (place_item x y ∷ []) (call_item to) leads.1 (call.keeps x y place)),
       at_place words (call_item to ∷ place_item x y ∷ []) halt_item halts (halt_keeps x y to (call.few x y)),
     )
 
@@ -187,7 +212,8 @@ record IsLabs (i : Instr) : Type 0 where
   place : IsInColumn x y
 
 labs_of : (i : Instr) → Takes (column_piece (pos 256)).kind Long i → IsLabs i
-labs_of (Labs x y scale) h = record { x = x; y = y; is = ap (λ (s : ℕ). Labs x y s) (only_zero scale h.2); place = record { across = h.0; up = h.1 } }
+labs_of (Labs x y scale) h = record
+    { x = x; y = y; is = ap (λ (s : ℕ). Labs x y s) (only_zero scale h.2); place = record { across = h.0; up = h.1 } }
 labs_of i h = absurd h
 
 -- an instruction that calls one of these
@@ -200,7 +226,8 @@ call_of : (targets : List ℕ) (i : Instr) → TakesCall targets i → IsCall ta
 call_of targets (Jsrl to) h = record { to = to; is = refl; listed = h }
 call_of targets i h = absurd h
 
-item_is : (i : Item) (at : ℕ) (format : Format) (instr : Instr) → i.at ≡ at → i.format ≡ format → i.instr ≡ instr → i ≡ record { at = at; format = format; instr = instr }
+item_is : (i : Item) (at : ℕ) (format : Format) (instr : Instr) → i.at ≡ at → i.format ≡ format → i.instr ≡ instr
+    → i ≡ record { at = at; format = format; instr = instr }
 item_is i at format instr a f e = λ k. record { at = a k; format = f k; instr = e k }
 
 -- a frame that belongs is a LABS to a place of the column, a call of one of the shapes and a HALT
@@ -231,12 +258,16 @@ module _ (p : ColumnParts (pos 256)) (words : List ℕ) (b : Belongs (rom_for Bo
   labs_and_call : (l c : Item) → b.items ≡ c ∷ l ∷ [] → IsLabs l.instr → IsCall (0x800 ∷ 0x802 ∷ []) c.instr → IsColumn words
   labs_and_call l c are labs call =
       let lead_there = subst (λ (items : List Item). LeadsTo Frame source 0 items b.at) are b.leads in
-      let long : l.format ≡ Long = subst (λ (i : Instr). HasFormat l.format i) labs.is (format_there source l.at l.format l.instr lead_there.0.1) in
+      let long : l.format ≡ Long = subst (λ (i : Instr). HasFormat l.format i) labs.is
+          (format_there source l.at l.format l.instr lead_there.0.1) in
       let first : l ≡ place_item labs.x labs.y = item_is l 0 Long (Labs labs.x labs.y 0) lead_there.0.0 long labs.is in
-      let short : c.format ≡ Short = subst (λ (i : Instr). HasFormat c.format i) call.is (format_there source c.at c.format c.instr lead_there.1) in
+      let short : c.format ≡ Short =
+          subst (λ (i : Instr). HasFormat c.format i) call.is (format_there source c.at c.format c.instr lead_there.1) in
       let second : c.at ≡ 2 = sym (some_same 2 c.at (subst (λ (i : Item). next_address Frame i ≡ Some c.at) first lead_there.0.2)) in
       let last : c ≡ call_item call.to = item_is c 2 Short (Jsrl call.to) second short call.is in
-      let lead : LeadsTo Frame source 0 (call_item call.to ∷ place_item labs.x labs.y ∷ []) b.at = subst (λ (i : Item). LeadsTo Frame source 0 (call_item call.to ∷ i ∷ []) b.at) first (subst (λ (i : Item). LeadsTo Frame source 0 (i ∷ l ∷ []) b.at) last lead_there) in
+      let lead : LeadsTo Frame source 0 (call_item call.to ∷ place_item labs.x labs.y ∷ []) b.at =
+          subst (λ (i : Item). LeadsTo Frame source 0 (call_item call.to ∷ i ∷ []) b.at) first
+          (subst (λ (i : Item). LeadsTo Frame source 0 (i ∷ l ∷ []) b.at) last lead_there) in
       let end : b.at ≡ 3 = sym (some_same 3 b.at lead.2) in
       let format : b.format ≡ Short = format_there source b.at b.format Halt b.halts in
       record {
@@ -253,10 +284,13 @@ module _ (p : ColumnParts (pos 256)) (words : List ℕ) (b : Belongs (rom_for Bo
   is_column =
       let l = row.1.item in
       let c = row.2.1.item in
-      labs_and_call l c (b.spelled.jumped ∙ row.2.2 ∙ row.2.1.one_more ∙ ap (λ (items : List Item). c ∷ items) (row.1.one_more ∙ ap (λ (items : List Item). l ∷ items) starts)) (labs_of l.instr row.1.taken)
+      labs_and_call l c (b.spelled.jumped ∙ row.2.2 ∙ row.2.1.one_more
+          ∙ ap (λ (items : List Item). c ∷ items) (row.1.one_more ∙ ap (λ (items : List Item). l ∷ items) starts))
+          (labs_of l.instr row.1.taken)
       (call_of (0x800 ∷ 0x802 ∷ []) c.instr (subst (λ (targets : List ℕ). TakesCall targets c.instr) p.targets.1 row.2.1.taken))
 
-every : (p : ColumnParts (pos 256)) (words : List ℕ) → Belongs (rom_for Board) (column_recipe p) words → IsGoodMember screen both 20000 (column_recipe p) 7 1 words
+every : (p : ColumnParts (pos 256)) (words : List ℕ) → Belongs (rom_for Board) (column_recipe p) words
+    → IsGoodMember screen both 20000 (column_recipe p) 7 1 words
 every p words b =
     let m = is_column p words b in
     let c = frame_context Board both in
@@ -274,4 +308,5 @@ whole = grind (arith, ints)
 
 pub column_accepted : (p : ColumnParts (pos 256)) → WorkedAcceptance (column_recipe p)
 column_accepted p =
-    record { member = edge_belongs p; accepted = every_means (rom_for Board) both screen 20000 (column_recipe p) 7 1 judged (inl whole) refl (every p) }
+    record { member = edge_belongs p; accepted =
+        every_means (rom_for Board) both screen 20000 (column_recipe p) 7 1 judged (inl whole) refl (every p) }

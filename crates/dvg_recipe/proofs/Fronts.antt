@@ -1,9 +1,12 @@
 -- Indices and the items before them.
-use Rattle.dvg_recipe.proofs.Common.{◌≡◌, ◌<◌, ◌≤◌, ◌∙◌, ℕ, zero, suc, List, [], ◌∷◌, length, take, get_or, reverse, reverse-append, take-suc, refl, sym, ap, subst, inl, inr, arith, common_steps}
+use Rattle.dvg_recipe.proofs.Common.{◌≡◌, ◌<◌, ◌≤◌, ◌∙◌, ℕ, zero, suc, List, [], ◌∷◌, length, take, get_or, reverse, reverse-append,
+    take-suc, refl, sym, ap, subst, inl, inr, arith, common_steps}
 use Rattle.dvg_items.specs.declared.item.Item.{Item}
 use Rattle.dvg_recipe.specs.Private.KnownPlaces.{ItemsOver}
-use Rattle.dvg_recipe.specs.Recipes.{Piece, Part, Jump, Recipe, Row, Then', Either', Repeat', Arrives, AddsPiece, AddsRow, AddsJump, Times, Spells, SpellsJumps, BeginsAt, SpellsList}
-use Rattle.dvg_recipe.specs.Private.Indices.{Leads, PieceLeads, RowLeads, PartLeads, TimesOver, JumpLeads, JumpsLead, ListStarts, RecipeLeads}
+use Rattle.dvg_recipe.specs.Recipes.{Piece, Part, Jump, Recipe, Row, Then', Either', Repeat', Arrives, AddsPiece, AddsRow, AddsJump,
+    Times, Spells, SpellsJumps, BeginsAt, SpellsList}
+use Rattle.dvg_recipe.specs.Private.Indices.{Leads, PieceLeads, RowLeads, PartLeads, TimesOver, JumpLeads, JumpsLead, ListStarts,
+    RecipeLeads}
 
 cons_same : (x y : Item) (xs ys : List Item) → x ∷ xs ≡ y ∷ ys → (x ≡ y) × (xs ≡ ys)
 cons_same x y xs ys is = grind (arith)
@@ -39,13 +42,16 @@ module _ (over : ItemsOver) where
   -- ---- from indices to items
 
   piece_there : (piece : Piece) (i j : ℕ) → PieceLeads piece over i j → AddsPiece piece over.rom (front i) (front j)
-  piece_there piece i j h = record { item = h.item; one_more = ap front h.next ∙ front_next i h.item h.within ∙ ap (λ (x : Item). x ∷ front i) h.there; taken = h.taken; arrives = h.arrives }
+  piece_there piece i j h = record
+      { item = h.item; one_more = ap front h.next ∙ front_next i h.item h.within ∙ ap (λ (x : Item). x ∷ front i) h.there; taken =
+      h.taken; arrives = h.arrives }
 
   row_there : (row : List Piece) (i j : ℕ) → RowLeads row over i j → AddsRow row over.rom (front i) (front j)
   row_there [] i j h = ap front h
   row_there (piece ∷ row) i j (k, first, rest) = (front k, piece_there piece i k first, row_there row k j rest)
 
-  times_there : (n : ℕ) (R : Leads) (Adds : List Item → List Item → Type 0) → ((i j : ℕ) → R i j → Adds (front i) (front j)) → (i j : ℕ) → TimesOver n R i j → Times n Adds (front i) (front j)
+  times_there : (n : ℕ) (R : Leads) (Adds : List Item → List Item → Type 0) → ((i j : ℕ) → R i j → Adds (front i) (front j)) → (i j : ℕ)
+      → TimesOver n R i j → Times n Adds (front i) (front j)
   times_there zero R Adds f i j h = ap front h
   times_there (suc n) R Adds f i j (k, first, rest) = (front k, f i k first, times_there n R Adds f k j rest)
 
@@ -54,14 +60,17 @@ module _ (over : ItemsOver) where
   part_there (Then' p a q b) i j (k, first, rest) = (front k, part_there a i k first, part_there b k j rest)
   part_there (Either' p a q b) i j (inl h) = inl (part_there a i j h)
   part_there (Either' p a q b) i j (inr h) = inr (part_there b i j h)
-  part_there (Repeat' least most p body) i j (n, low, few, h) = (n, low, few, times_there n (PartLeads body over) (Spells body over.rom) (part_there body) i j h)
+  part_there (Repeat' least most p body) i j (n, low, few, h) =
+      (n, low, few, times_there n (PartLeads body over) (Spells body over.rom) (part_there body) i j h)
 
   jump_there : (to : ℕ) (i j : ℕ) → JumpLeads to over i j → AddsJump to (front i) (front j)
-  jump_there to i j h = record { item = h.item; one_more = ap front h.next ∙ front_next i h.item h.within ∙ ap (λ (x : Item). x ∷ front i) h.there; jumps = h.jumps }
+  jump_there to i j h = record { item = h.item; one_more =
+      ap front h.next ∙ front_next i h.item h.within ∙ ap (λ (x : Item). x ∷ front i) h.there; jumps = h.jumps }
 
   jumps_there : (jumps : List Jump) (i j : ℕ) → JumpsLead jumps over i j → SpellsJumps jumps over.rom (front i) (front j)
   jumps_there [] i j h = ap front h
-  jumps_there (jump ∷ jumps) i j (k, first, (l, part, rest)) = (front k, front l, jump_there jump.area.first i k first, part_there jump.body k l part, jumps_there jumps l j rest)
+  jumps_there (jump ∷ jumps) i j (k, first, (l, part, rest)) =
+      (front k, front l, jump_there jump.area.first i k first, part_there jump.body k l part, jumps_there jumps l j rest)
 
   starts_there : (first j : ℕ) → ListStarts first over j → BeginsAt first (front j)
   starts_there zero j h = ap front h
@@ -71,7 +80,8 @@ module _ (over : ItemsOver) where
   recipe_there recipe j h =
       let s = h.starts in
       let b = h.spelled in
-      record { area = s.area; listed = s.listed; start = front h.start; begins = starts_there s.area.first h.start s.starts; between = front b.0; spelled = part_there recipe.body h.start b.0 b.1; jumped = jumps_there recipe.jumps b.0 j b.2 }
+      record { area = s.area; listed = s.listed; start = front h.start; begins = starts_there s.area.first h.start s.starts; between =
+          front b.0; spelled = part_there recipe.body h.start b.0 b.1; jumped = jumps_there recipe.jumps b.0 j b.2 }
 
   -- ---- from items to indices
 
@@ -82,12 +92,16 @@ module _ (over : ItemsOver) where
     is : before ≡ front i
     leads : R i j
 
-  piece_back : (piece : Piece) (before after : List Item) (j : ℕ) → j ≤ length items → after ≡ front j → AddsPiece piece over.rom before after → From (PieceLeads piece over) before j
+  piece_back : (piece : Piece) (before after : List Item) (j : ℕ) → j ≤ length items → after ≡ front j
+      → AddsPiece piece over.rom before after → From (PieceLeads piece over) before j
   piece_back piece before after j le is h =
       let b = one_back h.item before j le (sym h.one_more ∙ is) in
-      record { i = b.i; le = omega (arith, b.less); is = b.is; leads = record { item = h.item; within = b.less; there = b.there; taken = h.taken; arrives = subst (Arrives over.rom piece.kind) is h.arrives; next = b.next } }
+      record { i = b.i; le = omega (arith, b.less); is = b.is; leads =
+          record { item = h.item; within = b.less; there = b.there; taken = h.taken; arrives =
+          subst (Arrives over.rom piece.kind) is h.arrives; next = b.next } }
 
-  row_back : (row : List Piece) (before after : List Item) (j : ℕ) → j ≤ length items → after ≡ front j → AddsRow row over.rom before after → From (RowLeads row over) before j
+  row_back : (row : List Piece) (before after : List Item) (j : ℕ) → j ≤ length items → after ≡ front j
+      → AddsRow row over.rom before after → From (RowLeads row over) before j
   row_back [] before after j le is h = record { i = j; le = le; is = sym h ∙ is; leads = refl }
   row_back (piece ∷ row) before after j le is (between, first, rest) =
       let r = row_back row between after j le is rest in
@@ -105,13 +119,16 @@ module _ (over : ItemsOver) where
       record { i = b.i; le = b.le; is = b.is; leads = (r.i, b.leads, r.leads) }
 
   part_back : (part : Part) → Back (PartLeads part over) (Spells part over.rom)
-  part_back (Row row) before after j le is h = let r = row_back row.items before after j le is h in record { i = r.i; le = r.le; is = r.is; leads = r.leads }
+  part_back (Row row) before after j le is h = let r =
+      row_back row.items before after j le is h in record { i = r.i; le = r.le; is = r.is; leads = r.leads }
   part_back (Then' p a q b) before after j le is (between, first, rest) =
       let r = part_back b between after j le is rest in
       let f = part_back a before between r.i r.le r.is first in
       record { i = f.i; le = f.le; is = f.is; leads = (r.i, f.leads, r.leads) }
-  part_back (Either' p a q b) before after j le is (inl h) = let r = part_back a before after j le is h in record { i = r.i; le = r.le; is = r.is; leads = inl r.leads }
-  part_back (Either' p a q b) before after j le is (inr h) = let r = part_back b before after j le is h in record { i = r.i; le = r.le; is = r.is; leads = inr r.leads }
+  part_back (Either' p a q b) before after j le is (inl h) = let r =
+      part_back a before after j le is h in record { i = r.i; le = r.le; is = r.is; leads = inl r.leads }
+  part_back (Either' p a q b) before after j le is (inr h) = let r =
+      part_back b before after j le is h in record { i = r.i; le = r.le; is = r.is; leads = inr r.leads }
   part_back (Repeat' least most p body) before after j le is (n, low, few, h) =
       let r = times_back n (PartLeads body over) (Spells body over.rom) (part_back body) before after j le is h in
       record { i = r.i; le = r.le; is = r.is; leads = (n, low, few, r.leads) }
@@ -119,7 +136,8 @@ module _ (over : ItemsOver) where
   jump_back : (to : ℕ) → Back (JumpLeads to over) (AddsJump to)
   jump_back to before after j le is h =
       let b = one_back h.item before j le (sym h.one_more ∙ is) in
-      record { i = b.i; le = omega (arith, b.less); is = b.is; leads = record { item = h.item; within = b.less; there = b.there; jumps = h.jumps; next = b.next } }
+      record { i = b.i; le = omega (arith, b.less); is = b.is; leads =
+          record { item = h.item; within = b.less; there = b.there; jumps = h.jumps; next = b.next } }
 
   jumps_back : (jumps : List Jump) → Back (JumpsLead jumps over) (SpellsJumps jumps over.rom)
   jumps_back [] before after j le is h = record { i = j; le = le; is = sym h ∙ is; leads = refl }
@@ -132,14 +150,18 @@ module _ (over : ItemsOver) where
   none_before : (i : ℕ) → i ≤ length items → [] ≡ front i → i ≡ 0
   none_before i le is = sym (length_front i le) ∙ ap (λ (l : List Item). length l) (sym is)
 
-  starts_back : (first : ℕ) (start : List Item) (i : ℕ) → i ≤ length items → start ≡ front i → BeginsAt first start → ListStarts first over i
+  starts_back : (first : ℕ) (start : List Item) (i : ℕ) → i ≤ length items → start ≡ front i → BeginsAt first start
+      → ListStarts first over i
   starts_back zero start i le is h = none_before i le (sym h ∙ is)
   starts_back (suc n) start i le is h =
       let b = jump_back (suc n) [] start i le is h in
       subst (λ m. JumpLeads (suc n) over m i) (none_before b.i b.le b.is) b.leads
 
-  pub recipe_back : (recipe : Recipe) (after : List Item) (j : ℕ) → j ≤ length items → after ≡ front j → SpellsList over.rom recipe after → RecipeLeads recipe over j
+  pub recipe_back : (recipe : Recipe) (after : List Item) (j : ℕ) → j ≤ length items → after ≡ front j → SpellsList over.rom recipe after
+      → RecipeLeads recipe over j
   recipe_back recipe after j le is h =
       let r = jumps_back recipe.jumps h.between after j le is h.jumped in
       let s = part_back recipe.body h.start h.between r.i r.le r.is h.spelled in
-      record { start = s.i; starts = record { area = h.area; listed = h.listed; starts = starts_back h.area.first h.start s.i s.le s.is h.begins }; spelled = (r.i, s.leads, r.leads) }
+      record { start = s.i; starts =
+          record { area = h.area; listed = h.listed; starts = starts_back h.area.first h.start s.i s.le s.is h.begins }; spelled =
+          (r.i, s.leads, r.leads) }

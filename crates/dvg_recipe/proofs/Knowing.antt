@@ -1,5 +1,7 @@
 -- By made entries just one thing is known behind the items of a frame.
-use Rattle.dvg_recipe.proofs.Common.{◌≡◌, ◌<◌, ◌≤◌, ◌+◌, ◌++◌, ◌∙◌, ℕ, zero, suc, List, [], ◌∷◌, Option, Some, None, length, take, get_or, reverse, reverse-append, take-suc, take_all, refl, sym, ap, subst, ⊎_elim, cases_lt, arith, nat_tests, Contains, Contains-append_cases}
+use Rattle.dvg_recipe.proofs.Common.{◌≡◌, ◌<◌, ◌≤◌, ◌+◌, ◌++◌, ◌∙◌, ℕ, zero, suc, List, [], ◌∷◌, Option, Some, None, length, take,
+    get_or, reverse, reverse-append, take-suc, take_all, refl, sym, ap, subst, ⊎_elim, cases_lt, arith, nat_tests, Contains,
+    Contains-append_cases}
 use Rattle.dvg_check.proofs.Common.{Entry, Key, Item, Known, Frame, target}
 use Rattle.dvg_words.specs.Memory.{Rom}
 use Rattle.dvg_words.specs.declared.machine.Machine.TheVariants.{Board}
@@ -28,7 +30,8 @@ pub known_once : (rom : Rom) (items : List Item) (k l : Known) → ComesTo rom i
 known_once rom [] k l h t = h ∙ sym t
 known_once rom (i ∷ earlier) k l (a, named, came, names, past) (b, other, came_too, names_too, past_too) =
     let same : a ≡ b = known_once rom earlier a b came came_too in
-    let one : named ≡ other = named_once rom (target Frame i.instr) b.scale named other (subst (λ (x : Known). Names rom (target Frame i.instr) x.scale named) same names) names_too in
+    let one : named ≡ other = named_once rom (target Frame i.instr) b.scale named other
+        (subst (λ (x : Known). Names rom (target Frame i.instr) x.scale named) same names) names_too in
     past ∙ ap (λ (x : Known). known_past Board i named x) same ∙ ap (λ (o : Option Entry). known_past Board i o b) one ∙ sym past_too
 
 -- ---- the items of a frame
@@ -41,10 +44,12 @@ only_item x y (zero, lt, is) = is
 only_item x y (suc k, lt, is) = absurd (omega (arith, lt))
 
 -- one item more
-pub frames_push : (items more : List Item) (item : Item) → more ≡ items ++ item ∷ [] → AreFramesItems items → length items < ADDRESS_END → InstrFits item.instr → AreFramesItems more
+pub frames_push : (items more : List Item) (item : Item) → more ≡ items ++ item ∷ [] → AreFramesItems items → length items < ADDRESS_END
+    → InstrFits item.instr → AreFramesItems more
 frames_push items more item is h few fits = record {
   few = omega (arith, ap (λ (l : List Item). length l) is, length_push items item, few);
-  fits = λ i there. ⊎_elim (h.fits i) (λ last. subst (λ (x : Item). InstrFits x.instr) (only_item item i last) fits) (Contains-append_cases items (item ∷ []) i (subst (λ (l : List Item). Contains l i) is there));
+  fits = λ i there. ⊎_elim (h.fits i) (λ last. subst (λ (x : Item). InstrFits x.instr) (only_item item i last) fits)
+      (Contains-append_cases items (item ∷ []) i (subst (λ (l : List Item). Contains l i) is there));
 }
 
 -- ---- what is known behind one item after another
@@ -56,10 +61,12 @@ pub record IsKnownSoFar (rom : Rom) (items : List Item) (n : ℕ) (known : List 
   pub comes : ComesTo rom (reverse (take n items)) here
   pub sound : IsSoundCursor (record { at = n; known = here })
 
-pub known_first : (rom : Rom) (items : List Item) (known : List Known) (here : Known) → known ≡ here ∷ [] → ComesTo rom [] here → IsSoundCursor (record { at = 0; known = here }) → IsKnownSoFar rom items 0 known here
+pub known_first : (rom : Rom) (items : List Item) (known : List Known) (here : Known) → known ≡ here ∷ [] → ComesTo rom [] here
+    → IsSoundCursor (record { at = 0; known = here }) → IsKnownSoFar rom items 0 known here
 known_first rom items known here is comes sound = record {
   count = ap (λ (l : List Known). length l) is;
-  to = record { each = λ i d lt. subst (λ (l : List Known). ComesTo rom (reverse (take i items)) (get_or l i d)) (sym is) (first i d (subst (λ (l : List Known). i < length l) is lt)) };
+  to = record { each = λ i d lt. subst (λ (l : List Known). ComesTo rom (reverse (take i items)) (get_or l i d)) (sym is)
+      (first i d (subst (λ (l : List Known). i < length l) is lt)) };
   comes = comes;
   sound = sound;
 }
@@ -68,24 +75,30 @@ known_first rom items known here is comes sound = record {
     first zero d lt = comes
     first (suc i) d lt = absurd (omega (arith, lt))
 
-module _ (rom : Rom) (items : List Item) (n m : ℕ) (d : Item) (known more : List Known) (here next : Known) (is : m ≡ suc n) (lt : n < length items) (h : IsKnownSoFar rom items n known here) (grown : more ≡ known ++ next ∷ [])
+module _ (rom : Rom) (items : List Item) (n m : ℕ) (d : Item) (known more : List Known) (here next : Known) (is : m ≡ suc n)
+    (lt : n < length items) (h : IsKnownSoFar rom items n known here) (grown : more ≡ known ++ next ∷ [])
     (past : (earlier : List Item) → ComesTo rom earlier here → ComesTo rom (get_or items n d ∷ earlier) next) where
   one_on : ComesTo rom (reverse (take m items)) next
   one_on =
       subst (λ k. ComesTo rom (reverse (take k items)) next) (sym is)
-      (subst (λ (l : List Item). ComesTo rom l next) (sym (ap (λ (l : List Item). reverse l) (take-suc items n d lt) ∙ reverse-append (take n items) (get_or items n d ∷ []))) (past (reverse (take n items)) h.comes))
+      (subst (λ (l : List Item). ComesTo rom l next)
+          (sym (ap (λ (l : List Item). reverse l) (take-suc items n d lt) ∙ reverse-append (take n items) (get_or items n d ∷ [])))
+          (past (reverse (take n items)) h.comes))
 
   each_on : (i : ℕ) (e : Known) → i < length (known ++ next ∷ []) → ComesTo rom (reverse (take i items)) (get_or (known ++ next ∷ []) i e)
   each_on i e less = ⊎_elim
-      (λ old. subst (λ (k : Known). ComesTo rom (reverse (take i items)) k) (sym (get_or_append_left known (next ∷ []) e i old)) (h.to.each i e old))
+      (λ old. subst (λ (k : Known). ComesTo rom (reverse (take i items)) k) (sym (get_or_append_left known (next ∷ []) e i old))
+          (h.to.each i e old))
       (λ new. let same : m ≡ i = omega (arith, is, new, less, length_push known next, h.count) in
-      subst (λ (k : Known). ComesTo rom (reverse (take i items)) k) (sym (get_or_push known next e i (omega (arith, is, same, h.count)))) (subst (λ k. ComesTo rom (reverse (take k items)) next) same one_on))
+      subst (λ (k : Known). ComesTo rom (reverse (take i items)) k) (sym (get_or_push known next e i (omega (arith, is, same, h.count))))
+          (subst (λ k. ComesTo rom (reverse (take k items)) next) same one_on))
       (cases_lt i (length known))
 
   pub known_next : IsSoundCursor (record { at = m; known = next }) → IsKnownSoFar rom items m more next
   known_next sound = record {
     count = ap (λ (l : List Known). length l) grown ∙ length_push known next ∙ omega (arith, is, h.count);
-    to = record { each = λ i e less. subst (λ (l : List Known). ComesTo rom (reverse (take i items)) (get_or l i e)) (sym grown) (each_on i e (subst (λ (l : List Known). i < length l) grown less)) };
+    to = record { each = λ i e less. subst (λ (l : List Known). ComesTo rom (reverse (take i items)) (get_or l i e)) (sym grown)
+        (each_on i e (subst (λ (l : List Known). i < length l) grown less)) };
     comes = one_on;
     sound = sound;
   }

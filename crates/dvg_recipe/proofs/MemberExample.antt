@@ -1,5 +1,6 @@
 -- The worked recipe of all kinds of pieces: the frame that belongs, item by item, and why the others don't.
-use Rattle.dvg_recipe.proofs.Common.{◌≡◌, ◌≤◌, ◌+◌, ◌∙◌, ℕ, zero, suc, List, [], ◌∷◌, length, refl, sym, ap, subst, inl, inr, ⊎_elim, arith, cases_lt, Contains, LeadsTo}
+use Rattle.dvg_recipe.proofs.Common.{◌≡◌, ◌≤◌, ◌+◌, ◌∙◌, ℕ, zero, suc, List, [], ◌∷◌, length, refl, sym, ap, subst, inl, inr, ⊎_elim,
+    arith, cases_lt, Contains, LeadsTo}
 use Rattle.dvg_check.proofs.Common.{ints, pos, negsuc, Item, Board, Short, Long, Holds, Halt, Labs, Jsrl, Draws, Frame, frame_word, Source}
 unfoldable use Rattle.dvg_check.proofs.Common.{cell_at, instruction_of}
 use Rattle.dvg_items.proofs.Leading.{same_lead, too_long}
@@ -7,20 +8,24 @@ use Rattle.dvg_recipe.specs.Recipes.{Recipe, Area, Piece, Row, Either', AddsRow,
 use Rattle.dvg_words.specs.Memory.{Rom}
 use Rattle.dvg_recipe.specs.Private.KnownPlaces.{ItemsOver}
 use Rattle.dvg_recipe.specs.Private.Indices.{Leads, PieceLeads, RowLeads, PartLeads, TimesOver, ListStarts, RecipeLeads}
-use Rattle.dvg_recipe.specs.Examples.{VecOf, call_piece, place_piece, stroke_piece, dot_piece, ExampleParts, example_recipe, member_words, member_items, past_place_words, third_turn_words, WorkedMembers}
+use Rattle.dvg_recipe.specs.Examples.{VecOf, call_piece, place_piece, stroke_piece, dot_piece, ExampleParts, example_recipe,
+    member_words, member_items, past_place_words, third_turn_words, WorkedMembers}
 use Rattle.dvg_recipe.proofs.Fronts.{recipe_back}
 
 -- ---- the items of a frame
 
 -- items that lead to a HALT are those by which the frame belongs to a recipe
-pub one_way : (words : List ℕ) (items : List Item) (at : ℕ) → LeadsTo Frame (frame_word Board words) 0 items at → cell_at (frame_word Board words) at ≡ Holds Short Halt → (rom : Rom) (recipe : Recipe) → (b : Belongs rom recipe words) → b.items ≡ items
+pub one_way : (words : List ℕ) (items : List Item) (at : ℕ) → LeadsTo Frame (frame_word Board words) 0 items at
+    → cell_at (frame_word Board words) at ≡ Holds Short Halt → (rom : Rom) (recipe : Recipe) → (b : Belongs rom recipe words)
+    → b.items ≡ items
 one_way words items at leads halts rom recipe b =
     let source : Source = frame_word Board words in
     let theirs : Item = record { at = b.at; format = b.format; instr = Halt } in
     let ours : Item = record { at = at; format = Short; instr = Halt } in
     ⊎_elim (λ less. absurd (too_long Frame source 0 b.items theirs b.leads b.halts refl items at leads less))
     (λ le. ⊎_elim (λ more. absurd (too_long Frame source 0 items ours leads halts refl b.items b.at b.leads more))
-    (λ ge. (same_lead Frame source 0 b.items items b.at at b.leads leads (omega (arith, le, ge))).items) (cases_lt (length items) (length b.items)))
+    (λ ge. (same_lead Frame source 0 b.items items b.at at b.leads leads (omega (arith, le, ge))).items)
+        (cases_lt (length items) (length b.items)))
     (cases_lt (length b.items) (length items))
 
 -- ---- the frame that belongs
@@ -48,7 +53,8 @@ member_halts = refl
 
 place_taken : Takes place_piece.kind Long (Labs 100 0xFF8 2)
 place_taken =
-    (record { low = omega (arith, ints); high = omega (arith, ints) }, record { low = omega (arith, ints); high = omega (arith, ints) }, refl)
+    (record { low = omega (arith, ints); high = omega (arith, ints) }, record { low = omega (arith, ints); high = omega (arith, ints) },
+        refl)
 
 stroke_taken : Takes stroke_piece.kind stroke_item.format stroke_item.instr
 stroke_taken = (
@@ -66,7 +72,8 @@ unfolding instruction_of
 dot_taken = refl
 
 -- a vector of pieces adds what they add
-pub row_of : (pieces : List Piece) (v : VecOf pieces) (rom : Rom) (before after : List Item) → AddsRow pieces rom before after → Spells (Row v.0) rom before after
+pub row_of : (pieces : List Piece) (v : VecOf pieces) (rom : Rom) (before after : List Item) → AddsRow pieces rom before after
+    → Spells (Row v.0) rom before after
 row_of pieces v rom before after h = subst (λ (l : List Piece). AddsRow l rom before after) (sym v.1) h
 
 module _ (rom : Rom) (p : ExampleParts) where
@@ -83,11 +90,13 @@ module _ (rom : Rom) (p : ExampleParts) where
 
   stroke_spelled : (before : List Item) → Spells (Row p.stroke.0) rom before (stroke_item ∷ before)
   stroke_spelled before =
-      row_of (stroke_piece ∷ []) p.stroke rom before (stroke_item ∷ before) (stroke_item ∷ before, record { item = stroke_item; one_more = refl; taken = stroke_taken; arrives = tt }, refl)
+      row_of (stroke_piece ∷ []) p.stroke rom before (stroke_item ∷ before)
+          (stroke_item ∷ before, record { item = stroke_item; one_more = refl; taken = stroke_taken; arrives = tt }, refl)
 
   dot_spelled : (before : List Item) → Spells (Row p.dot.0) rom before (dot_item 5 ∷ before)
   dot_spelled before =
-      row_of (dot_piece ∷ []) p.dot rom before (dot_item 5 ∷ before) (dot_item 5 ∷ before, record { item = dot_item 5; one_more = refl; taken = dot_taken; arrives = tt }, refl)
+      row_of (dot_piece ∷ []) p.dot rom before (dot_item 5 ∷ before)
+          (dot_item 5 ∷ before, record { item = dot_item 5; one_more = refl; taken = dot_taken; arrives = tt }, refl)
 
   belongs : Belongs rom (example_recipe p) member_words
   belongs =
@@ -105,7 +114,9 @@ module _ (rom : Rom) (p : ExampleParts) where
           start = [];
           begins = refl;
           between = member_items;
-          spelled = (two, start_spelled, (2, omega arith, omega arith, (stroke_item ∷ two, inl (stroke_spelled two), (member_items, inr (dot_spelled (stroke_item ∷ two)), refl))));
+          spelled = (two, start_spelled,
+              (2, omega arith, omega arith, (stroke_item ∷ two, inl (stroke_spelled two),
+              (member_items, inr (dot_spelled (stroke_item ∷ two)), refl))));
           jumped = refl;
         };
       }
@@ -118,9 +129,11 @@ only_area a b (zero, lt, is) = is
 only_area a b (suc k, lt, is) = absurd (omega (arith, lt))
 
 -- a list of a recipe whose one area is at 000 begins with the frame's first item
-pub starts_at : (recipe : Recipe) (area : Area) (items : ItemsOver) (j : ℕ) → recipe.lists ≡ area ∷ [] → area.first ≡ 0 → (h : RecipeLeads recipe items j) → h.start ≡ 0
+pub starts_at : (recipe : Recipe) (area : Area) (items : ItemsOver) (j : ℕ) → recipe.lists ≡ area ∷ [] → area.first ≡ 0
+    → (h : RecipeLeads recipe items j) → h.start ≡ 0
 starts_at recipe area items j one first h =
-    let same : area ≡ h.starts.area = only_area area h.starts.area (subst (λ (l : List Area). Contains l h.starts.area) one h.starts.listed) in
+    let same : area ≡ h.starts.area =
+        only_area area h.starts.area (subst (λ (l : List Area). Contains l h.starts.area) one h.starts.listed) in
     subst (λ n. ListStarts n items h.start) (sym (ap (λ (a : Area). a.first) same) ∙ first) h.starts.starts
 
 module _ (p : ExampleParts) (items : ItemsOver) where
@@ -163,7 +176,8 @@ past_place_halts : cell_at (frame_word Board past_place_words) 3 ≡ Holds Short
 unfolding cell_at instruction_of
 past_place_halts = refl
 
-third_turn_leads : LeadsTo Frame (frame_word Board third_turn_words) 0 (dot_item 5 ∷ dot_item 4 ∷ dot_item 3 ∷ call_item ∷ place_item 0xFF8 ∷ []) 6
+third_turn_leads : LeadsTo Frame (frame_word Board third_turn_words) 0
+    (dot_item 5 ∷ dot_item 4 ∷ dot_item 3 ∷ call_item ∷ place_item 0xFF8 ∷ []) 6
 unfolding cell_at instruction_of
 third_turn_leads = (((((refl, refl, refl), refl, refl), refl, refl), refl, refl), refl, refl)
 
@@ -175,7 +189,8 @@ module _ (rom : Rom) (p : ExampleParts) where
   past_place : Belongs rom (example_recipe p) past_place_words → ⊥
   past_place b =
       let items : ItemsOver = record { rom = rom; items = place_item 0xFF7 ∷ call_item ∷ [] } in
-      let same = one_way past_place_words (call_item ∷ place_item 0xFF7 ∷ []) 3 past_place_leads past_place_halts rom (example_recipe p) b in
+      let same = one_way past_place_words (call_item ∷ place_item 0xFF7 ∷ []) 3 past_place_leads past_place_halts rom (example_recipe p)
+          b in
       let placed = (is_short p items 2 (recipe_back items (example_recipe p) b.items 2 (omega arith) same b.spelled)).placed in
       let taken = subst (λ (i : Item). Takes place_piece.kind i.format i.instr) (sym placed.there) placed.taken in
       omega (arith, ints, taken.1.low)
@@ -183,7 +198,8 @@ module _ (rom : Rom) (p : ExampleParts) where
   third_turn : Belongs rom (example_recipe p) third_turn_words → ⊥
   third_turn b =
       let items : ItemsOver = record { rom = rom; items = place_item 0xFF8 ∷ call_item ∷ dot_item 3 ∷ dot_item 4 ∷ dot_item 5 ∷ [] } in
-      let same = one_way third_turn_words (dot_item 5 ∷ dot_item 4 ∷ dot_item 3 ∷ call_item ∷ place_item 0xFF8 ∷ []) 6 third_turn_leads third_turn_halts rom (example_recipe p) b in
+      let same = one_way third_turn_words (dot_item 5 ∷ dot_item 4 ∷ dot_item 3 ∷ call_item ∷ place_item 0xFF8 ∷ []) 6 third_turn_leads
+          third_turn_halts rom (example_recipe p) b in
       omega (arith, (is_short p items 5 (recipe_back items (example_recipe p) b.items 5 (omega arith) same b.spelled)).few)
 
 -- ---- all

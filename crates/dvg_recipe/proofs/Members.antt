@@ -1,6 +1,7 @@
 -- Every frame of a recipe is good where its items lead to good fronts.
 use Rattle.dvg_recipe.proofs.Common.{◌≡◌, ◌≤◌, ◌+◌, ◌∙◌, ℕ, List, Contains, refl, sym, subst, ap, arith}
-use Rattle.dvg_check.proofs.Common.{Window, Entry, Item, Halt, Holds, Cell, Format, Short, FrameKeeps, CellKeeps, GoodFrame, Frame, frame_word, frame_context, Context, seen_at, Source}
+use Rattle.dvg_check.proofs.Common.{Window, Entry, Item, Halt, Holds, Cell, Format, Short, FrameKeeps, CellKeeps, GoodFrame, Frame,
+    frame_word, frame_context, Context, seen_at, Source}
 unfoldable use Rattle.dvg_check.proofs.Common.{cell_at}
 use Rattle.std.proofs.Common.{Result, Ok}
 use Rattle.dvg_items.specs.Known.{known_before}
@@ -25,11 +26,14 @@ use Rattle.dvg_items.specs.Bounds.{IsSomeCertificate}
 use Rattle.dvg_recipe.proofs.Past.{format_there}
 use Rattle.dvg_recipe.proofs.Judging.{extends_part, extends_jumps}
 
-halt_keeps : (w : Window) (budget : ℕ) (list : List Entry) (words : List ℕ) (earlier : List Item) (at : ℕ) → 1 + (known_before (frame_context Board list) earlier).words ≤ budget → (why : FrameWhy) → FrameKeeps w budget (seen_at (frame_context Board list) earlier (record { at = at; format = Short; instr = Halt })) why
+halt_keeps : (w : Window) (budget : ℕ) (list : List Entry) (words : List ℕ) (earlier : List Item) (at : ℕ)
+    → 1 + (known_before (frame_context Board list) earlier).words ≤ budget → (why : FrameWhy)
+    → FrameKeeps w budget (seen_at (frame_context Board list) earlier (record { at = at; format = Short; instr = Halt })) why
 halt_keeps w budget list words earlier at le why = grind (arith)
 
 -- all items of a recipe's lists are good fronts where each of its parts leads to good fronts
-pub every_front : (w : Window) (list : List Entry) (budget : ℕ) (recipe : Recipe) (start between ends : List Hull) → AreListStarts w list budget recipe.lists start → Carries w list budget (Spells recipe.body) start between
+pub every_front : (w : Window) (list : List Entry) (budget : ℕ) (recipe : Recipe) (start between ends : List Hull)
+    → AreListStarts w list budget recipe.lists start → Carries w list budget (Spells recipe.body) start between
     → Carries w list budget (SpellsJumps recipe.jumps) between ends → AreGoodMembers w list budget recipe ends
 every_front w list budget recipe start between ends lists body jumps = record {
   each = λ rom made words items s all.
@@ -54,7 +58,9 @@ module _ (w : Window) (list : List Entry) (budget : ℕ) (recipe : Recipe) (word
     pub member : IsGoodMember frame
     pub are : member.good.items ≡ items
 
-  pub every_list : (rom : Rom) → AllMade rom list → (ends : List Hull) → AreGoodMembers w list budget recipe ends → ((h : Hull) → Contains ends h → IsCounted words depth h) → words ≤ budget → (frame : List ℕ) → (b : Belongs rom recipe frame) → IsCountedList frame b.items
+  pub every_list : (rom : Rom) → AllMade rom list → (ends : List Hull) → AreGoodMembers w list budget recipe ends
+      → ((h : Hull) → Contains ends h → IsCounted words depth h) → words ≤ budget → (frame : List ℕ) → (b : Belongs rom recipe frame)
+      → IsCountedList frame b.items
   every_list rom made ends members last within frame b =
       let c : Context = frame_context Board list in
       let source : Source = frame_word Board frame in
@@ -65,7 +71,9 @@ module _ (w : Window) (list : List Entry) (budget : ℕ) (recipe : Recipe) (word
       let halts : cell_at source b.at ≡ Holds Short Halt = b.halts ∙ ap (λ (f : Format). Holds f Halt) short in
       let i : Item = record { at = b.at; format = Short; instr = Halt } in
       let rules = halt_keeps w budget list frame b.items b.at (omega (arith, inside.words, end.count, within)) in
-      let kept : (why : FrameWhy) → FramePlaceKeeps w Board frame list budget b.items b.at why = λ why. subst (λ (cell : Cell). CellKeeps rule.Unmapped rule.Odd (λ j. FrameKeeps w budget (seen_at c b.items j)) b.at cell why) (sym halts) (rules why) in
+      let kept : (why : FrameWhy) → FramePlaceKeeps w Board frame list budget b.items b.at why =
+          λ why. subst (λ (cell : Cell). CellKeeps rule.Unmapped rule.Odd (λ j. FrameKeeps w budget (seen_at c b.items j)) b.at cell why)
+          (sym halts) (rules why) in
       record {
         member = record {
           n = 1 + (known_before c b.items).words;
@@ -73,7 +81,8 @@ module _ (w : Window) (list : List Entry) (budget : ℕ) (recipe : Recipe) (word
           few = omega (arith, inside.words, end.count);
           shallow = omega (arith, inside.depth, end.shallow);
           good = record {
-            keeps = everywhere Frame source 0 (λ earlier p. (why : FrameWhy) → FramePlaceKeeps w Board frame list budget earlier p why) b.items i b.leads halts refl (g2.kept, kept);
+            keeps = everywhere Frame source 0 (λ earlier p. (why : FrameWhy) → FramePlaceKeeps w Board frame list budget earlier p why)
+                b.items i b.leads halts refl (g2.kept, kept);
             items = b.items;
             at = b.at;
             format = Short;
@@ -86,12 +95,16 @@ module _ (w : Window) (list : List Entry) (budget : ℕ) (recipe : Recipe) (word
         are = refl;
       }
 
-  pub every_good : (rom : Rom) → AllMade rom list → (ends : List Hull) → AreGoodMembers w list budget recipe ends → ((h : Hull) → Contains ends h → IsCounted words depth h) → words ≤ budget → (frame : List ℕ) → Belongs rom recipe frame → IsGoodMember frame
+  pub every_good : (rom : Rom) → AllMade rom list → (ends : List Hull) → AreGoodMembers w list budget recipe ends
+      → ((h : Hull) → Contains ends h → IsCounted words depth h) → words ≤ budget → (frame : List ℕ) → Belongs rom recipe frame
+      → IsGoodMember frame
   every_good rom made ends members last within frame b = (every_list rom made ends members last within frame b).member
 
 -- so the frames of a recipe are good over good shapes
-pub good_frames : (rom : Rom) (list : List Entry) (w : Window) (budget : ℕ) (recipe : Recipe) (words depth : ℕ) → IsSomeCertificate list → Good Exact w rom list
-    → ((frame : List ℕ) (b : Belongs rom recipe frame) → IsCountedList w list budget recipe words depth frame b.items) → AreGoodFrames rom recipe w list budget
+pub good_frames : (rom : Rom) (list : List Entry) (w : Window) (budget : ℕ) (recipe : Recipe) (words depth : ℕ) → IsSomeCertificate list
+    → Good Exact w rom list
+    → ((frame : List ℕ) (b : Belongs rom recipe frame) → IsCountedList w list budget recipe words depth frame b.items)
+    → AreGoodFrames rom recipe w list budget
 good_frames rom list w budget recipe words depth certificate shapes each = record {
   certificate = certificate;
   shapes = shapes;
@@ -99,10 +112,12 @@ good_frames rom list w budget recipe words depth certificate shapes each = recor
 }
 
 -- so each of them is all that a yes means
-pub every_means : (rom : Rom) (list : List Entry) (w : Window) (budget : ℕ) (recipe : Recipe) (words depth : ℕ) → IsJudged (record { rom = rom; list = list; window = w; mode = Exact }) → IsWindowOrZone w → rom.machine ≡ Board
+pub every_means : (rom : Rom) (list : List Entry) (w : Window) (budget : ℕ) (recipe : Recipe) (words depth : ℕ)
+    → IsJudged (record { rom = rom; list = list; window = w; mode = Exact }) → IsWindowOrZone w → rom.machine ≡ Board
     → ((frame : List ℕ) → Belongs rom recipe frame → IsGoodMember w list budget recipe words depth frame) → AllMean rom recipe w words depth
 every_means rom list w budget recipe words depth judged fits board each frame b =
     let t = each frame b in
     let yes : Accepted = record { words = t.n; depth = t.d } in
     let ok : Result Accepted (Unit {0}) = Ok yes in
-    (t.n, t.d, t.few, t.shallow, accepted (record { rom = rom; list = list; window = w; mode = Exact }) frame budget ok judged b.frame fits (subst (λ m. GoodFrame w m frame list budget t.n t.d) (sym board) t.good))
+    (t.n, t.d, t.few, t.shallow, accepted (record { rom = rom; list = list; window = w; mode = Exact }) frame budget ok judged b.frame
+        fits (subst (λ m. GoodFrame w m frame list budget t.n t.d) (sym board) t.good))

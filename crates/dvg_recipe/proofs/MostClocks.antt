@@ -18,4 +18,5 @@ next_scale F n m is new h s lt = ⊎_elim (h s) (λ last. let same : n ≡ s = o
 
 -- a scale at which there is a most is below the number of scales
 pub scale_below : (at : List (Option ClockRange)) (m s : ℕ) (n : ClockRange) → length at ≤ m → IsUnder n (get_or at s None) → s < m
-scale_below at m s n few under = ⊎_elim (λ less. less) (λ past. absurd (subst (IsUnder n) (get_or-eq_default at None (omega (arith, few, past))) under)) (cases_lt s m)
+scale_below at m s n few under =
+    ⊎_elim (λ less. less) (λ past. absurd (subst (IsUnder n) (get_or-eq_default at None (omega (arith, few, past))) under)) (cases_lt s m)

@@ -1,5 +1,7 @@
 -- Sets of hulls.
-use Rattle.dvg_recipe.proofs.Common.{◌≡◌, ◌<◌, ◌+◌, ◌⊎◌, ◌∙◌, ℕ, suc, zero, List, [], ◌∷◌, ◌++◌, Option, Some, length, take, get_or, take-suc, take_all, refl, sym, subst, ap, inl, inr, ⊎_elim, arith, cases_lt, Contains, Contains-append_cases, Contains-append_left, Contains-append_right, Contains-get_or}
+use Rattle.dvg_recipe.proofs.Common.{◌≡◌, ◌<◌, ◌+◌, ◌⊎◌, ◌∙◌, ℕ, suc, zero, List, [], ◌∷◌, ◌++◌, Option, Some, length, take, get_or,
+    take-suc, take_all, refl, sym, subst, ap, inl, inr, ⊎_elim, arith, cases_lt, Contains, Contains-append_cases, Contains-append_left,
+    Contains-append_right, Contains-get_or}
 use Rattle.std.proofs.lemmas.List.{length-set, get_or-set_same, get_or-set_other}
 use Rattle.std.proofs.Common.{set, ◌≤◌, slice_index_or, Vec, Global, option_to_list}
 use Rattle.dvg_check.proofs.Common.{Known, ◌≢◌}
@@ -24,10 +26,13 @@ none_covered k c = absurd (omega (arith, c.listed.1))
 
 -- all hulls are sound, one more with them
 pub sound_push : (xs : List Hull) (x : Hull) → AreSoundHulls xs → IsSoundHull x → AreSoundHulls (xs ++ x ∷ [])
-sound_push xs x h new = record { each = λ s there. ⊎_elim (h.each s) (λ alone. subst IsSoundHull (listed_alone x s alone) new) (Contains-append_cases xs (x ∷ []) s there) }
+sound_push xs x h new = record
+    { each = λ s there. ⊎_elim (h.each s) (λ alone. subst IsSoundHull (listed_alone x s alone) new)
+    (Contains-append_cases xs (x ∷ []) s there) }
 
 same_or_not : (k i : ℕ) → (k ≡ i) ⊎ (k ≢ i)
-same_or_not k i = ⊎_elim (λ h. inr (λ e. omega (arith, h, e))) (λ h. ⊎_elim (λ le. inr (λ e. omega (arith, le, e))) (λ ge. inl (omega (arith, h, ge))) (cases_lt i k)) (cases_lt k i)
+same_or_not k i = ⊎_elim (λ h. inr (λ e. omega (arith, h, e)))
+    (λ h. ⊎_elim (λ le. inr (λ e. omega (arith, le, e))) (λ ge. inl (omega (arith, h, ge))) (cases_lt i k)) (cases_lt k i)
 
 module _ (xs : List Hull) (i : ℕ) (x : Hull) (lt : i < length xs) where
   same_length : length (set xs i x) ≡ length xs
@@ -48,28 +53,37 @@ module _ (xs : List Hull) (i : ℕ) (x : Hull) (lt : i < length xs) where
   set_sound h new = record { each = λ t there. ⊎_elim (h.each t) (λ is. subst IsSoundHull (sym is) new) (set_listed t there) }
 
   pub set_added : (h : Hull) → ((k : Known) → IsInHull h k → IsInHull x k) → AreUnder (h ∷ []) (set xs i x)
-  set_added h wider = record { each = λ k c. record { hull = x; listed = set_has; inside = wider k (subst (λ (y : Hull). IsInHull y k) (sym (listed_alone h c.hull c.listed)) c.inside) } }
+  set_added h wider = record { each =
+      λ k c. record { hull = x; listed = set_has; inside =
+      wider k (subst (λ (y : Hull). IsInHull y k) (sym (listed_alone h c.hull c.listed)) c.inside) } }
 
   pub set_kept : ((d : Hull) (k : Known) → IsInHull (get_or xs i d) k → IsInHull x k) → AreUnder xs (set xs i x)
   set_kept wider = record { each = λ k c. kept k c.hull c.inside c.listed }
     where
       kept : (k : Known) (t : Hull) → IsInHull t k → Contains xs t → Covers (set xs i x) k
       kept k t inside (n, less, is) =
-          ⊎_elim (λ same. record { hull = x; listed = set_has; inside = wider t k (subst (λ (y : Hull). IsInHull y k) (sym is ∙ ap (λ m. get_or xs m t) same) inside) })
-          (λ other. record { hull = t; listed = (n, omega (arith, less, same_length), get_or-set_other xs i n x t other ∙ is); inside = inside }) (same_or_not n i)
+          ⊎_elim (λ same. record { hull = x; listed = set_has; inside =
+              wider t k (subst (λ (y : Hull). IsInHull y k) (sym is ∙ ap (λ m. get_or xs m t) same) inside) })
+          (λ other. record { hull = t; listed = (n, omega (arith, less, same_length), get_or-set_other xs i n x t other ∙ is); inside =
+              inside }) (same_or_not n i)
 
 pub push_kept : (xs : List Hull) (x : Hull) → AreUnder xs (xs ++ x ∷ [])
-push_kept xs x = record { each = λ k c. record { hull = c.hull; listed = Contains-append_left xs (x ∷ []) c.hull c.listed; inside = c.inside } }
+push_kept xs x = record { each =
+    λ k c. record { hull = c.hull; listed = Contains-append_left xs (x ∷ []) c.hull c.listed; inside = c.inside } }
 
 pub push_added : (xs : List Hull) (x : Hull) → AreUnder (x ∷ []) (xs ++ x ∷ [])
-push_added xs x = record { each = λ k c. record { hull = c.hull; listed = Contains-append_right xs (x ∷ []) c.hull c.listed; inside = c.inside } }
+push_added xs x = record { each =
+    λ k c. record { hull = c.hull; listed = Contains-append_right xs (x ∷ []) c.hull c.listed; inside = c.inside } }
 
 -- ---- one hull after another
 
-pub under_next : (xs zs : List Hull) (i n : ℕ) (d : Hull) → n ≡ suc i → i < length xs → AreUnder (take i xs) zs → AreUnder (get_or xs i d ∷ []) zs → AreUnder (take n xs) zs
+pub under_next : (xs zs : List Hull) (i n : ℕ) (d : Hull) → n ≡ suc i → i < length xs → AreUnder (take i xs) zs
+    → AreUnder (get_or xs i d ∷ []) zs → AreUnder (take n xs) zs
 under_next xs zs i n d is lt h new = record {
-  each = λ k c. ⊎_elim (λ old. h.each k (record { hull = c.hull; listed = old; inside = c.inside })) (λ alone. new.each k (record { hull = c.hull; listed = alone; inside = c.inside }))
-      (Contains-append_cases (take i xs) (get_or xs i d ∷ []) c.hull (subst (λ (l : List Hull). Contains l c.hull) (take-suc xs i d lt) (subst (λ m. Contains (take m xs) c.hull) is c.listed)));
+  each = λ k c. ⊎_elim (λ old. h.each k (record { hull = c.hull; listed = old; inside = c.inside }))
+      (λ alone. new.each k (record { hull = c.hull; listed = alone; inside = c.inside }))
+      (Contains-append_cases (take i xs) (get_or xs i d ∷ []) c.hull
+          (subst (λ (l : List Hull). Contains l c.hull) (take-suc xs i d lt) (subst (λ m. Contains (take m xs) c.hull) is c.listed)));
 }
 
 pub under_whole : (xs zs : List Hull) (i : ℕ) → length xs ≤ i → AreUnder (take i xs) zs → AreUnder xs zs
@@ -82,7 +96,8 @@ under_none xs zs = record { each = λ k c. absurd (none_covered k c) }
 
 module _ (xs : List Hull) (i : ℕ) (x y h : Hull) (lt : i < length xs) (at : (d : Hull) → get_or xs i d ≡ y) (is : x ≡ joined y h) where
   pub join_kept : AreUnder xs (set xs i x)
-  join_kept = set_kept xs i x lt (λ d k inside. subst (λ (z : Hull). IsInHull z k) (sym is) (hull_one y h k (subst (λ (z : Hull). IsInHull z k) (at d) inside)))
+  join_kept = set_kept xs i x lt
+      (λ d k inside. subst (λ (z : Hull). IsInHull z k) (sym is) (hull_one y h k (subst (λ (z : Hull). IsInHull z k) (at d) inside)))
 
   pub join_added : y.scale ≡ h.scale → AreUnder (h ∷ []) (set xs i x)
   join_added same = set_added xs i x lt h (λ k inside. subst (λ (z : Hull). IsInHull z k) (sym is) (hull_other y h k same inside))
@@ -108,19 +123,26 @@ only_front : (x y : Vec Hull Global) → Contains (x ∷ []) y → x ≡ y
 only_front x y (zero, lt, is) = is
 only_front x y (suc k, lt, is) = absurd (omega (arith, lt))
 
-pub fronts_push : (fronts : List (Vec Hull Global)) (here : Vec Hull Global) → AreSoundFronts fronts → AreSoundHulls here.items → AreSoundFronts (fronts ++ here ∷ [])
+pub fronts_push : (fronts : List (Vec Hull Global)) (here : Vec Hull Global) → AreSoundFronts fronts → AreSoundHulls here.items
+    → AreSoundFronts (fronts ++ here ∷ [])
 fronts_push fronts here h new = record {
-  each = λ x there. ⊎_elim (h.each x) (λ alone. subst (λ (y : Vec Hull Global). AreSoundHulls y.items) (only_front here x alone) new) (Contains-append_cases fronts (here ∷ []) x there);
+  each = λ x there. ⊎_elim (h.each x) (λ alone. subst (λ (y : Vec Hull Global). AreSoundHulls y.items) (only_front here x alone) new)
+      (Contains-append_cases fronts (here ∷ []) x there);
 }
 
 -- by the clause of `pop` on the items
-pub fronts_rest : (fronts rest : List (Vec Hull Global)) (last : Option (Vec Hull Global)) → fronts ≡ rest ++ option_to_list last → AreSoundFronts fronts → AreSoundFronts rest
-fronts_rest fronts rest last is h = record { each = λ x there. h.each x (subst (λ (l : List (Vec Hull Global)). Contains l x) (sym is) (Contains-append_left rest (option_to_list last) x there)) }
+pub fronts_rest : (fronts rest : List (Vec Hull Global)) (last : Option (Vec Hull Global)) → fronts ≡ rest ++ option_to_list last
+    → AreSoundFronts fronts → AreSoundFronts rest
+fronts_rest fronts rest last is h =
+    record { each = λ x there. h.each x
+    (subst (λ (l : List (Vec Hull Global)). Contains l x) (sym is) (Contains-append_left rest (option_to_list last) x there)) }
 
-pub fronts_last : (fronts rest : List (Vec Hull Global)) (last : Option (Vec Hull Global)) (here : Vec Hull Global) → fronts ≡ rest ++ option_to_list last → last ≡ Some here → AreSoundFronts fronts → AreSoundHulls here.items
+pub fronts_last : (fronts rest : List (Vec Hull Global)) (last : Option (Vec Hull Global)) (here : Vec Hull Global)
+    → fronts ≡ rest ++ option_to_list last → last ≡ Some here → AreSoundFronts fronts → AreSoundHulls here.items
 fronts_last fronts rest last here is some h =
     let there : Contains (rest ++ here ∷ []) here = Contains-append_right rest (here ∷ []) here (zero, omega arith, refl) in
-    h.each here (subst (λ (l : List (Vec Hull Global)). Contains l here) (sym (is ∙ ap (λ (o : Option (Vec Hull Global)). rest ++ option_to_list o) some)) there)
+    h.each here (subst (λ (l : List (Vec Hull Global)). Contains l here)
+        (sym (is ∙ ap (λ (o : Option (Vec Hull Global)). rest ++ option_to_list o) some)) there)
 
 -- ---- pieces and jumps within their limits
 

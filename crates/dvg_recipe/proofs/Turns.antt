@@ -11,7 +11,8 @@ module _ (R : Leads) where
   times_split : (n m l : ℕ) (i j : ℕ) → l ≡ n + m → TimesOver l R i j → Both (TimesOver n R) (TimesOver m R) i j
   times_split zero m l i j is h = (i, refl, subst (λ x. TimesOver x R i j) (omega (arith, is)) h)
   times_split (suc n) m zero i j is h = absurd (omega (arith, is))
-  times_split (suc n) m (suc l) i j is (k, first, rest) = let r = times_split n m l k j (omega (arith, is)) rest in (r.0, (k, first, r.1), r.2)
+  times_split (suc n) m (suc l) i j is (k, first, rest) = let r =
+      times_split n m l k j (omega (arith, is)) rest in (r.0, (k, first, r.1), r.2)
 
   times_sum : (n m l : ℕ) (i j : ℕ) → l ≡ n + m → Both (TimesOver n R) (TimesOver m R) i j → TimesOver l R i j
   times_sum zero m l i j is (k, same, rest) = subst (λ x. TimesOver x R i j) (omega (arith, is)) (subst (λ x. TimesOver m R x j) same rest)
@@ -23,10 +24,13 @@ module _ (R : Leads) where
   times_last (suc n) i j (k, first, rest) = let r = times_last n k j rest in (r.0, (k, first, r.1), r.2)
 
   pub turn_next : (n m : ℕ) (xs ys zs : List ℕ) → m ≡ suc n → IsPast (TimesOver n R) xs ys → IsPast R ys zs → IsPast (TimesOver m R) xs zs
-  turn_next n m xs ys zs is h k = subst (λ l. IsPast (TimesOver l R) xs zs) (sym is) (past_as _ (TimesOver (suc n) R) xs zs (times_join n) (times_last n) (past_both (TimesOver n R) R xs ys zs h k))
+  turn_next n m xs ys zs is h k =
+      subst (λ l. IsPast (TimesOver l R) xs zs) (sym is)
+      (past_as _ (TimesOver (suc n) R) xs zs (times_join n) (times_last n) (past_both (TimesOver n R) R xs ys zs h k))
 
   -- where a turn leads from a set to itself, all further turns do
-  pub turns_same : (n least most : ℕ) (xs here after : List ℕ) → n ≤ least → least ≤ most → IsPast (TimesOver n R) xs here → IsPast R here after → after ≡ here → IsPast (Turns least most R) xs after
+  pub turns_same : (n least most : ℕ) (xs here after : List ℕ) → n ≤ least → least ≤ most → IsPast (TimesOver n R) xs here
+      → IsPast R here after → after ≡ here → IsPast (Turns least most R) xs after
   turns_same n least most xs here after few some h k is = record {
     each = λ j. (
       λ there. let r = ((same_from least few).each j).0 there in (r.0, r.1, (least, omega arith, some, r.2)),
@@ -46,15 +50,20 @@ module _ (R : Leads) where
           past_as (Both (TimesOver n R) (TimesOver (m - n) R)) (TimesOver m R) xs after
           (λ i j b. times_sum n (m - n) m i j (omega (arith, le)) b)
           (λ i j t. times_split n (m - n) m i j (omega (arith, le)) t)
-          (past_both (TimesOver n R) (TimesOver (m - n) R) xs here after h (past_to (TimesOver (m - n) R) here here after (sym is) (same_over (m - n))))
+          (past_both (TimesOver n R) (TimesOver (m - n) R) xs here after h
+              (past_to (TimesOver (m - n) R) here here after (sym is) (same_over (m - n))))
 
-  pub turns_first : (least : ℕ) (xs ys others : List ℕ) → ys ≡ others → IsPast (TimesOver least R) xs ys → IsPast (Turns least least R) xs others
-  turns_first least xs ys others is h = past_to (Turns least least R) xs ys others is (past_as (TimesOver least R) (Turns least least R) xs ys (λ i j times. (least, omega arith, omega arith, times)) just h)
+  pub turns_first : (least : ℕ) (xs ys others : List ℕ) → ys ≡ others → IsPast (TimesOver least R) xs ys
+      → IsPast (Turns least least R) xs others
+  turns_first least xs ys others is h =
+      past_to (Turns least least R) xs ys others is
+      (past_as (TimesOver least R) (Turns least least R) xs ys (λ i j times. (least, omega arith, omega arith, times)) just h)
     where
       just : (i j : ℕ) → Turns least least R i j → TimesOver least R i j
       just i j (n, low, high, times) = subst (λ m. TimesOver m R i j) (omega (arith, low, high)) times
 
-  module _ (least n m : ℕ) (xs next here : List ℕ) (is : m ≡ suc n) (low : least ≤ n) (h : IsPast (Turns least n R) xs next) (k : IsPast (TimesOver m R) xs here) where
+  module _ (least n m : ℕ) (xs next here : List ℕ) (is : m ≡ suc n) (low : least ≤ n) (h : IsPast (Turns least n R) xs next)
+      (k : IsPast (TimesOver m R) xs here) where
     pub turns_more : (more : List ℕ) → IsJoined next here more → IsPast (Turns least m R) xs more
     turns_more more join = record {
       each = λ j. (
@@ -77,7 +86,8 @@ module _ (R : Leads) where
           let longer : TimesOver (suc t.2.0) R t.0 j = times_join t.2.0 t.0 j (i, t.2.3, leads) in
           ⊎_elim
           (λ less. (h.each j).1 (t.0, t.1, (suc t.2.0, omega (arith, t.2.1), omega (arith, less), longer)))
-          (λ last. let at : suc t.2.0 ≡ m = omega (arith, is, last, t.2.2) in known j ((k.each j).1 (t.0, t.1, subst (λ l. TimesOver l R t.0 j) at longer)))
+          (λ last. let at : suc t.2.0 ≡ m = omega (arith, is, last, t.2.2) in
+              known j ((k.each j).1 (t.0, t.1, subst (λ l. TimesOver l R t.0 j) at longer)))
           (cases_lt t.2.0 n)
 
       closed_over : (l : ℕ) (i j : ℕ) → Contains next i → TimesOver l R i j → Contains next j

@@ -30,21 +30,27 @@ module _ {R : Type 0} (remaining : R → Option (List ℕ)) (failures : R → �
   module _ (recipes : List (NamedRecipe R)) (old mid : Option (List ℕ)) (writes writes_mid : ℕ) (worst : FrameOutcome)
       (h : RecipesSoFar recipes old mid writes writes_mid worst) where
     pub more_recipes : (recipe : NamedRecipe R) (new : Option (List ℕ)) (writes_after : ℕ) (end both : FrameOutcome)
-        → (answer : RecipeAnswer × Behind) × WritesLine (IsLineOfRecipe remaining failures rom asked detail) of_recipes recipe mid new writes_mid writes_after answer end
+        → (answer : RecipeAnswer × Behind)
+            × WritesLine (IsLineOfRecipe remaining failures rom asked detail) of_recipes recipe mid new writes_mid writes_after answer end
         → both ≡ worse worst end → RecipesSoFar (recipes ++ recipe ∷ []) old new writes writes_after both
     more_recipes recipe new writes_after end both one is =
-        more_lines (IsLineOfRecipe remaining failures rom asked detail) of_recipes no_count recipes old mid tt writes writes_mid worst h recipe one.0 new tt writes_after end both one.1 is refl
+        more_lines (IsLineOfRecipe remaining failures rom asked detail) of_recipes no_count recipes old mid tt writes writes_mid worst h
+            recipe one.0 new tt writes_after end both one.1 is refl
 
-    pub cut_recipes : (recipe : NamedRecipe R) (new : Option (List ℕ)) → WritesLinePrefix (IsLineOfRecipe remaining failures rom asked detail) of_recipes recipe mid new
+    pub cut_recipes : (recipe : NamedRecipe R) (new : Option (List ℕ))
+        → WritesLinePrefix (IsLineOfRecipe remaining failures rom asked detail) of_recipes recipe mid new
         → ReportsPrefix (IsLineOfRecipe remaining failures rom asked detail) of_recipes (recipes ++ recipe ∷ []) old new
-    cut_recipes = cut_lines (IsLineOfRecipe remaining failures rom asked detail) of_recipes no_count recipes old mid tt writes writes_mid worst h
+    cut_recipes = cut_lines (IsLineOfRecipe remaining failures rom asked detail) of_recipes no_count recipes old mid tt writes writes_mid
+        worst h
 
     pub all_recipes : Reports (IsLineOfRecipe remaining failures rom asked detail) of_recipes recipes old mid writes writes_mid worst
-    all_recipes = with_last (IsLineOfRecipe remaining failures rom asked detail) of_recipes no_count recipes old mid tt writes writes_mid worst h [] refl mid writes_mid (Appends-nil mid) refl
+    all_recipes = with_last (IsLineOfRecipe remaining failures rom asked detail) of_recipes no_count recipes old mid tt writes writes_mid
+        worst h [] refl mid writes_mid (Appends-nil mid) refl
 
   -- one recipe alone
   pub one_recipe : (recipe : NamedRecipe R) (old new : Option (List ℕ)) (writes writes_after : ℕ) (end : FrameOutcome)
-      → (answer : RecipeAnswer × Behind) × WritesLine (IsLineOfRecipe remaining failures rom asked detail) of_recipes recipe old new writes writes_after answer end
+      → (answer : RecipeAnswer × Behind)
+          × WritesLine (IsLineOfRecipe remaining failures rom asked detail) of_recipes recipe old new writes writes_after answer end
       → Reports (IsLineOfRecipe remaining failures rom asked detail) of_recipes (recipe ∷ []) old new writes writes_after end
   one_recipe recipe old new writes writes_after end one =
       record {

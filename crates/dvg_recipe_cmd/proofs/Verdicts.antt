@@ -51,7 +51,8 @@ pub told_read : (image : Rom) (recipe : Recipe) (options : RecipeOptions) (clock
 told_read image recipe options clocks timed line_clocks.Told is of = (is, of)
 told_read image recipe options clocks timed line_clocks.LeftOut is of = (timed, sym (ap (λ l. told_yes l timed) is), of)
 
-module _ (rom : List ℕ) (options : RecipeOptions) (image : Rom) (recipe : Recipe) (is : image ≡ rom_on Board options.map rom) (long : IsRomLength options.map (length rom)) (budget : options.budget ≤ MOST_WORDS) where
+module _ (rom : List ℕ) (options : RecipeOptions) (image : Rom) (recipe : Recipe) (is : image ≡ rom_on Board options.map rom)
+    (long : IsRomLength options.map (length rom)) (budget : options.budget ≤ MOST_WORDS) where
   timed_yes : (timing : Timing) (timed : TimedRecipeYes) → IsTimedOf image recipe options timing timed → IsTimedYes rom options timing timed
   timed_yes timing timed of =
       record {
@@ -66,7 +67,8 @@ module _ (rom : List ℕ) (options : RecipeOptions) (image : Rom) (recipe : Reci
         within = of.within;
       }
 
-  pub timed_answer : (clocks : ClockOptions) (a : RecipeAnswer) → IsTimedRead image recipe options clocks a → IsTimedAnswer rom options clocks a
+  pub timed_answer : (clocks : ClockOptions) (a : RecipeAnswer) → IsTimedRead image recipe options clocks a
+      → IsTimedAnswer rom options clocks a
   timed_answer clocks (answer.Judged (Ok counts)) (timed, told, of) = (timed, told, timed_yes clocks.timing timed of)
   timed_answer clocks (answer.Judged (Err refusal)) h = is_verdict rom options image recipe (Err refusal) is long budget tt tt h
   timed_answer clocks (answer.Timed timed) (told, of) = (told, timed_yes clocks.timing timed of)
@@ -85,7 +87,8 @@ module _ (rom : List ℕ) (options : RecipeOptions) where
   not_unread clocks (answer.Slow at) h = refl
   not_unread clocks answer.NoMemory h = refl
 
-  pub says : (clocks : Option ClockOptions) (old new : Option (List ℕ)) (a : RecipeAnswer) → (text : List ℕ) × ReadsRecipe old new text → IsAnswer rom options clocks a → SaysOf rom options clocks old new a
+  pub says : (clocks : Option ClockOptions) (old new : Option (List ℕ)) (a : RecipeAnswer) → (text : List ℕ) × ReadsRecipe old new text
+      → IsAnswer rom options clocks a → SaysOf rom options clocks old new a
   says clocks old new (answer.Judged verdict) read h = (read, h)
   says clocks old new (answer.Timed timed) read h = (read, h)
   says clocks old new (answer.Slow at) read h = (read, h)

@@ -1,5 +1,6 @@
 -- How the text of milliseconds is cut at its point, and that it spells one number.
-use Rattle.dvg_spelling.proofs.Common.{◌≡◌, ◌≢◌, ℕ, ◌<◌, ◌≤◌, List, [], ◌∷◌, ◌++◌, length, get_or, Option, None, Some, Bor, refl, sym, ap, arith, ◌∙◌, decimal}
+use Rattle.dvg_spelling.proofs.Common.{◌≡◌, ◌≢◌, ℕ, ◌<◌, ◌≤◌, List, [], ◌∷◌, ◌++◌, length, get_or, Option, None, Some, Bor, refl, sym,
+    ap, arith, ◌∙◌, decimal}
 use Rattle.std.specs.Prelude.{◌⊎◌, ◌*◌, ◌+◌, MatchOption}
 use Rattle.std.proofs.Common.{inl, inr, length-append, subst}
 use Rattle.std.proofs.Math.Seq.{get_or-append_seam}
@@ -30,12 +31,15 @@ module _ (text : List ℕ) (r : Cut) (cut : IsSplitOnceResult 46 text r) where
 
   pub none_whole : r ≡ None → ((n : ℕ) → n ≤ 10000 → text ≡ decimal n → ⊥) → (value : ℕ) → IsThousandths text value → ⊥
   none_whole is none value (inl h) = none h.0 h.1.0 h.1.1
-  none_whole is none value (inr h) = subst (λ (o : Cut). MatchOption o ⊥ (λ x. (x.0.now ≡ decimal h.whole) × (x.1.now ≡ h.digits))) is (parts (value, h))
+  none_whole is none value (inr h) =
+      subst (λ (o : Cut). MatchOption o ⊥ (λ x. (x.0.now ≡ decimal h.whole) × (x.1.now ≡ h.digits))) is (parts (value, h))
 
   module _ (x : Bor (List ℕ) × Bor (List ℕ)) (is : r ≡ Some x) where
     with_point : (n : ℕ) → IsWhole text n → ⊥
     with_point n h =
-        let k = subst (λ (o : Cut). MatchOption o ((i : ℕ) → i < length text → get_or text i 0 ≢ 46) (λ y. (text ≡ y.0.now ++ (46 ∷ y.1.now)) × ((i : ℕ) → i < length y.0.now → get_or y.0.now i 0 ≢ 46))) is (split_parts 46 text r cut (omega arith)) in
+        let k = subst (λ (o : Cut). MatchOption o ((i : ℕ) → i < length text → get_or text i 0 ≢ 46)
+            (λ y. (text ≡ y.0.now ++ (46 ∷ y.1.now)) × ((i : ℕ) → i < length y.0.now → get_or y.0.now i 0 ≢ 46))) is
+            (split_parts 46 text r cut (omega arith)) in
         pointed x.0.now x.1.now text k.0 n h
 
     its_parts : (value : ℕ) (h : HasPoint text value) → (x.0.now ≡ decimal h.whole) × (x.1.now ≡ h.digits)
@@ -58,11 +62,13 @@ one_fraction (a ∷ b ∷ c ∷ []) f g h k = h.3 ∙ sym k.3
 one_fraction digits f g h k = absurd (grind (arith))
 
 pub one_value : (text : List ℕ) (a b : ℕ) → IsThousandths text a → IsThousandths text b → a ≡ b
-one_value text a b (inl h) (inl k) = h.2 ∙ ap (λ n. 1000 * n) (same_decimal h.0 k.0 (omega (arith, h.1.0)) (omega (arith, k.1.0)) (sym h.1.1 ∙ k.1.1)) ∙ sym k.2
+one_value text a b (inl h) (inl k) =
+    h.2 ∙ ap (λ n. 1000 * n) (same_decimal h.0 k.0 (omega (arith, h.1.0)) (omega (arith, k.1.0)) (sym h.1.1 ∙ k.1.1)) ∙ sym k.2
 one_value text a b (inl h) (inr k) = absurd (pointed (decimal k.whole) k.digits text k.text_is h.0 h.1)
 one_value text a b (inr h) (inl k) = absurd (pointed (decimal h.whole) h.digits text h.text_is k.0 k.1)
 one_value text a b (inr h) (inr k) =
-    let t = same_number h.whole k.whole text (46 ∷ h.digits) (46 ∷ k.digits) (omega (arith, h.few)) (omega (arith, k.few)) (λ d. omega (arith, d)) (λ d. omega (arith, d)) h.text_is k.text_is in
+    let t = same_number h.whole k.whole text (46 ∷ h.digits) (46 ∷ k.digits) (omega (arith, h.few)) (omega (arith, k.few))
+        (λ d. omega (arith, d)) (λ d. omega (arith, d)) h.text_is k.text_is in
     let rest : 46 ∷ h.digits ≡ 46 ∷ k.digits = t.1 in
     let digits : h.digits ≡ k.digits = cc in
     let fraction = one_fraction k.digits h.fraction k.fraction (subst (λ l. IsFraction l h.fraction) digits h.fraction_is) k.fraction_is in

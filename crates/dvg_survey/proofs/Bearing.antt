@@ -1,5 +1,8 @@
 -- Which call of a shape bears out its entry's depth, and calls that do one below another.
-use Rattle.dvg_survey.proofs.Common.{◌≡◌, ℕ, suc, ◌+◌, ◌-◌, ◌<◌, ◌≤◌, List, [], ◌∷◌, ◌++◌, Some, refl, sym, ap, ◌∙◌, subst, arith, AllByRecursion, Rom, rom_word, cell_at, Entry, Cursor, Item, Shape, Seen, IsClaim, IsCertificate, MemoryMap, Contains, Context, callee, scale_before, shape_context, target, listed_claim, all_append, Call, call_of, calls_among, IsShapeCall, IsSeenAt, append_assoc, append-nil, depth_under, named_listed, IsSoundStep, Step, step_past}
+use Rattle.dvg_survey.proofs.Common.{◌≡◌, ℕ, suc, ◌+◌, ◌-◌, ◌<◌, ◌≤◌, List, [], ◌∷◌, ◌++◌, Some, refl, sym, ap, ◌∙◌, subst, arith,
+    AllByRecursion, Rom, rom_word, cell_at, Entry, Cursor, Item, Shape, Seen, IsClaim, IsCertificate, MemoryMap, Contains, Context,
+    callee, scale_before, shape_context, target, listed_claim, all_append, Call, call_of, calls_among, IsShapeCall, IsSeenAt,
+    append_assoc, append-nil, depth_under, named_listed, IsSoundStep, Step, step_past}
 use Rattle.dvg_survey.specs.Deepest.{BearsNot, FirstBears, GoDeepest}
 use Rattle.dvg_survey.proofs.Coming.{is_among}
 use Rattle.dvg_survey.proofs.Walking.{Walked, HoldsOfAll, Past, past, seen_is, here_leads, here_stands}
@@ -14,23 +17,32 @@ module _ (rom : Rom) (list : List Entry) (e : Entry) where
   abbrev pub NoneBears : List Item → Type 0
   NoneBears items = AllByRecursion (BearsNot rom list e) (calls_among here_in items)
 
-  module _ (here : Cursor) (w : Walked here_in (rom_word rom) e.addr NoneBears here) (v : Seen) (s : IsSeenAt rom.machine list Shape (rom_word rom) here v) where
+  module _ (here : Cursor) (w : Walked here_in (rom_word rom) e.addr NoneBears here) (v : Seen)
+      (s : IsSeenAt rom.machine list Shape (rom_word rom) here v) where
     -- the call of the next item does
-    pub first_bears : 0 < e.depth → (call : Call) → call.at ≡ v.item.at → v.callee ≡ Some call.entry → depth_under v.item.instr (Some call.entry) ≡ e.depth → FirstBears rom list e call
+    pub first_bears : 0 < e.depth → (call : Call) → call.at ≡ v.item.at → v.callee ≡ Some call.entry
+        → depth_under v.item.instr (Some call.entry) ≡ e.depth → FirstBears rom list e call
     first_bears some call at named depth =
         let seen = seen_is here_in (rom_word rom) e.addr NoneBears here w v s in
-        let calls : IsShapeCall rom list e call = record { earlier = w.items; item = v.item; leads = here_leads here_in (rom_word rom) e.addr NoneBears here w v s; stands = here_stands here_in (rom_word rom) e.addr NoneBears here w v s; at = at; callee_is = sym (ap (λ (x : Seen). x.callee) seen) ∙ named } in
+        let calls : IsShapeCall rom list e call =
+            record { earlier = w.items; item = v.item; leads = here_leads here_in (rom_word rom) e.addr NoneBears here w v s; stands =
+            here_stands here_in (rom_word rom) e.addr NoneBears here w v s; at = at; callee_is =
+            sym (ap (λ (x : Seen). x.callee) seen) ∙ named } in
         (record { calls = calls; some = some; depth = depth }, w.holds)
 
     -- or it does not
     none_on : ((f : Entry) → v.callee ≡ Some f → depth_under v.item.instr (Some f) ≡ e.depth → ⊥) → NoneBears (v.item ∷ w.items)
-    none_on not = grind (arith, all_append, calls_among, call_of, callee, cell_at, rom_word, (seen_is here_in (rom_word rom) e.addr NoneBears here w v s))
+    none_on not = grind (arith, all_append, calls_among, call_of, callee, cell_at, rom_word,
+        (seen_is here_in (rom_word rom) e.addr NoneBears here w v s))
 
-    pub none_past : (step : Step) → step ≡ step_past Shape v → IsSoundStep step → ((f : Entry) → v.callee ≡ Some f → depth_under v.item.instr (Some f) ≡ e.depth → ⊥) → Past here_in (rom_word rom) e.addr NoneBears step
+    pub none_past : (step : Step) → step ≡ step_past Shape v → IsSoundStep step
+        → ((f : Entry) → v.callee ≡ Some f → depth_under v.item.instr (Some f) ≡ e.depth → ⊥)
+        → Past here_in (rom_word rom) e.addr NoneBears step
     none_past step goes sound not = past here_in (rom_word rom) e.addr NoneBears here w v s NoneBears step goes sound (none_on not)
 
   pub none_bears : HoldsOfAll here_in (rom_word rom) e.addr NoneBears → (call : Call) → BearsNot rom list e call
-  none_bears (all, are, none) call b = is_among here_in (rom_word rom) e.addr (BearsNot rom list e) call b.calls (calls_among here_in all) (all, are, refl) none b
+  none_bears (all, are, none) call b =
+      is_among here_in (rom_word rom) e.addr (BearsNot rom list e) call b.calls (calls_among here_in all) (all, are, refl) none b
 
 -- ---- one shape below another
 
@@ -38,23 +50,31 @@ module _ (rom : Rom) (list : List Entry) (e : Entry) (most : ℕ) where
   -- these calls lead down from the entry to the last one, and what goes on from there goes on from the entry
   pub record Down (calls : List Call) (last : Entry) (count : ℕ) : Type 0 where
     pub claim : IsClaim last
-    pub goes : (left : ℕ) (rest : List Call) → left + count ≡ most → GoDeepest left rom list last rest → GoDeepest most rom list e (calls ++ rest)
+    pub goes : (left : ℕ) (rest : List Call) → left + count ≡ most → GoDeepest left rom list last rest
+        → GoDeepest most rom list e (calls ++ rest)
 
   pub starts_down : (map : MemoryMap) → IsCertificate map list → Contains list e → Down [] e 0
-  starts_down map some listed = record { claim = listed_claim list e (map, some) listed; goes = λ left rest all g. subst (λ (n : ℕ). GoDeepest n rom list e rest) (omega (arith, all)) g }
+  starts_down map some listed = record
+      { claim = listed_claim list e (map, some) listed; goes =
+      λ left rest all g. subst (λ (n : ℕ). GoDeepest n rom list e rest) (omega (arith, all)) g }
 
   module _ (calls : List Call) (last : Entry) (count : ℕ) (down : Down calls last count) where
-    pub one_down : (map : MemoryMap) (call : Call) (new : List Call) → IsCertificate map list → FirstBears rom list last call → new ≡ calls ++ call ∷ [] → Down new call.entry (count + 1)
+    pub one_down : (map : MemoryMap) (call : Call) (new : List Call) → IsCertificate map list → FirstBears rom list last call
+        → new ≡ calls ++ call ∷ [] → Down new call.entry (count + 1)
     one_down map call new some first is =
         let c = first.0.calls in
         subst (λ (cs : List Call). Down cs call.entry (count + 1)) (sym is)
         (record {
-          claim = listed_claim list call.entry (map, some) (named_listed list (target Shape c.item.instr) (scale_before (shape_context rom.machine list last) c.earlier) call.entry c.callee_is);
-          goes = λ left rest all g. subst (GoDeepest most rom list e) (sym (append_assoc calls (call ∷ []) rest)) (down.goes (suc left) (call ∷ rest) (omega (arith, all)) (first, g));
+          claim = listed_claim list call.entry (map, some)
+              (named_listed list (target Shape c.item.instr) (scale_before (shape_context rom.machine list last) c.earlier) call.entry
+              c.callee_is);
+          goes = λ left rest all g. subst (GoDeepest most rom list e) (sym (append_assoc calls (call ∷ []) rest))
+              (down.goes (suc left) (call ∷ rest) (omega (arith, all)) (first, g));
         })
 
     pub no_further : count < most → ((call : Call) → BearsNot rom list last call) → GoDeepest most rom list e calls
-    no_further lt none = subst (GoDeepest most rom list e) (append-nil calls) (down.goes (suc (most - suc count)) [] (omega (arith, lt)) none)
+    no_further lt none = subst (GoDeepest most rom list e) (append-nil calls)
+        (down.goes (suc (most - suc count)) [] (omega (arith, lt)) none)
 
     pub no_more : most ≤ count → count ≤ most → GoDeepest most rom list e calls
     no_more ge le = subst (GoDeepest most rom list e) (append-nil calls) (down.goes 0 [] (omega (arith, ge, le)) refl)

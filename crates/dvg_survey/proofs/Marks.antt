@@ -1,5 +1,6 @@
 -- KeyedWords and their numbers, and sets of them.
-use Rattle.dvg_survey.proofs.Common.{◌≡◌, ◌≢◌, ℕ, zero, suc, List, Bool, true, false, get_or, refl, sym, ◌∙◌, arith, ◌⊎◌, inl, inr, ⊎_elim, cases_lt, IsKey, KeyedWord, word_number, is_marked, with_word, HasWord, replicate, get_or-set_other}
+use Rattle.dvg_survey.proofs.Common.{◌≡◌, ◌≢◌, ℕ, zero, suc, List, Bool, true, false, get_or, refl, sym, ◌∙◌, arith, ◌⊎◌, inl, inr,
+    ⊎_elim, cases_lt, IsKey, KeyedWord, word_number, is_marked, with_word, HasWord, replicate, get_or-set_other}
 
 -- at first there is none
 pub false_at : (n k : ℕ) → get_or (replicate n false) k false ≡ false
@@ -8,7 +9,8 @@ false_at (suc n) zero = refl
 false_at (suc n) (suc k) = false_at n k
 
 module _ (marks : List Bool) (here : KeyedWord) where
-  pub others_among : (place : KeyedWord) → word_number place ≢ word_number here → is_marked (with_word marks here) place ≡ is_marked marks place
+  pub others_among : (place : KeyedWord) → word_number place ≢ word_number here
+      → is_marked (with_word marks here) place ≡ is_marked marks place
   others_among place ne = get_or-set_other marks (word_number here) (word_number place) true false ne
 
   -- a place is this one, or has another number

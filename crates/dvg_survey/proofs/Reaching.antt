@@ -1,12 +1,16 @@
 -- Which item of a shape reaches as far as its entry's box, and the stroke that is found from one shape to the next.
-use Rattle.dvg_survey.proofs.Common.{◌≡◌, ◌↔◌, Bool, false, ℕ, suc, ◌+◌, ◌-◌, ◌<◌, ◌≤◌, List, [], ◌∷◌, ◌++◌, Option, Some, None, inl, inr, refl, sym, ap, ◌∙◌, subst, arith, Rom, rom_word, Entry, Cursor, Item, Shape, Seen, Point, IsClaim, IsCertificate, MemoryMap, Contains, Context, shape_context, target, scale_before, listed_claim, named_listed, IsSeenAt, IsSoundStep, Step, step_past, lit_points, relative_corners, IfSome, IfNone, LitBox}
+use Rattle.dvg_survey.proofs.Common.{◌≡◌, ◌↔◌, Bool, false, ℕ, suc, ◌+◌, ◌-◌, ◌<◌, ◌≤◌, List, [], ◌∷◌, ◌++◌, Option, Some, None, inl,
+    inr, refl, sym, ap, ◌∙◌, subst, arith, Rom, rom_word, Entry, Cursor, Item, Shape, Seen, Point, IsClaim, IsCertificate, MemoryMap,
+    Contains, Context, shape_context, target, scale_before, listed_claim, named_listed, IsSeenAt, IsSoundStep, Step, step_past,
+    lit_points, relative_corners, IfSome, IfNone, LitBox}
 use Rattle.std.specs.Prelude.{IsTrue}
 use Rattle.dvg_check.specs.declared.leaving.Edge.{Edge}
 use Rattle.dvg_survey.specs.Furthest.{Reaches, FirstReaches, NoneReaches, IsLitDraw, FindsStroke}
 use Rattle.dvg_survey.proofs.Walking.{Walked, Past, past, seen_is, here_leads, here_stands}
 
 -- of points in two lists, where none is on the side
-none_append : (edge : Edge) (box : LitBox) (ps qs : List Point) → (Reaches edge box ps → ⊥) → (Reaches edge box qs → ⊥) → Reaches edge box (ps ++ qs) → ⊥
+none_append : (edge : Edge) (box : LitBox) (ps qs : List Point) → (Reaches edge box ps → ⊥) → (Reaches edge box qs → ⊥)
+    → Reaches edge box (ps ++ qs) → ⊥
 none_append edge box [] qs first second r = second r
 none_append edge box (p ∷ ps) qs first second (inl here) = first (inl here)
 none_append edge box (p ∷ ps) qs first second (inr there) = none_append edge box ps qs (λ r. first (inr r)) second there
@@ -25,7 +29,8 @@ module _ (rom : Rom) (list : List Entry) (edge : Edge) (e : Entry) where
   abbrev pub NotSoFar : List Item → Type 0
   NotSoFar items = Reaches edge e.lit (lit_points here_in items) → ⊥
 
-  module _ (here : Cursor) (w : Walked here_in (rom_word rom) e.addr NotSoFar here) (v : Seen) (s : IsSeenAt rom.machine list Shape (rom_word rom) here v) where
+  module _ (here : Cursor) (w : Walked here_in (rom_word rom) e.addr NotSoFar here) (v : Seen)
+      (s : IsSeenAt rom.machine list Shape (rom_word rom) here v) where
     pub first_reaches : Reaches edge e.lit (relative_corners v.extent v.place) → FirstReaches rom list edge e v
     first_reaches r = record {
       earlier = w.items;
@@ -38,14 +43,17 @@ module _ (rom : Rom) (list : List Entry) (edge : Edge) (e : Entry) where
 
     none_on : (Reaches edge e.lit (relative_corners v.extent v.place) → ⊥) → NotSoFar (v.item ∷ w.items)
     none_on not = none_append edge e.lit _ _
-        (subst (λ (x : Seen). Reaches edge e.lit (relative_corners x.extent x.place) → ⊥) (seen_is here_in (rom_word rom) e.addr NotSoFar here w v s) not)
+        (subst (λ (x : Seen). Reaches edge e.lit (relative_corners x.extent x.place) → ⊥)
+            (seen_is here_in (rom_word rom) e.addr NotSoFar here w v s) not)
         w.holds
 
-    pub none_past : (step : Step) → step ≡ step_past Shape v → IsSoundStep step → (Reaches edge e.lit (relative_corners v.extent v.place) → ⊥) → Past here_in (rom_word rom) e.addr NotSoFar step
+    pub none_past : (step : Step) → step ≡ step_past Shape v → IsSoundStep step
+        → (Reaches edge e.lit (relative_corners v.extent v.place) → ⊥) → Past here_in (rom_word rom) e.addr NotSoFar step
     none_past step goes sound not = past here_in (rom_word rom) e.addr NotSoFar here w v s NotSoFar step goes sound (none_on not)
 
 -- an item that lights something and calls nothing is a lit draw
-pub draws_lit : (rom : Rom) (list : List Entry) (edge : Edge) (e : Entry) (v : Seen) → FirstReaches rom list edge e v → v.callee ≡ None → IsLitDraw v.item.instr
+pub draws_lit : (rom : Rom) (list : List Entry) (edge : Edge) (e : Entry) (v : Seen) → FirstReaches rom list edge e v → v.callee ≡ None
+    → IsLitDraw v.item.instr
 draws_lit rom list edge e v f none = grind (arith)
 
 -- ---- one shape below another
@@ -54,24 +62,34 @@ module _ (rom : Rom) (list : List Entry) (edge : Edge) (e : Entry) (most : ℕ) 
   -- so many shapes lead down from the entry to the last one, and what is found from there is found from the entry
   pub record Down (last : Entry) (count : ℕ) : Type 0 where
     pub claim : IsClaim last
-    pub goes : (left : ℕ) (found : Option Item) → left + count ≡ most → FindsStroke left rom list edge last found → FindsStroke most rom list edge e found
+    pub goes : (left : ℕ) (found : Option Item) → left + count ≡ most → FindsStroke left rom list edge last found
+        → FindsStroke most rom list edge e found
 
   pub starts_down : (map : MemoryMap) → IsCertificate map list → Contains list e → Down e 0
-  starts_down map some listed = record { claim = listed_claim list e (map, some) listed; goes = λ left found all f. subst (λ (n : ℕ). FindsStroke n rom list edge e found) (omega (arith, all)) f }
+  starts_down map some listed = record
+      { claim = listed_claim list e (map, some) listed; goes =
+      λ left found all f. subst (λ (n : ℕ). FindsStroke n rom list edge e found) (omega (arith, all)) f }
 
   module _ (last : Entry) (count : ℕ) (down : Down last count) where
-    pub one_down : (map : MemoryMap) (v : Seen) (called : Entry) → IsCertificate map list → FirstReaches rom list edge last v → v.callee ≡ Some called → Down called (count + 1)
+    pub one_down : (map : MemoryMap) (v : Seen) (called : Entry) → IsCertificate map list → FirstReaches rom list edge last v
+        → v.callee ≡ Some called → Down called (count + 1)
     one_down map v called some first is =
         record {
-          claim = listed_claim list called (map, some) (named_listed list (target Shape v.item.instr) (scale_before (shape_context rom.machine list last) first.earlier) called (sym (ap (λ (x : Seen). x.callee) first.seen) ∙ is));
+          claim = listed_claim list called (map, some)
+              (named_listed list (target Shape v.item.instr) (scale_before (shape_context rom.machine list last) first.earlier) called
+              (sym (ap (λ (x : Seen). x.callee) first.seen) ∙ is));
           goes = λ left found all f. down.goes (suc left) found (omega (arith, all))
-              (inr (v, first, subst (λ o. IfSome o (λ c. FindsStroke left rom list edge c found)) (sym is) f, subst (λ o. IfNone o (IsLitDraw v.item.instr × (found ≡ Some v.item))) (sym is) tt));
+              (inr (v, first, subst (λ o. IfSome o (λ c. FindsStroke left rom list edge c found)) (sym is) f,
+                  subst (λ o. IfNone o (IsLitDraw v.item.instr × (found ≡ Some v.item))) (sym is) tt));
         }
 
-    pub ends_here : count < most → (v : Seen) → FirstReaches rom list edge last v → v.callee ≡ None → FindsStroke most rom list edge e (Some v.item)
+    pub ends_here : count < most → (v : Seen) → FirstReaches rom list edge last v → v.callee ≡ None
+        → FindsStroke most rom list edge e (Some v.item)
     ends_here lt v first is =
         down.goes (suc (most - suc count)) (Some v.item) (omega (arith, lt))
-        (inr (v, first, subst (λ o. IfSome o (λ c. FindsStroke (most - suc count) rom list edge c (Some v.item))) (sym is) tt, subst (λ o. IfNone o (IsLitDraw v.item.instr × (Some v.item ≡ Some v.item))) (sym is) (draws_lit rom list edge last v first is, refl)))
+        (inr (v, first, subst (λ o. IfSome o (λ c. FindsStroke (most - suc count) rom list edge c (Some v.item))) (sym is) tt,
+            subst (λ o. IfNone o (IsLitDraw v.item.instr × (Some v.item ≡ Some v.item))) (sym is)
+            (draws_lit rom list edge last v first is, refl)))
 
     pub no_further : count < most → NoneReaches rom list edge last → FindsStroke most rom list edge e None
     no_further lt none = down.goes (suc (most - suc count)) None (omega (arith, lt)) (inl (none, refl))

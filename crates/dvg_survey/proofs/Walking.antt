@@ -1,5 +1,9 @@
 -- What a walk over all items keeps, and what follows where it stops; where no items lead.
-use Rattle.dvg_survey.proofs.Common.{Source, ◌≡◌, ℕ, List, [], ◌∷◌, Option, Some, sym, ap, ◌∙◌, ◌++◌, subst, cell_at, Point, Holds, LitBox, Empty, Item, Known, Seen, Cursor, LeadsTo, Context, callee_at, scale_before, target, seen_at, IsLeast, absolute_points, absolute_corners, AreAll, call_of, calls_among, IsSeenAt, arith, IfNone, Format, Instr, known_before, seen_with, first_cursor, step_past, IsSoundCursor, IsSoundStep, Step, Onward, Last, leads_on, ends_at, FrameSurvey, IsSurveyAmong, place_loss, place_lost_by, scale_loss, scale_lost_by, None, NoneLead, length, refl, cases_lt, next_address, Kind, AtEachOf, same_lead, shorter, everywhere}
+use Rattle.dvg_survey.proofs.Common.{Source, ◌≡◌, ℕ, List, [], ◌∷◌, Option, Some, sym, ap, ◌∙◌, ◌++◌, subst, cell_at, Point, Holds,
+    LitBox, Empty, Item, Known, Seen, Cursor, LeadsTo, Context, callee_at, scale_before, target, seen_at, IsLeast, absolute_points,
+    absolute_corners, AreAll, call_of, calls_among, IsSeenAt, arith, IfNone, Format, Instr, known_before, seen_with, first_cursor,
+    step_past, IsSoundCursor, IsSoundStep, Step, Onward, Last, leads_on, ends_at, FrameSurvey, IsSurveyAmong, place_loss, place_lost_by,
+    scale_loss, scale_lost_by, None, NoneLead, length, refl, cases_lt, next_address, Kind, AtEachOf, same_lead, shorter, everywhere}
 use Rattle.dvg_survey.specs.Losses.{Losses}
 use Rattle.dvg_survey.specs.Private.Surveying.{IsSurveyPast}
 use Rattle.dvg_survey.proofs.AllItems.{stand_before, no_more}
@@ -29,12 +33,17 @@ NoneAt at items = AtEachOf (λ earlier p. p ≡ at → ⊥) items
 
 module _ (kind : Kind) (word : Source) (first at : ℕ) (items : List Item) where
   -- all items lead to another place, and none of them stands here
-  pub none_past : (p : ℕ) → LeadsTo kind word first items p → AreAll kind word first items → NoneAt at items → (p ≡ at → ⊥) → NoneLead kind word first at
-  none_past p leads all passed other others h = grind (arith, shorter, no_more, (stand_before kind word first others), (same_lead kind word first others items), (cases_lt (length items) (length others)), (cases_lt (length others) (length items)))
+  pub none_past : (p : ℕ) → LeadsTo kind word first items p → AreAll kind word first items → NoneAt at items → (p ≡ at → ⊥)
+      → NoneLead kind word first at
+  none_past p leads all passed other others h =
+      grind (arith, shorter, no_more, (stand_before kind word first others), (same_lead kind word first others items),
+      (cases_lt (length items) (length others)), (cases_lt (length others) (length items)))
 
   -- the next item is the last one, and neither it nor one before it stands here
-  pub none_after : (i : Item) → LeadsTo kind word first items i.at → cell_at word i.at ≡ Holds i.format i.instr → next_address kind i ≡ None → NoneAt at (i ∷ items) → NoneLead kind word first at
-  none_after i leads is last passed others h = everywhere kind word first (λ earlier q. q ≡ at → ⊥) items i leads is last passed others at h refl
+  pub none_after : (i : Item) → LeadsTo kind word first items i.at → cell_at word i.at ≡ Holds i.format i.instr
+      → next_address kind i ≡ None → NoneAt at (i ∷ items) → NoneLead kind word first at
+  none_after i leads is last passed others h =
+      everywhere kind word first (λ earlier q. q ≡ at → ⊥) items i leads is last passed others at h refl
 
 -- ---- what holds of them
 
@@ -53,7 +62,8 @@ Loses c at losses items = (losses.place ≡ place_lost_by c items) × (losses.sc
 
 module _ (c : Context) (word : Source) (first : ℕ) (P : List Item → Type 0) where
   pub begins : (here : Cursor) → here ≡ first_cursor c.kind first c.scale → IsSoundCursor here → P [] → Walked c word first P here
-  begins here is sound h = record { items = []; leads = ap (λ (x : Cursor). x.at) is; knows = ap (λ (x : Cursor). x.known) is; sound = sound; holds = h }
+  begins here is sound h = record
+      { items = []; leads = ap (λ (x : Cursor). x.at) is; knows = ap (λ (x : Cursor). x.known) is; sound = sound; holds = h }
 
   module _ (here : Cursor) (w : Walked c word first P here) where
     -- where no item stands
@@ -74,37 +84,50 @@ module _ (c : Context) (word : Source) (first : ℕ) (P : List Item → Type 0) 
       pub here_stands : cell_at word v.item.at ≡ Holds v.item.format v.item.instr
       here_stands = ap (cell_at word) s.at ∙ s.stands
 
-      pub past : (Q : List Item → Type 0) (step : Step) → step ≡ step_past c.kind v → IsSoundStep step → Q (v.item ∷ w.items) → Past c word first Q step
+      pub past : (Q : List Item → Type 0) (step : Step) → step ≡ step_past c.kind v → IsSoundStep step → Q (v.item ∷ w.items)
+          → Past c word first Q step
       past Q step goes sound h =
           record {
             on = λ next is.
                 let on = leads_on c.kind v step next is goes in
-                record { items = v.item ∷ w.items; leads = (here_leads, here_stands, on.0); knows = on.1 ∙ ap (λ (x : Seen). x.after) seen_is; sound = subst IsSoundStep is sound; holds = h };
-            last = λ known is. (v.item ∷ w.items, record { stand = (here_leads, here_stands); last = λ i k. let no : None ≡ Some i.at = sym (ends_at c.kind v step known is goes).0 ∙ k.0.2 in cc no }, h);
+                record { items = v.item ∷ w.items; leads = (here_leads, here_stands, on.0); knows =
+                    on.1 ∙ ap (λ (x : Seen). x.after) seen_is; sound = subst IsSoundStep is sound; holds = h };
+            last = λ known is. (v.item ∷ w.items,
+                record { stand = (here_leads, here_stands); last = λ i k. let no : None ≡ Some i.at =
+                sym (ends_at c.kind v step known is goes).0 ∙ k.0.2 in cc no }, h);
           }
 
 -- past an item, what all items so far light and come to
-module _ (c : Context) (word : Source) (first : ℕ) (here : Cursor) (v : Seen) (s : IsSeenAt c.machine c.list c.kind word here v) (step : Step) (goes : step ≡ step_past c.kind v) (sound : IsSoundStep step) where
-  pub lit_past : (old new : LitBox) → Walked c word first (Lights c old) here → ((ps : List Point) → IsLeast ps old → IsLeast (absolute_corners v.extent v.place ++ ps) new) → Past c word first (Lights c new) step
+module _ (c : Context) (word : Source) (first : ℕ) (here : Cursor) (v : Seen) (s : IsSeenAt c.machine c.list c.kind word here v)
+    (step : Step) (goes : step ≡ step_past c.kind v) (sound : IsSoundStep step) where
+  pub lit_past : (old new : LitBox) → Walked c word first (Lights c old) here
+      → ((ps : List Point) → IsLeast ps old → IsLeast (absolute_corners v.extent v.place ++ ps) new) → Past c word first (Lights c new) step
   lit_past old new w grows =
       past c word first (Lights c old) here w v s (Lights c new) step goes sound
-      (subst (λ (x : Seen). IsLeast (absolute_corners x.extent x.place ++ absolute_points c w.items) new) (seen_is c word first (Lights c old) here w v s) (grows (absolute_points c w.items) w.holds))
+      (subst (λ (x : Seen). IsLeast (absolute_corners x.extent x.place ++ absolute_points c w.items) new)
+          (seen_is c word first (Lights c old) here w v s) (grows (absolute_points c w.items) w.holds))
 
-  pub survey_past : (old new : FrameSurvey) → Walked c word first (Surveys c old) here → IsSurveyPast old v here.known.scale new → Past c word first (Surveys c new) step
+  pub survey_past : (old new : FrameSurvey) → Walked c word first (Surveys c old) here → IsSurveyPast old v here.known.scale new
+      → Past c word first (Surveys c new) step
   survey_past old new w more =
-      let among : IsSurveyAmong c (v.item ∷ w.items) new = grind (arith, call_of, calls_among, (seen_is c word first (Surveys c old) here w v s)) in
+      let among : IsSurveyAmong c (v.item ∷ w.items) new =
+          grind (arith, call_of, calls_among, (seen_is c word first (Surveys c old) here w v s)) in
       past c word first (Surveys c old) here w v s (Surveys c new) step goes sound among
 
-  pub losses_past : (at : ℕ) (old new : Losses) → Walked c word first (Loses c at old) here → (here.at ≡ at → ⊥) → new.place ≡ place_loss v.item here.known.place v.after.place old.place
+  pub losses_past : (at : ℕ) (old new : Losses) → Walked c word first (Loses c at old) here → (here.at ≡ at → ⊥)
+      → new.place ≡ place_loss v.item here.known.place v.after.place old.place
       → new.scale ≡ scale_loss v.item here.known.scale v.after.scale old.scale → Past c word first (Loses c at new) step
   losses_past at old new w other place scale =
       let loses : Loses c at new (v.item ∷ w.items) = grind (arith, scale_before, (seen_is c word first (Loses c at old) here w v s)) in
       past c word first (Loses c at old) here w v s (Loses c at new) step goes sound loses
 
   -- nor does an item lead to the place, where none stood there
-  pub none_last : (at : ℕ) (old : Losses) → Walked c word first (Loses c at old) here → (here.at ≡ at → ⊥) → (known : Known) → step ≡ Last known → NoneLead c.kind word first at
+  pub none_last : (at : ℕ) (old : Losses) → Walked c word first (Loses c at old) here → (here.at ≡ at → ⊥) → (known : Known)
+      → step ≡ Last known → NoneLead c.kind word first at
   none_last at old w other known is =
-      none_after c.kind word first at w.items v.item (here_leads c word first (Loses c at old) here w v s) (here_stands c word first (Loses c at old) here w v s) (ends_at c.kind v step known is goes).0 (w.holds.2, λ e. other (sym s.at ∙ e))
+      none_after c.kind word first at w.items v.item (here_leads c word first (Loses c at old) here w v s)
+          (here_stands c word first (Loses c at old) here w v s) (ends_at c.kind v step known is goes).0
+          (w.holds.2, λ e. other (sym s.at ∙ e))
 
 -- nothing needs no box
 pub least_none : IsLeast [] Empty

@@ -1,5 +1,7 @@
 -- Digits among the lanes of a vector.
-use Rattle.dvg_text.proofs.Common.{◌≡◌, ℕ, suc, ◌+◌, ◌-◌, ◌%◌, ◌^◌, ◌<◌, ◌≤◌, Bool, true, false, not, eqb, ltb, leb, cond, List, [], ◌∷◌, map, length, take, drop, get_or, replicate, refl, ap, ◌∙◌, arith, one-add, agree_below_at, nat_tests, length-map, prefix_len, digit_value, AllDigits, NoDigitFirst}
+use Rattle.dvg_text.proofs.Common.{◌≡◌, ℕ, suc, ◌+◌, ◌-◌, ◌%◌, ◌^◌, ◌<◌, ◌≤◌, Bool, true, false, not, eqb, ltb, leb, cond, List, [], ◌∷◌,
+    map, length, take, drop, get_or, replicate, refl, ap, ◌∙◌, arith, one-add, agree_below_at, nat_tests, length-map, prefix_len,
+    digit_value, AllDigits, NoDigitFirst}
 use Rattle.std.proofs.lemmas.List.Sums.{prefix_len-le-length}
 use Rattle.std.proofs.lemmas.Simd.{mask_l-mod, first_set_mask_l, zip2_splat, zip2_splat_left, map-map}
 use lib.Lanes.{mask_l, zip2, top}
@@ -47,7 +49,8 @@ at_most x y = cond (leb x y) 255 0
 
 lanes_are : (xs : List ℕ) → length xs ≡ 16 → zip2 at_most (replicate 16 10) (zip2 minus xs (replicate 16 48)) ≡ map lane xs
 lanes_are xs long =
-    ap (zip2 at_most (replicate 16 10)) (zip2_splat minus xs 16 48 long) ∙ zip2_splat_left at_most 10 16 (map (λ x. minus x 48) xs) (length-map xs (λ x. minus x 48) ∙ long)
+    ap (zip2 at_most (replicate 16 10)) (zip2_splat minus xs 16 48 long)
+        ∙ zip2_splat_left at_most 10 16 (map (λ x. minus x 48) xs) (length-map xs (λ x. minus x 48) ∙ long)
     ∙ map-map (at_most 10) (λ x. minus x 48) xs
 
 pub counted : (xs : List ℕ) (n : ℕ) → length xs ≡ 16
@@ -56,11 +59,13 @@ pub counted : (xs : List ℕ) (n : ℕ) → length xs ≡ 16
     → n ≡ run_len xs
 counted xs n long e =
     let mask : mask_l (map (top 7) (zip2 at_most (replicate 16 10) (zip2 minus xs (replicate 16 48)))) % 2 ^ 64 ≡ mask_l (map other xs) =
-    ap (λ l. mask_l (map (top 7) l) % 2 ^ 64) (lanes_are xs long) ∙ ap (λ l. mask_l l % 2 ^ 64) (all_tops xs) ∙ mask_l-mod (map other xs) 64 (omega (arith, length-map xs other, long)) in
+    ap (λ l. mask_l (map (top 7) l) % 2 ^ 64) (lanes_are xs long) ∙ ap (λ l. mask_l l % 2 ^ 64) (all_tops xs)
+        ∙ mask_l-mod (map other xs) 64 (omega (arith, length-map xs other, long)) in
     e ∙ ap (λ m. cond (eqb m 0) 16 (count_trailing_zeros 64 m)) mask ∙ first_set_mask_l other xs 16 long (omega arith)
 
 pub lanes : (xs : List ℕ) (n : ℕ) → length xs ≡ 16 → ((k : ℕ) → get_or xs k 0 < 256)
     → n ≡ cond (eqb (mask_l (map (top 7) (zip2 at_most (replicate 16 10) (zip2 minus xs (replicate 16 48)))) % 2 ^ 64) 0) 16
     (count_trailing_zeros 64 (mask_l (map (top 7) (zip2 at_most (replicate 16 10) (zip2 minus xs (replicate 16 48)))) % 2 ^ 64))
     → (n ≤ 16) × IsRun xs n
-lanes xs n long bytes e = let c = counted xs n long e in (omega (arith, c, prefix_len-le-length (λ x. not (other x)) xs), rw c (run xs bytes))
+lanes xs n long bytes e = let c =
+    counted xs n long e in (omega (arith, c, prefix_len-le-length (λ x. not (other x)) xs), rw c (run xs bytes))

@@ -1,5 +1,7 @@
 -- Lines: a spelled line has no line end inside.
-use Rattle.dvg_text.proofs.Common.{AllByRecursion, ℕ, ◌/◌, ◌%◌, ◌^◌, ◌<◌, ◌≤◌, List, [], ◌∷◌, ◌++◌, refl, arith, lit≤, codes, decimal, pos, negsuc, true, digit_glyph, AllDigits, join_with_byte, digit_from_value, nat_tests, LINE_FEED, SPACE, Key, End, LitBox, Entry, IsKey, IsEnd, IsBox, IsEntry, address_token, key_token, end_tokens, box_tokens, entry_tokens, Without}
+use Rattle.dvg_text.proofs.Common.{AllByRecursion, ℕ, ◌/◌, ◌%◌, ◌^◌, ◌<◌, ◌≤◌, List, [], ◌∷◌, ◌++◌, refl, arith, lit≤, codes, decimal,
+    pos, negsuc, true, digit_glyph, AllDigits, join_with_byte, digit_from_value, nat_tests, LINE_FEED, SPACE, Key, End, LitBox, Entry,
+    IsKey, IsEnd, IsBox, IsEntry, address_token, key_token, end_tokens, box_tokens, entry_tokens, Without}
 use Rattle.dvg_text.proofs.FieldValues.{first_digit}
 use Rattle.dvg_text.proofs.Leading.{Text}
 
@@ -38,7 +40,9 @@ graphics_box : (b : LitBox) → IsBox b → Graphics (box_tokens b)
 graphics_box b h = grind (arith, pos, graphic_decimal, negsuc)
 
 pub graphics_entry : (first last : ℕ) (e : Entry) → IsEntry first last e → Graphics (entry_tokens e)
-graphics_entry first last e h = grind (arith, codes, address_token, key_token, end_tokens, graphic_hex, graphic_key, graphics_end, box_tokens, graphics_box, decimal, graphic_decimal)
+graphics_entry first last e h =
+    grind (arith, codes, address_token, key_token, end_tokens, graphic_hex, graphic_key, graphics_end, box_tokens, graphics_box, decimal,
+    graphic_decimal)
 
 pub Without-append : (c : ℕ) (xs ys : Text) → Without c xs → Without c ys → Without c (xs ++ ys)
 Without-append c [] ys h k = k
@@ -48,4 +52,5 @@ Without-append c (x ∷ xs) ys h k = (h.0, Without-append c xs ys h.1 k)
 pub line_free : (ws : List Text) → Graphics ws → Without LINE_FEED (join_with_byte SPACE ws)
 line_free [] h = tt
 line_free (w ∷ []) h = graphic_without LINE_FEED w (lit≤ tt) h.0
-line_free (w ∷ v ∷ vs) h = Without-append LINE_FEED w (SPACE ∷ join_with_byte SPACE (v ∷ vs)) (graphic_without LINE_FEED w (lit≤ tt) h.0) (refl, line_free (v ∷ vs) h.1)
+line_free (w ∷ v ∷ vs) h = Without-append LINE_FEED w (SPACE ∷ join_with_byte SPACE (v ∷ vs)) (graphic_without LINE_FEED w (lit≤ tt) h.0)
+    (refl, line_free (v ∷ vs) h.1)

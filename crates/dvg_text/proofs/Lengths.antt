@@ -1,5 +1,7 @@
 -- How long a line is.
-use Rattle.dvg_text.proofs.Common.{◌≡◌, ℕ, suc, ◌+◌, ◌≤◌, List, [], ◌∷◌, ◌++◌, length, arith, w64, MOST_ENTRIES, SPACE, codes, decimal, ℤ, pos, negsuc, signed_decimal, join_with_byte, length-append, length-decimal-le, MOST_WORDS, to_z-of_z, ints, Key, End, LitBox, Entry, IsNumber, IsKey, IsEnd, IsBox, IsEntry, key_token, end_tokens, box_tokens, entry_tokens, entry_line, done_line}
+use Rattle.dvg_text.proofs.Common.{◌≡◌, ℕ, suc, ◌+◌, ◌≤◌, List, [], ◌∷◌, ◌++◌, length, arith, w64, MOST_ENTRIES, SPACE, codes, decimal,
+    ℤ, pos, negsuc, signed_decimal, join_with_byte, length-append, length-decimal-le, MOST_WORDS, to_z-of_z, ints, Key, End, LitBox,
+    Entry, IsNumber, IsKey, IsEnd, IsBox, IsEntry, key_token, end_tokens, box_tokens, entry_tokens, entry_line, done_line}
 use Rattle.std.proofs.Math.Nat.{le_trans}
 use mir.Val.{SFits}
 
@@ -42,7 +44,8 @@ pub length_entry : (first last : ℕ) (e : Entry) → IsEntry first last e → l
 length_entry first last e h =
     let d = length-decimal-le 1 e.depth (omega arith) (omega (arith, h.depth)) (omega (arith, h.depth)) in
     let w = length-decimal-le 7 e.words (omega arith) (omega (arith, h.words_high)) (omega (arith, h.words_high)) in
-    le_trans (join_le (entry_tokens e)) (simp weight-append (omega (arith, key_le e.key h.key, key_le e.scale h.scale, d, w, end_le e.stop h.stop, box_le e.lit h.lit)))
+    le_trans (join_le (entry_tokens e))
+        (simp weight-append (omega (arith, key_le e.key h.key, key_le e.scale h.scale, d, w, end_le e.stop h.stop, box_le e.lit h.lit)))
 
 pub length_done : (n : ℕ) → n ≤ MOST_ENTRIES → length (done_line n) ≤ 10
 length_done n h = omega (arith, length-decimal-le 4 n (omega arith) (omega arith) (omega arith), join_le (codes "done" ∷ decimal n ∷ []))

@@ -1,5 +1,10 @@
 -- What a line makes of the lines before it: the lines with it, or what is wrong.
-use Rattle.dvg_text.proofs.Common.{RAM_WORDS, MEMORY_LAST, ◌≡◌, ℕ, ◌+◌, ◌⊎◌, inl, inr, Bool, List, [], ◌∷◌, ◌++◌, length, Option, Some, None, Result, Ok, Err, if◌then◌else◌, ◌&&◌, ◌==◌, not, refl, sym, arith, nat_le, nat_lt, nat_tests, bytes_eq, bytes_eq-Decides, eqb-true, length-append, MemoryMap, asteroids, is_asteroids, MOST_ENTRIES, Line, EntryLine, DoneLine, CertWhy, Form, Order, Count, After, TooLong, Entry, IsCertificate, Before, StandsAfter, first_version_line, second_version_line, rom_line, entry_line, done_line, ended, IsLine, IsElsewhere, Taken, Nothing, Versioned, Begun, Whole, text_taken, line_number, IsTaken, IsRest, IsUnended, IsWrong, rom_at, nothing_left, certificate_push, no_entry_yet, small_map, each_mid, rising_mid}
+use Rattle.dvg_text.proofs.Common.{RAM_WORDS, MEMORY_LAST, ◌≡◌, ℕ, ◌+◌, ◌⊎◌, inl, inr, Bool, List, [], ◌∷◌, ◌++◌, length, Option, Some,
+    None, Result, Ok, Err, if◌then◌else◌, ◌&&◌, ◌==◌, not, refl, sym, arith, nat_le, nat_lt, nat_tests, bytes_eq, bytes_eq-Decides,
+    eqb-true, length-append, MemoryMap, asteroids, is_asteroids, MOST_ENTRIES, Line, EntryLine, DoneLine, CertWhy, Form, Order, Count,
+    After, TooLong, Entry, IsCertificate, Before, StandsAfter, first_version_line, second_version_line, rom_line, entry_line, done_line,
+    ended, IsLine, IsElsewhere, Taken, Nothing, Versioned, Begun, Whole, text_taken, line_number, IsTaken, IsRest, IsUnended, IsWrong,
+    rom_at, nothing_left, certificate_push, no_entry_yet, small_map, each_mid, rising_mid}
 use Rattle.dvg_text.proofs.Leading.{Text}
 use Rattle.dvg_text.proofs.WholeLines.{said, line_takes, line_again}
 use Rattle.dvg_text.proofs.FirstLines.{map_of, rom_reads, rom_again, nowhere_said, other_said, first_taken, rom_taken, begun_push}
@@ -27,10 +32,12 @@ with_later map es (Some (DoneLine n)) = if n == length es then Ok (Whole map es)
 -- by the addresses that the second line of version 2 says
 abbrev with_rom : Option (ℕ × ℕ) → Result Taken CertWhy
 with_rom None = Err Form
-with_rom (Some p) = if (nat_le RAM_WORDS p.0 && (nat_le p.0 p.1 && nat_le p.1 MEMORY_LAST)) && not (is_asteroids (map_of p)) then Ok (Begun (map_of p) []) else Err Form
+with_rom (Some p) = if (nat_le RAM_WORDS p.0 && (nat_le p.0 p.1 && nat_le p.1 MEMORY_LAST)) && not (is_asteroids (map_of p)) then Ok
+    (Begun (map_of p) []) else Err Form
 
 abbrev pub next : Taken → Text → Result Taken CertWhy
-next Nothing line = if bytes_eq line first_version_line then Ok (Begun asteroids []) else (if bytes_eq line second_version_line then Ok Versioned else Err Form)
+next Nothing line = if bytes_eq line first_version_line then Ok (Begun asteroids []) else
+    (if bytes_eq line second_version_line then Ok Versioned else Err Form)
 next Versioned line = with_rom (nothing_left (rom_at line))
 next (Begun map es) line = with_later map es (said map.rom_first map.rom_last line)
 next (Whole map es) line = Err After
@@ -48,7 +55,9 @@ rom_is None line e = nowhere_said line (sym e)
 rom_is (Some p) line e = grind (arith, nat_tests, (rom_reads line), (other_said line p (sym e)), no_entry_yet, (rom_taken (map_of p) line))
 
 later_is : (map : MemoryMap) (es : List Entry) (line : Text) → IsCertificate map es → IsNext (Begun map es) line (next (Begun map es) line)
-later_is map es line h = grind (arith, nat_tests, (line_takes map.rom_first map.rom_last line (small_map map h.map_is)), line_again, certificate_push, begun_push, length-append)
+later_is map es line h = grind
+    (arith, nat_tests, (line_takes map.rom_first map.rom_last line (small_map map h.map_is)), line_again, certificate_push, begun_push,
+    length-append)
 
 pub next_is : (t : Taken) (line : Text) → IsTaken t → IsUnended t → IsNext t line (next t line)
 next_is Nothing line h u = first_is line
@@ -57,31 +66,39 @@ next_is (Begun map es) line h u = later_is map es line h
 next_is (Whole map es) line h u = absurd u
 
 -- where nothing else is said
-unsaid : (map : MemoryMap) (es : List Entry) (line : Text) → IsCertificate map es → ((l : Line) → IsLine map.rom_first map.rom_last l line → ⊥) → next (Begun map es) line ≡ Err Form
+unsaid : (map : MemoryMap) (es : List Entry) (line : Text) → IsCertificate map es
+    → ((l : Line) → IsLine map.rom_first map.rom_last l line → ⊥) → next (Begun map es) line ≡ Err Form
 unsaid map es line h never = grind (arith, (line_takes map.rom_first map.rom_last line (small_map map h.map_is)))
 
 -- what is wrong with a line is one thing
 pub wrong_next : (why : CertWhy) (t : Taken) (line : Text) → IsTaken t → IsWrong t line why → next t line ≡ Err why
-wrong_next Form Nothing line h w = grind (arith, nat_tests, (bytes_eq-Decides line first_version_line), (bytes_eq-Decides line second_version_line))
+wrong_next Form Nothing line h w =
+    grind (arith, nat_tests, (bytes_eq-Decides line first_version_line), (bytes_eq-Decides line second_version_line))
 wrong_next Form Versioned line h w = rom_wrong (nothing_left (rom_at line)) refl
   where
     rom_wrong : (r : Option (ℕ × ℕ)) → nothing_left (rom_at line) ≡ r → with_rom r ≡ Err Form
     rom_wrong None e = refl
     rom_wrong (Some p) e = grind (arith, nat_tests, (rom_reads line), (w (map_of p)))
 wrong_next Form (Begun map es) line h w = unsaid map es line h w
-wrong_next Order (Begun map es) line h w = grind (arith, (line_again map.rom_first map.rom_last line (EntryLine w.0) (small_map map h.map_is) w.1))
-wrong_next TooLong (Begun map es) line h w = grind (arith, (line_again map.rom_first map.rom_last line (EntryLine w.0) (small_map map h.map_is) w.1))
-wrong_next Count (Begun map es) line h w = grind (arith, (line_again map.rom_first map.rom_last line (DoneLine w.0) (small_map map h.map_is) w.1))
+wrong_next Order (Begun map es) line h w =
+    grind (arith, (line_again map.rom_first map.rom_last line (EntryLine w.0) (small_map map h.map_is) w.1))
+wrong_next TooLong (Begun map es) line h w =
+    grind (arith, (line_again map.rom_first map.rom_last line (EntryLine w.0) (small_map map h.map_is) w.1))
+wrong_next Count (Begun map es) line h w =
+    grind (arith, (line_again map.rom_first map.rom_last line (DoneLine w.0) (small_map map h.map_is) w.1))
 wrong_next why t line h w = absurd (grind (arith))
 
 -- a line that is a certificate's
 pub rom_next : (map : MemoryMap) → IsElsewhere map → next Versioned (rom_line map) ≡ Ok (Begun map [])
 rom_next map is = rw (rom_again map is.0) (grind (arith, nat_tests))
 
-pub entry_next : (map : MemoryMap) (es fs : List Entry) (e : Entry) → IsCertificate map (es ++ e ∷ fs) → next (Begun map es) (entry_line e) ≡ Ok (Begun map (es ++ e ∷ []))
+pub entry_next : (map : MemoryMap) (es fs : List Entry) (e : Entry) → IsCertificate map (es ++ e ∷ fs)
+    → next (Begun map es) (entry_line e) ≡ Ok (Begun map (es ++ e ∷ []))
 entry_next map es fs e h =
     let fits = each_mid _ es e fs h.each in
-    rw (line_again map.rom_first map.rom_last (entry_line e) (EntryLine e) (small_map map h.map_is) (fits, refl)) (grind (arith, nat_tests, (rising_mid es e fs h.rising), (length-append es (e ∷ fs)), (h.few)))
+    rw (line_again map.rom_first map.rom_last (entry_line e) (EntryLine e) (small_map map h.map_is) (fits, refl))
+        (grind (arith, nat_tests, (rising_mid es e fs h.rising), (length-append es (e ∷ fs)), (h.few)))
 
 pub done_next : (map : MemoryMap) (es : List Entry) → IsCertificate map es → next (Begun map es) (done_line (length es)) ≡ Ok (Whole map es)
-done_next map es h = rw (line_again map.rom_first map.rom_last (done_line (length es)) (DoneLine (length es)) (small_map map h.map_is) (h.few, refl)) (grind (arith, nat_tests))
+done_next map es h = rw (line_again map.rom_first map.rom_last (done_line (length es)) (DoneLine (length es)) (small_map map h.map_is)
+    (h.few, refl)) (grind (arith, nat_tests))

@@ -1,5 +1,9 @@
 -- A field that is read from the front of bytes is spelled there, and what is spelled there is read again.
-use Rattle.dvg_text.proofs.Common.{natural_in, bytes_eq-Decides, inl, inr, ◌≡◌, ℕ, ◌+◌, ◌-◌, ◌^◌, ◌<◌, ◌≤◌, [], ◌∷◌, ◌++◌, length, map, take, drop, get_or, Some, None, refl, sym, ap, ◌∙◌, arith, decimal, nat_le, nat_lt, digit_value, AllDigits, digits_value, eqb-true, nat_tests, decimal_digit, decimal-digits_of, digits_of_step, take-append-drop, length-append, take-append_seam, digit_value_digit, MOST_MAGNITUDE, ADDRESS_END, Key, IsKey, address_token, key_token, NoDigitFirst, past, digits_off, natural_at, digit_at, address_at, key_at}
+use Rattle.dvg_text.proofs.Common.{natural_in, bytes_eq-Decides, inl, inr, ◌≡◌, ℕ, ◌+◌, ◌-◌, ◌^◌, ◌<◌, ◌≤◌, [], ◌∷◌, ◌++◌, length, map,
+    take, drop, get_or, Some, None, refl, sym, ap, ◌∙◌, arith, decimal, nat_le, nat_lt, digit_value, AllDigits, digits_value, eqb-true,
+    nat_tests, decimal_digit, decimal-digits_of, digits_of_step, take-append-drop, length-append, take-append_seam, digit_value_digit,
+    MOST_MAGNITUDE, ADDRESS_END, Key, IsKey, address_token, key_token, NoDigitFirst, past, digits_off, natural_at, digit_at, address_at,
+    key_at}
 use Rattle.std.proofs.lemmas.Bool.Decides.{Decides-eqb}
 use Rattle.dvg_text.proofs.FieldValues.{Says, says, natural_some, first_digit, address_takes, address_again}
 use Rattle.dvg_text.proofs.Leading.{Text, same_number, digits_lead}
@@ -19,10 +23,13 @@ past_again [] rest = refl
 past_again (t ∷ text) rest = rw ((Decides-eqb t t).1 refl, past_again text rest) refl
 
 -- the bytes cut where the text would end
-pub past_found : (n : ℕ) (text bytes prefix rest : Text) → prefix ≡ take n bytes → rest ≡ drop n bytes → prefix ≡ text → past text bytes ≡ Some rest
-past_found n text bytes prefix rest is after same = ap (past text) (sym (take-append-drop n bytes) ∙ rw (← is, ← after, same) refl) ∙ past_again text rest
+pub past_found : (n : ℕ) (text bytes prefix rest : Text) → prefix ≡ take n bytes → rest ≡ drop n bytes → prefix ≡ text
+    → past text bytes ≡ Some rest
+past_found n text bytes prefix rest is after same =
+    ap (past text) (sym (take-append-drop n bytes) ∙ rw (← is, ← after, same) refl) ∙ past_again text rest
 
-pub past_not_found : (n : ℕ) (text bytes prefix : Text) → prefix ≡ take n bytes → length text ≡ n → (prefix ≡ text → ⊥) → past text bytes ≡ None
+pub past_not_found : (n : ℕ) (text bytes prefix : Text) → prefix ≡ take n bytes → length text ≡ n → (prefix ≡ text → ⊥)
+    → past text bytes ≡ None
 past_not_found n text bytes prefix is len other = grind (arith, past_reads, take-append_seam)
 
 pub past_short : (text bytes : Text) → length bytes < length text → past text bytes ≡ None
@@ -41,29 +48,39 @@ off_again [] [] all stop = refl
 off_again [] (c ∷ cs) all stop = grind (arith, nat_lt, digit_value, digits_off, nat_tests)
 off_again (d ∷ ds) rest all stop = grind (arith, nat_lt, digit_value, nat_tests, (off_again ds rest all.1 stop))
 
-pub natural_again : (low high n : ℕ) (rest : Text) → n < 2 ^ 64 → low ≤ n → n ≤ high → NoDigitFirst rest → natural_at low high (decimal n ++ rest) ≡ Some (n, rest)
+pub natural_again : (low high n : ℕ) (rest : Text) → n < 2 ^ 64 → low ≤ n → n ≤ high → NoDigitFirst rest
+    → natural_at low high (decimal n ++ rest) ≡ Some (n, rest)
 unfolding natural_at
-natural_again low high n rest small from to stop = grind (arith, (off_again (decimal n) rest (first_digit (decimal n) n small refl).1 stop), (decimal n), (first_digit (decimal n) n small refl), (natural_some low high n (decimal n) small from to refl))
+natural_again low high n rest small from to stop =
+    grind (arith, (off_again (decimal n) rest (first_digit (decimal n) n small refl).1 stop), (decimal n),
+    (first_digit (decimal n) n small refl), (natural_some low high n (decimal n) small from to refl))
 
-pub natural_reads : (low high : ℕ) (bytes : Text) → Says (natural_at low high bytes) (λ p. (bytes ≡ decimal p.0 ++ p.1) × (low ≤ p.0) × (p.0 ≤ high) × NoDigitFirst p.1)
+pub natural_reads : (low high : ℕ) (bytes : Text)
+    → Says (natural_at low high bytes) (λ p. (bytes ≡ decimal p.0 ++ p.1) × (low ≤ p.0) × (p.0 ≤ high) × NoDigitFirst p.1)
 unfolding natural_at natural_in
 natural_reads low high bytes = says (natural_at low high bytes) (grind (arith, (off_takes bytes), bytes_eq-Decides, nat_tests))
 
-natural_never : (low high : ℕ) (bytes : Text) → ((n : ℕ) (rest : Text) → (bytes ≡ decimal n ++ rest) → low ≤ n → n ≤ high → NoDigitFirst rest → ⊥) → natural_at low high bytes ≡ None
+natural_never : (low high : ℕ) (bytes : Text)
+    → ((n : ℕ) (rest : Text) → (bytes ≡ decimal n ++ rest) → low ≤ n → n ≤ high → NoDigitFirst rest → ⊥) → natural_at low high bytes ≡ None
 natural_never low high bytes never = grind (arith, natural_reads)
 
-pub natural_is : (low high n : ℕ) (bytes rest : Text) → n < 2 ^ 64 → low ≤ n → n ≤ high → bytes ≡ decimal n ++ rest → NoDigitFirst rest → natural_at low high bytes ≡ Some (n, rest)
+pub natural_is : (low high n : ℕ) (bytes rest : Text) → n < 2 ^ 64 → low ≤ n → n ≤ high → bytes ≡ decimal n ++ rest → NoDigitFirst rest
+    → natural_at low high bytes ≡ Some (n, rest)
 natural_is low high n bytes rest small from to e stop = ap (natural_at low high) e ∙ natural_again low high n rest small from to stop
 
-pub natural_outside : (low high n : ℕ) (bytes rest : Text) → high ≤ MOST_MAGNITUDE → n < 2 ^ 64 → NoDigitFirst rest → bytes ≡ decimal n ++ rest → (low ≤ n → n ≤ high → ⊥) → natural_at low high bytes ≡ None
+pub natural_outside : (low high n : ℕ) (bytes rest : Text) → high ≤ MOST_MAGNITUDE → n < 2 ^ 64 → NoDigitFirst rest
+    → bytes ≡ decimal n ++ rest → (low ≤ n → n ≤ high → ⊥) → natural_at low high bytes ≡ None
 natural_outside low high n bytes rest top small stop e outside = natural_never low high bytes (λ m left is from to free.
     let same = same_number n m bytes rest left small (omega arith) stop free e is in
     outside (omega (arith, same.0)) (omega (arith, same.0)))
 
-pub natural_none_at : (low high : ℕ) (bytes : Text) → high ≤ MOST_MAGNITUDE → ((n : ℕ) (rest : Text) → n ≤ MOST_MAGNITUDE → NoDigitFirst rest → bytes ≡ decimal n ++ rest → ⊥) → natural_at low high bytes ≡ None
+pub natural_none_at : (low high : ℕ) (bytes : Text) → high ≤ MOST_MAGNITUDE
+    → ((n : ℕ) (rest : Text) → n ≤ MOST_MAGNITUDE → NoDigitFirst rest → bytes ≡ decimal n ++ rest → ⊥) → natural_at low high bytes ≡ None
 natural_none_at low high bytes top never = grind (arith, natural_reads)
 
-pub magnitude_read : (count number : ℕ) (bytes : Text) → AllDigits 10 (take count bytes) → number ≡ digits_value 10 (take count bytes) → 0 < count → count ≤ 13 → count ≤ length bytes → NoDigitFirst (drop count bytes) → (get_or bytes 0 0 ≡ 48 → ⊥) → number ≤ MOST_MAGNITUDE
+pub magnitude_read : (count number : ℕ) (bytes : Text) → AllDigits 10 (take count bytes) → number ≡ digits_value 10 (take count bytes)
+    → 0 < count → count ≤ 13 → count ≤ length bytes → NoDigitFirst (drop count bytes) → (get_or bytes 0 0 ≡ 48 → ⊥)
+    → number ≤ MOST_MAGNITUDE
     → natural_at 1 MOST_MAGNITUDE bytes ≡ Some (number, drop count bytes)
 magnitude_read count number bytes all value some few within stop other most =
     let read = digits_lead count number bytes all value few within stop some (λ z. absurd (other z)) in
@@ -81,11 +98,13 @@ digit_again most d rest le = grind (arith, nat_le, nat_tests)
 
 -- ---- addresses
 
-pub address_reads : (first last : ℕ) (bytes : Text) → last < ADDRESS_END → Says (address_at first last bytes) (λ p. (bytes ≡ address_token p.0 ++ p.1) × (first ≤ p.0) × (p.0 ≤ last))
+pub address_reads : (first last : ℕ) (bytes : Text) → last < ADDRESS_END
+    → Says (address_at first last bytes) (λ p. (bytes ≡ address_token p.0 ++ p.1) × (first ≤ p.0) × (p.0 ≤ last))
 unfolding address_at
 address_reads first last bytes small = says (address_at first last bytes) (grind (arith, address_takes))
 
-pub address_spelled : (first last a : ℕ) (rest : Text) → last < ADDRESS_END → first ≤ a → a ≤ last → address_at first last (address_token a ++ rest) ≡ Some (a, rest)
+pub address_spelled : (first last a : ℕ) (rest : Text) → last < ADDRESS_END → first ≤ a → a ≤ last
+    → address_at first last (address_token a ++ rest) ≡ Some (a, rest)
 unfolding address_at
 address_spelled first last a rest small from to = rw (address_again first last a small from to) refl
 

@@ -9,7 +9,8 @@ use Rattle.std.proofs.Math.Nat.{mul-add, mul_left_comm, mul-le-mul}
 spread : (n f : ℕ) → n * (2048 * f + 1) ≡ 2048 * (n * f) + n
 spread n f = rw (mul-add n (2048 * f) 1, mul_left_comm n 2048 f) (omega arith)
 
-below : (a m k : ℕ) → a ≡ 2048 * m + suc k → k ≤ 1022 → int_div_euclid (neg_ℤ (pos a) +ℤ pos 1048576) (pos 2097152) *ℤ pos 1024 ≡ neg_ℤ (pos (1024 * ((m + 512) / 1024)))
+below : (a m k : ℕ) → a ≡ 2048 * m + suc k → k ≤ 1022
+    → int_div_euclid (neg_ℤ (pos a) +ℤ pos 1048576) (pos 2097152) *ℤ pos 1024 ≡ neg_ℤ (pos (1024 * ((m + 512) / 1024)))
 below a m k e h = grind (arith, ints, e, h)
 
 down : (m : ℕ) → rounded_move (neg_ℤ (pos m)) ≡ neg_ℤ (pos (1024 * ((m + 512) / 1024)))
@@ -31,7 +32,8 @@ pub record Rounds (size : ℤ) (f : ℕ) : Type 0 where
   pub finer_low : negsuc 2147483647 ≤ℤ (size *ℤ pos (2048 * f + 1))
   pub finer_high : (size *ℤ pos (2048 * f + 1)) ≤ℤ pos 2147483648
 
-rounds : (size : ℤ) (f : ℕ) → negsuc 1022 ≤ℤ size → size ≤ℤ pos 1023 → int_div_euclid (size *ℤ pos (2048 * f + 1) +ℤ pos 1048576) (pos 2097152) *ℤ pos 1024 ≡ rounded_move (size *ℤ pos f)
+rounds : (size : ℤ) (f : ℕ) → negsuc 1022 ≤ℤ size → size ≤ℤ pos 1023
+    → int_div_euclid (size *ℤ pos (2048 * f + 1) +ℤ pos 1048576) (pos 2097152) *ℤ pos 1024 ≡ rounded_move (size *ℤ pos f)
 rounds size f low high = grind (arith, pos, spread, negsuc, down, below)
 
 pub rounds_at : (size : ℤ) (scale : ℕ) → negsuc 1022 ≤ℤ size → size ≤ℤ pos 1023 → scale ≤ 9 → Rounds size (2 ^ (scale + 1))

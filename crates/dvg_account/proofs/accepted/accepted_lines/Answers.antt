@@ -19,5 +19,6 @@ returns c = if_ok c.finish.result c.finish.ensures (λ lines all. record {
       (then (then (then (then (then c.push_machine.ensures c.push_some.ensures)
       (then c.push_accepted.ensures (then c.push_accepted-2.ensures (then c.push_accepted-3.ensures
       (then c.push_accepted-4.ensures (then c.push_accepted-5.ensures c.push_some-2.ensures))))))
-      c.push_some-3.ensures) (then c.push_accepted-6.ensures c.push_some-4.ensures)) (then c.push_accepted-7.ensures c.push_some-5.ensures));
+      c.push_some-3.ensures) (then c.push_accepted-6.ensures c.push_some-4.ensures))
+          (then c.push_accepted-7.ensures c.push_some-5.ensures));
 })

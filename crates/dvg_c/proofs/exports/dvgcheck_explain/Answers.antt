@@ -6,19 +6,22 @@ pub returns-in-Some : goal.returns-in-Some
 returns-in-Some c =
     record {
       verdict = Ok c.verdict-verdict.result.0;
-      holds = c.in-Ok.ensures.ok c.args.frame.now c.verdict-verdict.result.0 c.verdict-verdict.ensures.verdict c.verdict-verdict.ensures.told;
+      holds = c.in-Ok.ensures.ok c.args.frame.now c.verdict-verdict.result.0 c.verdict-verdict.ensures.verdict
+          c.verdict-verdict.ensures.told;
       answer_is = c.put_text.ensures.answer ∙ c.own_answer-answer.ensures.value;
       frame_is = c.put_text.ensures.frame;
       text = Ok c.in-Some.account.items;
       explains = c.in-Some.ensures;
-      told = subst (λ text. IsPut text c.args.text.now c.put_text.new.buffer c.put_text.result) c.deref.ensures.value c.put_text.ensures.put;
+      told = subst (λ text. IsPut text c.args.text.now c.put_text.new.buffer c.put_text.result) c.deref.ensures.value
+          c.put_text.ensures.put;
     }
 
 pub returns-in-Ok : goal.returns-in-Ok
 returns-in-Ok c =
     record {
       verdict = Ok c.verdict-verdict.result.0;
-      holds = c.in-Ok.ensures.ok c.args.frame.now c.verdict-verdict.result.0 c.verdict-verdict.ensures.verdict c.verdict-verdict.ensures.told;
+      holds = c.in-Ok.ensures.ok c.args.frame.now c.verdict-verdict.result.0 c.verdict-verdict.ensures.verdict
+          c.verdict-verdict.ensures.told;
       answer_is = ap (λ t. t.answer) c.no_text.ensures ∙ c.own_answer-answer.ensures.value;
       frame_is = ap (λ t. t.frame) c.no_text.ensures;
       text = Err NO_TEXT_MEMORY;

@@ -4,17 +4,20 @@ use Rattle.dvg_c.proofs.Made.{verdict_of}
 use Rattle.dvg_c.proofs.exports.dvgcheck_make.Goals as goal
 
 pub returns-in_default : goal.returns-in_default
-returns-in_default c = record { verdict = Err unmade.Machine; holds = c.in_default.ensures; told = c.no_certificate.ensures c.args.text.now }
+returns-in_default c = record { verdict = Err unmade.Machine; holds = c.in_default.ensures; told =
+    c.no_certificate.ensures c.args.text.now }
 
 pub returns-in_default-map_between : goal.returns-in_default-map_between
 returns-in_default-map_between c =
-    record { verdict = Err unmade.Map; holds = (c.in-Some.ensures.1, c.in_default-map_between.ensures); told = c.no_certificate-in_default-map_between.ensures c.args.text.now }
+    record { verdict = Err unmade.Map; holds = (c.in-Some.ensures.1, c.in_default-map_between.ensures); told =
+        c.no_certificate-in_default-map_between.ensures c.args.text.now }
 
 pub returns-in-Ok : goal.returns-in-Ok
 returns-in-Ok c =
     record {
       verdict = Ok c.in-Ok.made.items;
-      holds = verdict_of c.args.rom.now (of_each root_of c.args.roots.now) c.args.frames.now c.args.lengths.now c.in-Some.ensures c.in-Some-map_between.ensures (Ok c.in-Ok.made.items) c.in-Ok.ensures.ok;
+      holds = verdict_of c.args.rom.now (of_each root_of c.args.roots.now) c.args.frames.now c.args.lengths.now c.in-Some.ensures
+          c.in-Some-map_between.ensures (Ok c.in-Ok.made.items) c.in-Ok.ensures.ok;
       told = (
         c.put_text.ensures.answer ∙ c.numbered.ensures,
         c.put_text.ensures.frame,
@@ -26,6 +29,7 @@ pub returns-in-Err : goal.returns-in-Err
 returns-in-Err c =
     record {
       verdict = Err c.in-Err.unmade;
-      holds = verdict_of c.args.rom.now (of_each root_of c.args.roots.now) c.args.frames.now c.args.lengths.now c.in-Some.ensures c.in-Some-map_between.ensures (Err c.in-Err.unmade) c.in-Err.ensures.err;
+      holds = verdict_of c.args.rom.now (of_each root_of c.args.roots.now) c.args.frames.now c.args.lengths.now c.in-Some.ensures
+          c.in-Some-map_between.ensures (Err c.in-Err.unmade) c.in-Err.ensures.err;
       told = c.no_certificate-in-Err.ensures c.args.text.now;
     }

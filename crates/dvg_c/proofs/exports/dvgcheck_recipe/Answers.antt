@@ -12,7 +12,8 @@ returns-in-Ok-clause-verdict c =
       verdict = Ok judged.result.verdict;
       holds = (c.in-Ok.ensures.ok.1, coe 0 1 (i. IsVerdict c.args.rom.now (options_are i) judged.result.verdict) judged.ensures.verdict);
       shown = judged.result.witness;
-      told = subst (λ bare. TellsWitness judged.result.witness bare c.args.frame.now c.put_witness.new.buffer c.put_witness.result) c.recipe_answer_of.ensures.value c.put_witness.ensures.told;
+      told = subst (λ bare. TellsWitness judged.result.witness bare c.args.frame.now c.put_witness.new.buffer c.put_witness.result)
+          c.recipe_answer_of.ensures.value c.put_witness.ensures.told;
     }
 
 pub returns-in-Ok-clause-means : goal.returns-in-Ok-clause-means

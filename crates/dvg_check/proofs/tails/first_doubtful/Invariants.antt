@@ -8,7 +8,8 @@ invariant-entries g l = record {
   before : l.left ≤ length l.list;
   few : l.doubtful ≤ length l.list;
   tails : AreTails l.window l.rom (g.E.Entries.list l.entries) l.tails;
-  good : (k : ℕ) (past : Entry) → l.left ≤ k → k < l.doubtful → GoodShape l.mode l.window l.rom (g.E.Entries.list l.entries) (get_or l.list k past);
+  good : (k : ℕ) (past : Entry) → l.left ≤ k → k < l.doubtful
+      → GoodShape l.mode l.window l.rom (g.E.Entries.list l.entries) (get_or l.list k past);
 }
 
 abbrev pub decreases-entries : goal.decreases-entries

@@ -7,10 +7,12 @@ all_right : {A : Type 0} (P : A → Type 0) (xs ys : List A) → AllByRecursion 
 all_right P [] ys a = a
 all_right P (x ∷ xs) ys a = all_right P xs ys a.1
 
-alike_step : (reads : ℕ → Reads) (still : Reads) (n : ℕ) (r : Run) → AllByRecursion (λ p. (k : ℕ) → reads k p ≡ still p) (step still r).fetched → step (reads n) r ≡ step still r
+alike_step : (reads : ℕ → Reads) (still : Reads) (n : ℕ) (r : Run)
+    → AllByRecursion (λ p. (k : ℕ) → reads k p ≡ still p) (step still r).fetched → step (reads n) r ≡ step still r
 alike_step reads still n r h = grind (arith, all_right)
 
-alike_run : (reads : ℕ → Reads) (still : Reads) (r : Run) → LeavesFetched reads still r → (n : ℕ) → run_after reads n r ≡ run_after (λ k. still) n r
+alike_run : (reads : ℕ → Reads) (still : Reads) (r : Run) → LeavesFetched reads still r → (n : ℕ)
+    → run_after reads n r ≡ run_after (λ k. still) n r
 alike_run reads still r leaves zero = refl
 alike_run reads still r leaves (suc n) = grind (arith, (alike_run reads still r leaves n), alike_step, (leaves (suc n)))
 

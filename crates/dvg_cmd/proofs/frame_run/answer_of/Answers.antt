@@ -8,4 +8,6 @@ returns-in-Ok-clause-answers g c =
     c.answer-answer.ensures.answer c.answer-answer.ensures.whole c.answer-answer.ensures.means c.answer-answer.ensures.told
 
 pub returns-in-Ok-clause-count : goal.returns-in-Ok-clause-count
-returns-in-Ok-clause-count g c = subst (λ b. g.R.CountedRead.failures c.read_started.new.frame ≡ count_after b (g.R.CountedRead.failures c.args.frame.now)) (sym c.answer-answer.ensures.judged) c.in-Ok.ensures.count
+returns-in-Ok-clause-count g c =
+    subst (λ b. g.R.CountedRead.failures c.read_started.new.frame ≡ count_after b (g.R.CountedRead.failures c.args.frame.now))
+    (sym c.answer-answer.ensures.judged) c.in-Ok.ensures.count

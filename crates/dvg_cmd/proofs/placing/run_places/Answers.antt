@@ -6,13 +6,21 @@ pub returns-in_err-bytes-clause-refused : goal.returns-in_err-bytes-clause-refus
 returns-in_err-bytes-clause-refused g c = grind (arith, told_err, frames_run_number, of_each)
 
 pub returns-in_err-images-clause-refused : goal.returns-in_err-images-clause-refused
-returns-in_err-images-clause-refused g c = grind (arith, told_err, frames_run_number, of_each, (c.in_err-images.ensures.refused _ _ c.in_ok-bytes.ensures.bytes c.args.roots.now))
+returns-in_err-images-clause-refused g c =
+    grind (arith, told_err, frames_run_number, of_each, (c.in_err-images.ensures.refused _ _ c.in_ok-bytes.ensures.bytes c.args.roots.now))
 
 pub returns-in_err-cert-clause-refused : goal.returns-in_err-cert-clause-refused
-returns-in_err-cert-clause-refused g c = grind (arith, (told_err c.from_residual-in_err-cert.result), frames_run_number, of_each, (frames_refused c.in_ok-images.ensures.images c.in_ok-bytes.ensures.bytes c.deref.ensures.value c.args.roots.now c.in_err-cert.field-0.0 c.in_err-cert.ensures.err c.in_err-cert.ensures.told))
+returns-in_err-cert-clause-refused g c =
+    grind (arith, (told_err c.from_residual-in_err-cert.result), frames_run_number, of_each,
+    (frames_refused c.in_ok-images.ensures.images c.in_ok-bytes.ensures.bytes c.deref.ensures.value c.args.roots.now
+    c.in_err-cert.field-0.0 c.in_err-cert.ensures.err c.in_err-cert.ensures.told))
 
 pub returns-in_err-write_each-clause-prefix : goal.returns-in_err-write_each-clause-prefix
-returns-in_err-write_each-clause-prefix g c = grind (arith, (places_made c.in_ok-images.ensures.images c.in_ok-bytes.ensures.bytes c.deref.ensures.value c.args.roots.now c.args.window c.in_ok-cert.cert.entries c.in_ok-places.places.items c.in_ok-cert.ensures.ok c.in_ok-places.ensures), joined, of_each)
+returns-in_err-write_each-clause-prefix g c =
+    grind (arith, (places_made c.in_ok-images.ensures.images c.in_ok-bytes.ensures.bytes c.deref.ensures.value c.args.roots.now
+    c.args.window c.in_ok-cert.cert.entries c.in_ok-places.places.items c.in_ok-cert.ensures.ok c.in_ok-places.ensures), joined, of_each)
 
 pub returns-clause-text : goal.returns-clause-text
-returns-clause-text g c = grind (arith, (places_made c.in_ok-images.ensures.images c.in_ok-bytes.ensures.bytes c.deref.ensures.value c.args.roots.now c.args.window c.in_ok-cert.cert.entries c.in_ok-places.places.items c.in_ok-cert.ensures.ok c.in_ok-places.ensures), joined, of_each)
+returns-clause-text g c = grind
+    (arith, (places_made c.in_ok-images.ensures.images c.in_ok-bytes.ensures.bytes c.deref.ensures.value c.args.roots.now c.args.window
+    c.in_ok-cert.cert.entries c.in_ok-places.places.items c.in_ok-cert.ensures.ok c.in_ok-places.ensures), joined, of_each)

@@ -1,5 +1,7 @@
 -- Where a made shape ends at a relative place, none of its items stands at an absolute one.
-use Rattle.dvg_make.proofs.Common.{ℕ, List, [], ◌∷◌, sym, ap, subst, Rom, rom_word, Window, End, Entry, Context, shape_context, place_past, place_before, LitInWindow, Item, Shape, Known, LitExtent, GoodShape, Exact, MadeEntry, arith, AtEachOf, AtEveryPlace, everywhere, IsRelative}
+use Rattle.dvg_make.proofs.Common.{ℕ, List, [], ◌∷◌, sym, ap, subst, Rom, rom_word, Window, End, Entry, Context, shape_context,
+    place_past, place_before, LitInWindow, Item, Shape, Known, LitExtent, GoodShape, Exact, MadeEntry, arith, AtEachOf, AtEveryPlace,
+    everywhere, IsRelative}
 use Rattle.dvg_make.proofs.Ends.{made_ends, good_entry}
 use Rattle.dvg_make.proofs.judging.find_made_entry_fault.Goals as goal
 
@@ -27,8 +29,13 @@ module _ (rom : Rom) (list : List Entry) (e : Entry) (made : MadeEntry rom list 
       (each_of (last.stops.i ∷ last.stops.items) (subst IsRelative (sym (ap (λ (k : Known). k.place) last.sums.known)) ends))
 
 -- a made entry that ends at a relative place is good in every window
-relative_good : (rom : Rom) (list : List Entry) (w : Window) (e : Entry) → MadeEntry rom list e → IsRelative e.stop → GoodShape Exact w rom list e
-relative_good rom list w e made ends = good_entry rom list w e made (λ earlier i lead is. relative_in_window w _ _ (everywhere_relative rom list e made ends earlier i.at lead))
+relative_good : (rom : Rom) (list : List Entry) (w : Window) (e : Entry) → MadeEntry rom list e → IsRelative e.stop
+    → GoodShape Exact w rom list e
+relative_good rom list w e made ends =
+    good_entry rom list w e made (λ earlier i lead is. relative_in_window w _ _
+    (everywhere_relative rom list e made ends earlier i.at lead))
 
 pub returns-then-is_relative-clause-ok : goal.returns-then-is_relative-clause-ok
-returns-then-is_relative-clause-ok c = relative_good c.args.rom.now c.args.entries.now c.args.window.now c.args.entry.now c.requires.made (c.is_relative.ensures.0 c.if-is_relative.true)
+returns-then-is_relative-clause-ok c =
+    relative_good c.args.rom.now c.args.entries.now c.args.window.now c.args.entry.now c.requires.made
+    (c.is_relative.ensures.0 c.if-is_relative.true)

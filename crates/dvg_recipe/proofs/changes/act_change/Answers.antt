@@ -4,4 +4,5 @@ use Rattle.dvg_recipe.proofs.Doing.{call_sound}
 use Rattle.dvg_recipe.proofs.changes.act_change.Goals as goal
 
 pub returns-in-Call-clause-sound : goal.returns-in-Call-clause-sound
-returns-in-Call-clause-sound g c = subst IsSoundChange (sym c.call_change.ensures) (call_sound c.callee.result c.args.scale c.callee.ensures.claim c.requires.key)
+returns-in-Call-clause-sound g c =
+    subst IsSoundChange (sym c.call_change.ensures) (call_sound c.callee.result c.args.scale c.callee.ensures.claim c.requires.key)

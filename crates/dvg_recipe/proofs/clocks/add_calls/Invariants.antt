@@ -7,5 +7,6 @@ use Rattle.dvg_recipe.proofs.clocks.add_calls.Given as goal
 abbrev pub invariant-loop-to : goal.invariant-loop-to
 invariant-loop-to g l =
     ((to : ℕ) → Contains (take l.to-index l.targets) to
-    → TakeOn l.counting.timing.now.states (g.E.Entries.list l.counting.entries.now) (clocks_in l.counting.shapes.now) (λ i. i.instr ≡ Jsrl to) l.here l.next)
+    → TakeOn l.counting.timing.now.states (g.E.Entries.list l.counting.entries.now) (clocks_in l.counting.shapes.now)
+        (λ i. i.instr ≡ Jsrl to) l.here l.next)
     × AreNoMore l.initial.next l.next

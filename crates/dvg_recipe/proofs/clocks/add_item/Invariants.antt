@@ -8,6 +8,8 @@ use Rattle.dvg_recipe.proofs.clocks.add_item.Given as goal
 abbrev pub invariant-loop-scale : goal.invariant-loop-scale
 invariant-loop-scale g l =
     ((s : ℕ) (n : ClockRange) → s < l.scale → IsUnder n (get_or l.here.at s None)
-    → IsUnder (taken_past l.counting.timing.now.states (g.E.Entries.list l.counting.entries.now) (clocks_in l.counting.shapes.now) l.item (At s) n)
-    (most_at l.next (scale_past l.counting.timing.now.states (g.E.Entries.list l.counting.entries.now) (clocks_in l.counting.shapes.now) l.item (At s))))
+    → IsUnder (taken_past l.counting.timing.now.states (g.E.Entries.list l.counting.entries.now) (clocks_in l.counting.shapes.now) l.item
+        (At s) n)
+    (most_at l.next (scale_past l.counting.timing.now.states (g.E.Entries.list l.counting.entries.now) (clocks_in l.counting.shapes.now)
+        l.item (At s))))
     × AreNoMore l.initial.next l.next

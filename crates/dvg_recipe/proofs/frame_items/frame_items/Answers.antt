@@ -14,7 +14,8 @@ loop-format-preserved c =
     let next = sym c.next_address.ensures ∙ c.in-Some.is in
     let past = further item c.in-Some.next next in
     let few : length items < ADDRESS_END = omega (arith, inv.1, c.in-Holds.ensures.near) in (
-      subst (λ (l : List Item). LeadsTo Frame (frame_word Board c.args.frame.now) 0 l c.in-Some.next) (sym (ap (λ (l : List Item). reverse l) grown ∙ reverse-append items (item ∷ []))) (inv.0, search rules, next),
+      subst (λ (l : List Item). LeadsTo Frame (frame_word Board c.args.frame.now) 0 l c.in-Some.next)
+          (sym (ap (λ (l : List Item). reverse l) grown ∙ reverse-append items (item ∷ []))) (inv.0, search rules, next),
       omega (arith, ap (λ (l : List Item). length l) grown, length_push items item, inv.1, past),
       frames_push items c.push.new.self.items item grown inv.2 few c.in-Holds.ensures.fields,
     )

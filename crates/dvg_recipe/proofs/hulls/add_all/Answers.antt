@@ -15,9 +15,11 @@ loop-hull-preserved c =
     let e = c.in_ok-add.ensures in
     let lt : c.loop-hull.hull-index < length c.args.more.now = omega (arith, c.loop-hull-test.true) in (
       under_on _ _ _ c.loop-hull.invariant.0 e.kept,
-      under_next c.args.more.now _ c.loop-hull.hull-index (c.loop-hull.hull-index + 1) _ (omega arith) lt (under_on _ _ _ c.loop-hull.invariant.1 e.kept) e.added,
+      under_next c.args.more.now _ c.loop-hull.hull-index (c.loop-hull.hull-index + 1) _ (omega arith) lt
+          (under_on _ _ _ c.loop-hull.invariant.1 e.kept) e.added,
       e.sound,
     )
 
 pub returns-clause-added : goal.returns-clause-added
-returns-clause-added c = under_whole c.args.more.now c.loop-hull.hulls.items c.loop-hull.hull-index (omega (arith, c.loop-hull-test.false)) c.loop-hull.invariant.1
+returns-clause-added c = under_whole c.args.more.now c.loop-hull.hulls.items c.loop-hull.hull-index
+    (omega (arith, c.loop-hull-test.false)) c.loop-hull.invariant.1

@@ -29,9 +29,12 @@ loop-hull-preserved g c =
     let e = c.in_ok-put.ensures in
     let lt : c.loop-hull.hull-index < length c.args.here.now = omega (arith, c.loop-hull-test.true) in (
       λ fine. c.loop-hull.invariant.0 (e.fine fine),
-      λ fine. lead_next c.args.asked.now.window list c.args.asked.now.budget (IsAct list c.args.act.now) c.args.here.now c.loop-hull.hull-index (c.loop-hull.hull-index + 1) _ c.act_change-change.result c.loop-hull.next.items c.put.new.next.items (omega arith) lt
+      λ fine. lead_next c.args.asked.now.window list c.args.asked.now.budget (IsAct list c.args.act.now) c.args.here.now
+          c.loop-hull.hull-index (c.loop-hull.hull-index + 1) _ c.act_change-change.result c.loop-hull.next.items c.put.new.next.items
+          (omega arith) lt
           (c.loop-hull.invariant.1 (e.fine fine)) e.kept
-          (λ k i act format. does_so list _ _ _ k i c.act_change-change.ensures.value (act.each _ format) (act.into _)) (e.keeps fine) (e.added fine),
+          (λ k i act format. does_so list _ _ _ k i c.act_change-change.ensures.value (act.each _ format) (act.into _)) (e.keeps fine)
+              (e.added fine),
       under_on _ _ _ c.loop-hull.invariant.2 e.kept,
       e.sound,
       c.see.ensures ∙ c.loop-hull.invariant.4,
@@ -40,4 +43,5 @@ loop-hull-preserved g c =
 pub returns-clause-leads : goal.returns-clause-leads
 returns-clause-leads g c =
     let list = g.E.Entries.list c.args.entries.now in
-    λ fine. lead_whole c.args.asked.now.window list c.args.asked.now.budget (IsAct list c.args.act.now) c.args.here.now c.loop-hull.next.items c.loop-hull.hull-index (omega (arith, c.loop-hull-test.false)) (c.loop-hull.invariant.1 fine)
+    λ fine. lead_whole c.args.asked.now.window list c.args.asked.now.budget (IsAct list c.args.act.now) c.args.here.now
+        c.loop-hull.next.items c.loop-hull.hull-index (omega (arith, c.loop-hull-test.false)) (c.loop-hull.invariant.1 fine)

@@ -16,8 +16,10 @@ loop-scale-preserved g c =
     let inv = c.loop-scale.invariant in
     let e = c.in_ok-add_place.ensures in (
       λ fine. inv.0 (e.fine fine),
-      λ fine. scales_next (λ s. LeadOn w list budget (IsAct list (PlaceAct (places_of range) s)) here more) range.scales n (n + 1) (omega arith) (e.leads fine)
-          (λ s lt there. lead_more w list budget (IsAct list (PlaceAct (places_of range) s)) here c.loop-scale.next.items more e.kept (inv.1 (e.fine fine) s lt there)),
+      λ fine. scales_next (λ s. LeadOn w list budget (IsAct list (PlaceAct (places_of range) s)) here more) range.scales n (n + 1)
+          (omega arith) (e.leads fine)
+          (λ s lt there. lead_more w list budget (IsAct list (PlaceAct (places_of range) s)) here c.loop-scale.next.items more e.kept
+              (inv.1 (e.fine fine) s lt there)),
       under_on _ _ _ inv.2 e.kept,
       e.sound,
       e.noted ∙ inv.4,
@@ -25,5 +27,6 @@ loop-scale-preserved g c =
 
 pub returns-clause-leads : goal.returns-clause-leads
 returns-clause-leads g c =
-    λ fine. lead_places c.args.asked.now.window (g.E.Entries.list c.args.entries.now) c.args.asked.now.budget c.args.here.now c.loop-scale.next.items c.args.range.now
+    λ fine. lead_places c.args.asked.now.window (g.E.Entries.list c.args.entries.now) c.args.asked.now.budget c.args.here.now
+        c.loop-scale.next.items c.args.range.now
     (λ s there. c.loop-scale.invariant.1 fine s (in_scales c.args.range.now.scales s c.loop-scale.scale (search rules) there) there)

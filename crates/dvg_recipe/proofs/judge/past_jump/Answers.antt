@@ -28,7 +28,8 @@ pub loop-hull-preserved : goal.loop-hull-preserved
 loop-hull-preserved c =
     let e = c.in_ok-put.ensures in
     let lt : c.loop-hull.hull-index < length c.args.here.now = omega (arith, c.loop-hull-test.true) in (
-      λ list fine. lead_next c.args.asked.now.window list c.args.asked.now.budget IsJump c.args.here.now c.loop-hull.hull-index (c.loop-hull.hull-index + 1) _ c.still.result c.loop-hull.next.items c.put.new.next.items (omega arith) lt
+      λ list fine. lead_next c.args.asked.now.window list c.args.asked.now.budget IsJump c.args.here.now c.loop-hull.hull-index
+          (c.loop-hull.hull-index + 1) _ c.still.result c.loop-hull.next.items c.put.new.next.items (omega arith) lt
           (c.loop-hull.invariant.0 list (e.fine fine)) e.kept
           (λ k i jump format. does_so list _ _ _ k i c.still.ensures (jump_is list _ k i jump format) tt) (e.keeps fine) (e.added fine),
       e.sound,
@@ -37,4 +38,6 @@ loop-hull-preserved c =
 
 pub returns-clause-leads : goal.returns-clause-leads
 returns-clause-leads c =
-    λ fine. (sym c.loop-hull.invariant.2 ∙ (c.end.ensures fine).0, λ list. lead_whole c.args.asked.now.window list c.args.asked.now.budget IsJump c.args.here.now c.loop-hull.next.items c.loop-hull.hull-index (omega (arith, c.loop-hull-test.false)) (c.loop-hull.invariant.0 list (c.end.ensures fine).1))
+    λ fine. (sym c.loop-hull.invariant.2 ∙ (c.end.ensures fine).0,
+        λ list. lead_whole c.args.asked.now.window list c.args.asked.now.budget IsJump c.args.here.now c.loop-hull.next.items
+        c.loop-hull.hull-index (omega (arith, c.loop-hull-test.false)) (c.loop-hull.invariant.0 list (c.end.ensures fine).1))

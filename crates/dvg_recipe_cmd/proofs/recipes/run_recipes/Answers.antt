@@ -11,12 +11,16 @@ returns-in_err-outcome-clause-prefix g c =
     on_err c.from_residual.result (
       _,
       c.next.new.self,
-      rw same at (Yields-more g.I.Iterator.next_gives c.into_iter-recipe-iterator.result c.loop-recipe.yielded c.loop-recipe.recipe-iterator c.in-Some.recipe c.next.new.self c.loop-recipe.yielded_by c.in-Some.ensures.steps),
-      cut_recipes g.R.Read.remaining g.R.CountedRead.failures _ _ _ c.loop-recipe.yielded _ _ _ _ _ c.loop-recipe.invariant.so_far c.in-Some.recipe _ (rw c.of-wanted.ensures at c.in_err-outcome.ensures.prefix),
+      rw same at (Yields-more g.I.Iterator.next_gives c.into_iter-recipe-iterator.result c.loop-recipe.yielded
+          c.loop-recipe.recipe-iterator c.in-Some.recipe c.next.new.self c.loop-recipe.yielded_by c.in-Some.ensures.steps),
+      cut_recipes g.R.Read.remaining g.R.CountedRead.failures _ _ _ c.loop-recipe.yielded _ _ _ _ _ c.loop-recipe.invariant.so_far
+          c.in-Some.recipe _ (rw c.of-wanted.ensures at c.in_err-outcome.ensures.prefix),
     )
 
 pub loop-recipe-preserved : goal.loop-recipe-preserved
-loop-recipe-preserved g c = search (rules, more_recipes g.R.Read.remaining g.R.CountedRead.failures _ _ _ c.loop-recipe.yielded _ _ _ _ _ c.loop-recipe.invariant.so_far c.in-Some.recipe _ _ _ _ (rw c.of-wanted.ensures at c.in_ok-outcome.ensures.ok) c.or_worse-worst.ensures)
+loop-recipe-preserved g c = search
+    (rules, more_recipes g.R.Read.remaining g.R.CountedRead.failures _ _ _ c.loop-recipe.yielded _ _ _ _ _ c.loop-recipe.invariant.so_far
+    c.in-Some.recipe _ _ _ _ (rw c.of-wanted.ensures at c.in_ok-outcome.ensures.ok) c.or_worse-worst.ensures)
 
 pub returns-clause-report : goal.returns-clause-report
 returns-clause-report g c =

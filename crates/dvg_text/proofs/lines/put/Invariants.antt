@@ -8,7 +8,8 @@ invariant-putting g l = record {
   within : l.at ≤ length l.text;
   held : Buffered (g.W.Write.contents l.initial.out) (g.W.Write.contents l.out) l.held.items (l.initial.held.items ++ take l.at l.text);
   counts : g.W.CountedWrite.failures l.out ≡ g.W.CountedWrite.failures l.initial.out;
-  fits : array_vec_len l.initial.held + length l.text ≤ MOST_AT_ONCE → (l.at ≡ 0) × (l.held.items ≡ l.initial.held.items) × (l.out ≡ l.initial.out);
+  fits : array_vec_len l.initial.held + length l.text ≤ MOST_AT_ONCE → (l.at ≡ 0) × (l.held.items ≡ l.initial.held.items)
+      × (l.out ≡ l.initial.out);
 }
 
 abbrev pub decreases-putting : goal.decreases-putting

@@ -11,6 +11,9 @@ pub returns-clause-right : goal.returns-clause-right
 returns-clause-right c =
     record {
       map = c.requires.right.map;
-      done = rw (c.in_ok-add.ensures.ok, c.in_ok-keep_tails.ensures.same) (done_more c.args.rom.now c.args.self.now.done c.args.entry c.requires.right.done c.requires.made c.requires.new c.requires.room);
-      tails = rw c.in_ok-add.ensures.ok (tails_grow c.args.rom.now c.keep_tails.new.self.done _ c.keep_tails.new.self.tails (extends_more c.keep_tails.new.self.done (c.args.entry ∷ [])) c.in_ok-keep_tails.ensures.right.tails);
+      done = rw (c.in_ok-add.ensures.ok, c.in_ok-keep_tails.ensures.same)
+          (done_more c.args.rom.now c.args.self.now.done c.args.entry c.requires.right.done c.requires.made c.requires.new c.requires.room);
+      tails = rw c.in_ok-add.ensures.ok
+          (tails_grow c.args.rom.now c.keep_tails.new.self.done _ c.keep_tails.new.self.tails
+          (extends_more c.keep_tails.new.self.done (c.args.entry ∷ [])) c.in_ok-keep_tails.ensures.right.tails);
     }
