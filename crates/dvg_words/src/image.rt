@@ -118,7 +118,9 @@ impl<'a> RomImage<'a> {
     #[tactic(auto, using(crate::proofs::WordLists::words_of_len))]
     pub fn prove_whole(&self)
         ensures { IsRom self.now }
-    {}
+    {
+        let _ = &self.bytes;
+    }
 
     /// The machine that runs the ROM.
     pub fn machine(&self) -> Machine
@@ -200,7 +202,9 @@ impl<'a> FrameImage<'a> {
     #[tactic(auto, using(crate::proofs::WordLists::words_of_is_frame))]
     pub fn prove_whole(&self)
         ensures { IsFrame self.now }
-    {}
+    {
+        let _ = &self.bytes;
+    }
 
     /// The word at a word address, `None` past the last word.
     #[tactic(auto, using(crate::proofs::WordLists::words_of_len))]
