@@ -17,7 +17,7 @@ returns-clause-value g c words accepted =
 pub returns-clause-circuit : goal.returns-clause-circuit
 returns-clause-circuit g c board =
     let mem : IsMemory (record { frame = c.args.frame.now; rom = c.args.rom.now }) =
-        record { frame = c.words-words.ensures.frame; rom = c.map-map.ensures.rom } in
+        record { frame = c.prove_whole-2.ensures; rom = c.prove_whole.ensures } in
     on_circuit (record { frame = c.args.frame.now; rom = c.args.rom.now }) (g.E.Entries.list c.args.entries.now) c.requires.frame.0
         c.requires.frame.1 c.args.timing.now.states c.args.shapes.now c.requires.told c.args.timing.now.limit mem c.requires.certificate
         c.requires.good c.items_clocks.result (returns-clause-value g c c.requires.frame.0 c.requires.frame.1) board

@@ -16,7 +16,7 @@ returns-then-has_end-clause-ok c =
         (c.in_ok-places.ensures ∙ ap (λ (l : List Item). record { rom = c.args.rom.now; items = l }) c.deref.ensures.value)
         c.in_ok-here.ensures in
     let there = subst (λ (l : List ℕ). Contains l (length all.items.items)) c.deref-2.ensures.value end.1 in
-    belongs_if c.args.rom.now c.args.frame.now all c.in_ok-all.ensures.items c.args.recipe.now c.words-words.ensures.frame end.0
+    belongs_if c.args.rom.now c.args.frame.now all c.in_ok-all.ensures.items c.args.recipe.now c.prove_whole.ensures end.0
         ((those.each (length all.items.items)).0 there)
 
 pub returns-clause-err : goal.returns-clause-err

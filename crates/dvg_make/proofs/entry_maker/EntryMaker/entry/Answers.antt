@@ -5,7 +5,7 @@ use Rattle.dvg_make.proofs.Onward.{found_claim}
 use Rattle.dvg_make.proofs.entry_maker.EntryMaker.entry.Goals as goal
 
 pub invariant_of-self : goal.invariant_of-self
-invariant_of-self c = c.new.ensures.right c.self.inside.rom.now c.map-map.ensures.rom.map
+invariant_of-self c = c.new.ensures.right c.self.inside.rom.now c.prove_whole.ensures.map
 
 pub returns-in-Err-clause-err : goal.returns-in-Err-clause-err
 returns-in-Err-clause-err c =
