@@ -17,8 +17,8 @@ pub cut_at : (es : List Entry) (i : ℕ) (d : Entry) → i < length es → (es �
     × (take (suc i) es ≡ take i es ++ get_or es i d ∷ [])
 cut_at [] i d lt = absurd (omega arith)
 cut_at (x ∷ es) zero d lt = (refl, refl)
-cut_at (x ∷ es) (suc i) d lt = let r =
-    cut_at es i d (omega arith) in (ap (λ (t : List Entry). x ∷ t) r.0, ap (λ (t : List Entry). x ∷ t) r.1)
+cut_at (x ∷ es) (suc i) d lt =
+    let r = cut_at es i d (omega arith) in (ap (λ (t : List Entry). x ∷ t) r.0, ap (λ (t : List Entry). x ∷ t) r.1)
 
 -- an entry of a certificate is within the limits, and stands after those before it
 pub stands_there : (map : MemoryMap) (es : List Entry) (i : ℕ) (d : Entry) → IsCertificate map es → i < length es

@@ -61,5 +61,5 @@ found_first addr key e es false (Some g) is h r =
 pub found : (es : List Entry) (addr : ℕ) (key : Key) → IsRising es → IfSome (entry_at es addr key) (IsOnlyAt es addr key)
     × IfNone (entry_at es addr key) (HasNoneAt es addr key)
 found [] addr key h = (tt, λ f c a k. absurd (omega (arith, c.1)))
-found (e ∷ es) addr key h = found_first addr key e es (is_at addr key e) (entry_at es addr key) refl h
-    (found es addr key (rising_tail e es h))
+found (e ∷ es) addr key h =
+    found_first addr key e es (is_at addr key e) (entry_at es addr key) refl h (found es addr key (rising_tail e es h))

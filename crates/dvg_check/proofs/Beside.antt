@@ -78,8 +78,8 @@ module _ (a b : Machine) (Told : Course → List Stroke → Type 0) (R : Relatio
 
     ahead_on : (c : Course) (s : State) (mid : Status) → next_status (on a m) s ≡ mid → Ahead c (Running s)
         → Ahead (course_after (on a m) (Running s) c) mid
-    ahead_on c s mid step ahead = record
-        { rounds = λ k t run. ahead.rounds (suc k) t (mid, step, run); told = λ k to run. ahead.told (suc k) to (mid, step, run) }
+    ahead_on c s mid step ahead =
+        record { rounds = λ k t run. ahead.rounds (suc k) t (mid, step, run); told = λ k to run. ahead.told (suc k) to (mid, step, run) }
 
     beside_next : (c : Course) (s t : State) → Ahead c (Running s) → Beside R c s t
         → Both (Beside R (course_after (on a m) (Running s) c)) (next_status (on a m) s) (next_status (on b m) t)

@@ -8,8 +8,8 @@ use Rattle.dvg_check.proofs.Faults.{neither_less}
 -- where only one rule can be broken, it is that one
 only : {Why : Type 0} (number : Why → ℕ) (rule : ℕ → Why) → ((why : Why) → rule (number why) ≡ why) → (why one : Why) → (why ≢ one → ⊥)
     → why ≡ one
-only {Why} number rule back why one h = let same : number why ≡ number one =
-    grind (arith, neither_less) in sym (back why) ∙ ap rule same ∙ back one
+only {Why} number rule back why one h =
+    let same : number why ≡ number one = grind (arith, neither_less) in sym (back why) ∙ ap rule same ∙ back one
 
 -- a fault, in rules that are told apart by their numbers
 module _ {Why : Type 0} (number : Why → ℕ) (rule : ℕ → Why) (back : (why : Why) → rule (number why) ≡ why) (c : Context) (word : Source)

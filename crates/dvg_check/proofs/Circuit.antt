@@ -76,8 +76,9 @@ module _ (m : Memory) (w : Window) (words depth : ℕ) (mem : IsMemory m) (board
   on n steps (Fault s) within reached agrees going deep = absurd (safe_at steps (Fault s) reached)
 
   follows : (n : ℕ) → Follows m reads c n
-  follows zero = record { steps = 0; status = Running (first c); within = omega arith; reached = refl; agrees =
-      agree 0 (Running (first c)) refl; going = λ s e. refl; deepest = (0, omega arith, omega (arith, begun.pointer)) }
+  follows zero =
+      record { steps = 0; status = Running (first c); within = omega arith; reached = refl; agrees = agree 0 (Running (first c)) refl;
+      going = λ s e. refl; deepest = (0, omega arith, omega (arith, begun.pointer)) }
   follows (suc n) = let f = follows n in on n f.steps f.status f.within f.reached f.agrees f.going f.deepest
 
   -- ---- what is safe

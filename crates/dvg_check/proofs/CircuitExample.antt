@@ -15,8 +15,9 @@ registers counters scale pointer returns =
     record { pc = 0; counters = counters; scale = scale; pointer = pointer; returns = returns; halted = false }
 
 same_registers : (c : Circuit) → IsStart c → registers c.counters c.scale c.pointer c.returns ≡ c
-same_registers c begun = sym (λ i. record
-    { pc = begun.pc i; counters = c.counters; scale = c.scale; pointer = c.pointer; returns = c.returns; halted = begun.running i })
+same_registers c begun =
+    sym (λ i. record { pc = begun.pc i; counters = c.counters; scale = c.scale; pointer = c.pointer; returns = c.returns; halted =
+    begun.running i })
 
 module _ (counters : Counters) (scale pointer : ℕ) (returns : List ℕ) (four : length returns ≡ 4) (other : ℕ) where
   abbrev at : ℕ → Run

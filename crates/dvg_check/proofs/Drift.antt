@@ -85,8 +85,8 @@ near_window n k outer inner p q inset few near there = omega (arith, ints, inset
 
 -- what is told of a run: from the first LABS on it has few draws, before it it lights nothing, and all is lit in the inner window
 abbrev Told : ℕ → Window → Course → List Stroke → Type 0
-Told n inner c strokes = (c.by_labs ≡ true → length c.moves ≤ n) × (c.by_labs ≡ false → strokes ≡ [])
-    × AllByRecursion (Ends (InWindow inner)) strokes
+Told n inner c strokes =
+    (c.by_labs ≡ true → length c.moves ≤ n) × (c.by_labs ≡ false → strokes ≡ []) × AllByRecursion (Ends (InWindow inner)) strokes
 
 abbrev LitNear : Window → Relation
 LitNear outer c p k q l = PlacesNear c p k q l × AllByRecursion (Ends (InWindow outer)) l

@@ -52,12 +52,13 @@ pub accepted : (machine : Machine) (words : List ℕ) (list : List Entry) (items
         (depth_before (frame_context machine list) items)
 accepted machine words list items at leads halts kept =
     record { keeps = all_kept Frame (frame_word machine words) 0 FrameWhy (FramePlaceKeeps screen machine words list 20000) items
-        (record { at = at; format = Short; instr = Halt }) leads halts refl kept; items = items; at = at; format = Short; leads =
-        leads; halts = halts; count_is = refl; depth_is = refl }
+        (record { at = at; format = Short; instr = Halt }) leads halts refl kept; items =
+        items; at = at; format = Short; leads = leads; halts = halts; count_is = refl; depth_is = refl }
 
 frame_good : (machine : Machine) → GoodFrame screen machine example_frame example_list 20000 7 1
 unfolding cell_at instruction_of
-frame_good machine = accepted machine example_frame example_list (call_item ∷ labs_item ∷ []) 3 (grind (arith)) (grind (arith))
+frame_good machine =
+    accepted machine example_frame example_list (call_item ∷ labs_item ∷ []) 3 (grind (arith)) (grind (arith))
     (((tt, λ why. grind (arith, ints)), λ why. grind (arith, ints)), λ why. grind (arith, ints))
 
 -- ---- all

@@ -33,7 +33,8 @@ module _ (kind : Kind) (word : Source) (first : ℕ) (Why : Type 0) (keeps : Lis
 
     pub same_items : (p q : ℕ) (u v : Why) → (f : FaultAt order kind word first keeps p u)
         → (g : FaultAt order kind word first keeps q v) → Same f.items g.items p q
-    same_items p q u v f g = same_lead kind word first f.items g.items p q f.leads g.leads
+    same_items p q u v f g =
+        same_lead kind word first f.items g.items p q f.leads g.leads
         (neither_less (length f.items) (length g.items) (not_before p q u v f g) (not_before q p v u g f))
 
     not_lower : (p q : ℕ) (u v : Why) → (f : FaultAt order kind word first keeps p u) → (g : FaultAt order kind word first keeps q v)
@@ -59,8 +60,9 @@ rule_of n =
         frame.OffScreen else if n == 47 then frame.NoEntry else frame.Budget
 
 pub rule_of-number : (why : FrameWhy) → rule_of (frame_number why) ≡ why
-rule_of-number = elim [ frame.Unmapped ↦ refl | frame.Odd ↦ refl | frame.ReturnInFrame ↦ refl | frame.BackJump ↦ refl | frame.BeamUnknown
-    ↦ refl | frame.ScaleUnknown ↦ refl | frame.OffScreen ↦ refl | frame.NoEntry ↦ refl | frame.Budget ↦ refl ]
+rule_of-number =
+    elim [ frame.Unmapped ↦ refl | frame.Odd ↦ refl | frame.ReturnInFrame ↦ refl | frame.BackJump ↦ refl | frame.BeamUnknown ↦ refl |
+    frame.ScaleUnknown ↦ refl | frame.OffScreen ↦ refl | frame.NoEntry ↦ refl | frame.Budget ↦ refl ]
 
 pub one_fault : OneFault
 one_fault w machine words list budget f g a b =
@@ -93,9 +95,10 @@ shape_rule_of n =
         shape.ScaleDiffers else if n == 31 then shape.BoxTooSmall else if n == 32 then shape.WordsDiffer else shape.DepthDiffers
 
 pub shape_rule_of-number : (why : ShapeWhy) → shape_rule_of (shape_number why) ≡ why
-shape_rule_of-number = elim [ shape.Unmapped ↦ refl | shape.Odd ↦ refl | shape.HaltInShape ↦ refl | shape.BeamUnknown ↦ refl |
-    shape.ScaleUnknown ↦ refl | shape.OffScreen ↦ refl | shape.NoEntry ↦ refl | shape.TooDeep ↦ refl | shape.TooManyWords ↦ refl |
-    shape.EndDiffers ↦ refl | shape.ScaleDiffers ↦ refl | shape.BoxTooSmall ↦ refl | shape.WordsDiffer ↦ refl | shape.DepthDiffers ↦ refl ]
+shape_rule_of-number =
+    elim [ shape.Unmapped ↦ refl | shape.Odd ↦ refl | shape.HaltInShape ↦ refl | shape.BeamUnknown ↦ refl | shape.ScaleUnknown ↦ refl |
+    shape.OffScreen ↦ refl | shape.NoEntry ↦ refl | shape.TooDeep ↦ refl | shape.TooManyWords ↦ refl | shape.EndDiffers ↦ refl |
+    shape.ScaleDiffers ↦ refl | shape.BoxTooSmall ↦ refl | shape.WordsDiffer ↦ refl | shape.DepthDiffers ↦ refl ]
 
 pub no_shape_fault : NoShapeFault
 no_shape_fault mode w rom list f good s =

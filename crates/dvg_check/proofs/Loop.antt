@@ -41,8 +41,8 @@ module _ (Why : Type 0) (order : Why → ℕ) (missing odd : Why) (Keeps : Seen 
 
   pub found_missing : (cursor : Cursor) → Walked context word first keeps cursor → cell_at word cursor.at ≡ Missing
       → FaultFound order context word first keeps cursor.at missing cursor.known found.Missing
-  found_missing cursor k is = fault_here cursor Missing missing found.Missing k is (λ h. h refl)
-      (λ other lt e. omega (arith, lt, ap order e)) is
+  found_missing cursor k is =
+      fault_here cursor Missing missing found.Missing k is (λ h. h refl) (λ other lt e. omega (arith, lt, ap order e)) is
 
   pub found_odd : (cursor : Cursor) → Walked context word first keeps cursor → cell_at word cursor.at ≡ Odd
       → FaultFound order context word first keeps cursor.at odd cursor.known found.Odd

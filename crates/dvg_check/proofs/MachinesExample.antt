@@ -25,8 +25,9 @@ edge_before machine = grind (arith, ints)
 
 pub edge_accepted : GoodFrame screen Profile edge_frame [] 20000 7 0
 unfolding cell_at instruction_of displacement
-edge_accepted = accepted Profile edge_frame [] (draw_at 4 ∷ draw_at 2 ∷ labs_at 1022 ∷ []) 6
-    (((refl, refl, refl), refl, refl), refl, refl) refl ((edge_before Profile, λ why. grind (arith, ints)), λ why. grind (arith, ints))
+edge_accepted =
+    accepted Profile edge_frame [] (draw_at 4 ∷ draw_at 2 ∷ labs_at 1022 ∷ []) 6 (((refl, refl, refl), refl, refl), refl, refl) refl
+    ((edge_before Profile, λ why. grind (arith, ints)), λ why. grind (arith, ints))
 
 -- the second draw of the board ends right of the window, and keeps each rule of a lower number
 pub edge_refused : FirstFrameFault screen Board edge_frame [] 20000 (record { word = 4; why = frame.OffScreen })
@@ -44,8 +45,9 @@ edge_refused =
 
 pub left_accepted : GoodFrame screen Board left_frame [] 20000 7 0
 unfolding cell_at instruction_of displacement
-left_accepted = accepted Board left_frame [] (draw_at 4 ∷ back_item ∷ labs_at 4088 ∷ []) 6 (((refl, refl, refl), refl, refl), refl, refl)
-    refl ((((tt, λ why. grind (arith, ints)), λ why. grind (arith, ints)), λ why. grind (arith, ints)), λ why. grind (arith, ints))
+left_accepted =
+    accepted Board left_frame [] (draw_at 4 ∷ back_item ∷ labs_at 4088 ∷ []) 6 (((refl, refl, refl), refl, refl), refl, refl) refl
+    ((((tt, λ why. grind (arith, ints)), λ why. grind (arith, ints)), λ why. grind (arith, ints)), λ why. grind (arith, ints))
 
 -- the profile decodes no LABS to -8
 pub left_refused : FirstFrameFault screen Profile left_frame [] 20000 (record { word = 0; why = frame.Odd })

@@ -117,7 +117,8 @@ module _ (mode : Mode) (m : Memory) (w : Window) (box : LitBox) (base : Point) (
       let named : (f.addr ≡ to) × ((g : ℕ) → ScaleFits (scale_before c earlier) g → ScaleFits f.key g) = grind (arith, listed_at) in
       let under : length rs + depth_under i.instr (callee c earlier i.instr) ≡ length (p ∷ rest) + f.depth =
           ap (λ o. length rs + depth_under i.instr o) is ∙ deep f in
-      let e : State = record s { pc = to; return_stack = p ∷ rest; max_stack = max s.max_stack (length (p ∷ rest)); fetched =
+      let e : State =
+          record s { pc = to; return_stack = p ∷ rest; max_stack = max s.max_stack (length (p ∷ rest)); fetched =
           places i.format i.at ++ s.fetched } in
       let one = one_step mode m Ok (LitFits w box base) (word_count i.format) (length (p ∷ rest)) i.format i.at s e [] step refl own refl
           tt refl refl in

@@ -32,7 +32,8 @@ pub record Grows (s t : State) : Type 0 where
   pub stored : s.max_stack ≤ t.max_stack
 
 grows_on : (s t u : State) → Grows s t → Grows t u → Grows s u
-grows_on s t u a b = search (b.words ++ a.words, b.strokes ++ a.strokes,
+grows_on s t u a b =
+    search (b.words ++ a.words, b.strokes ++ a.strokes,
     b.fetched ∙ ap (λ l. b.words ++ l) a.fetched ∙ sym (append_assoc b.words a.words s.fetched),
     b.drew ∙ ap (λ l. b.strokes ++ l) a.drew ∙ sym (append_assoc b.strokes a.strokes s.strokes), arith)
 

@@ -61,8 +61,8 @@ module _ (mode : Mode) (m : Memory) (w : Window) (list : List Entry) (e : Entry)
 
   rule : (earlier : List Item) (i : Item) → LeadsTo Shape (rom_word m.rom) e.addr earlier i.at
       → cell_at (rom_word m.rom) i.at ≡ Holds i.format i.instr → (why : ShapeWhy) → ShapeKeeps mode w e (seen_at context earlier i) why
-  rule earlier i lead is why = subst
-      (λ c. CellKeeps shape.Unmapped shape.Odd (λ j. ShapeKeeps mode w e (seen_at context earlier j)) i.at c why) is
+  rule earlier i lead is why =
+      subst (λ c. CellKeeps shape.Unmapped shape.Odd (λ j. ShapeKeeps mode w e (seen_at context earlier j)) i.at c why) is
       (keep earlier i.at lead why)
 
   item_facts : ((f : Entry) → Contains list f → f.words < e.words → Behaves mode m w f) → (earlier : List Item) (i : Item)

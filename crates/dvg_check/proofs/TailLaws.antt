@@ -83,8 +83,8 @@ lit_over w whole box lit place second m known scale shown boxed = (grind (arith)
 
 -- the rules of a tail's item, seen from where the tail stands
 abbrev pub seen_over : Known → Seen → Seen
-seen_over first v = record { item = v.item; place = place_over first.place v.place; extent = v.extent; callee = v.callee; after =
-    known_over first v.after }
+seen_over first v =
+    record { item = v.item; place = place_over first.place v.place; extent = v.extent; callee = v.callee; after = known_over first v.after }
 
 over_keeps : (mode : Mode) (w : Window) (addr : ℕ) (key : Key) (box : LitBox) (first : Known) (tail : Entry) (v : Seen)
     → MayStandAt w box tail.lit first.place → ((why : ShapeWhy) → ShapeKeeps mode w tail v why) → (why : ShapeWhy)

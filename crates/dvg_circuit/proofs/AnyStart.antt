@@ -44,13 +44,14 @@ near (suc bits) size (suc k) s t le =
 
 alike : (bits size s t : ℕ) → let_from bits size s (2 ^ bits) ≡ let_from bits size t (2 ^ bits)
 alike zero size s t = refl
-alike (suc bits) size s t = grind
-    (arith, (pow-succ' 2 bits), (twice bits size s (2 ^ bits)), (twice bits size t (2 ^ bits)), (alike bits size (s / 2) (t / 2)))
+alike (suc bits) size s t =
+    grind (arith, (pow-succ' 2 bits), (twice bits size s (2 ^ bits)), (twice bits size t (2 ^ bits)), (alike bits size (s / 2) (t / 2)))
 
 -- ---- one draw
 
 nearly : (size s t scale : ℕ) → pulses_from size s (counts scale) ≤ pulses_from size t (counts scale) + 1
-nearly size s t scale = grind (arith, nat_tests, (multiplied size s (2 ^ (scale + 1))), (multiplied size t (2 ^ (scale + 1))),
+nearly size s t scale =
+    grind (arith, nat_tests, (multiplied size s (2 ^ (scale + 1))), (multiplied size t (2 ^ (scale + 1))),
     (near 10 size (scale + 1) s t), (cases_eq scale 9))
 
 from_zero : (size n : ℕ) → pulses_from size 0 n ≡ pulses size n
@@ -66,8 +67,8 @@ fewer : (size start scale : ℕ) → pulses size (counts scale) ≤ pulses_from 
 fewer size start scale = grind (arith, (nearly size 0 start scale), (from_zero size (counts scale)))
 
 all_counts : (size s t n : ℕ) → n ≡ 2 ^ 10 → pulses_from size s n ≡ pulses_from size t n
-all_counts size s t n all = sym (multiplied size s n)
-    ∙ subst (λ m. let_from 10 size s m ≡ let_from 10 size t m) (sym all) (alike 10 size s t) ∙ multiplied size t n
+all_counts size s t n all =
+    sym (multiplied size s n) ∙ subst (λ m. let_from 10 size s m ≡ let_from 10 size t m) (sym all) (alike 10 size s t) ∙ multiplied size t n
 
 none_over : (scale : ℕ) → 9 < scale → counts scale ≡ 0
 none_over scale over = grind (arith, nat_tests)
@@ -126,7 +127,8 @@ one_place_each = record {
 one_draw : (n : ℕ) (p q : ℤ) (d : AxisDraw) → IsWithin n p q
     → IsWithin (n + (if nat_lt d.scale 9 then 1 else 0)) (p +ℤ moved d.size (counts d.scale))
         (q +ℤ moved_from d.size d.start (counts d.scale))
-one_draw n p q d h = grind (arith, nat_tests, apart, (more (nat_abs d.size) d.start d.scale), (fewer (nat_abs d.size) d.start d.scale),
+one_draw n p q d h =
+    grind (arith, nat_tests, apart, (more (nat_abs d.size) d.start d.scale), (fewer (nat_abs d.size) d.start d.scale),
     (same (nat_abs d.size) d.start d.scale))
 
 -- places at most n apart stay within one more for each draw below scale 9

@@ -31,8 +31,8 @@ fetched_more f p q xs ys e low same = grind (arith, reverse, reverse-append)
 
 pub all_reversed : {A : Type 0} (P : A → Type 0) (xs : List A) → AllByRecursion P xs → AllByRecursion P (reverse xs)
 all_reversed P [] h = tt
-all_reversed P (x ∷ xs) h = subst (AllByRecursion P) (sym (reverse-append (x ∷ []) xs))
-    (all_append P (reverse xs) (x ∷ []) (all_reversed P xs h.1) (h.0, tt))
+all_reversed P (x ∷ xs) h =
+    subst (AllByRecursion P) (sym (reverse-append (x ∷ []) xs)) (all_append P (reverse xs) (x ∷ []) (all_reversed P xs h.1) (h.0, tt))
 
 pub all_map : {A : Type 0} (P Q : A → Type 0) (xs : List A) → ((x : A) → P x → Q x) → AllByRecursion P xs → AllByRecursion Q xs
 all_map P Q [] h a = tt

@@ -12,8 +12,8 @@ ends : (bits count b : ℕ) → bit_at count b ≡ 0 → Ones count b → ending
 ends zero count b z h = grind (arith, nat_tests)
 ends (suc bits) count zero z h = grind (arith, nat_tests, (bit_at_lowest count))
 ends (suc bits) count (suc b) z h =
-    let halved = ends bits (count / 2) b (sym (bit_at-suc count b) ∙ z)
-        (λ i lt. sym (bit_at-suc count i) ∙ h (suc i) (omega (arith, lt))) in
+    let halved =
+        ends bits (count / 2) b (sym (bit_at-suc count b) ∙ z) (λ i lt. sym (bit_at-suc count i) ∙ h (suc i) (omega (arith, lt))) in
     grind (arith, nat_tests, halved, (bit_at_lowest count), (h 0 (omega arith)))
 
 pub counted_ones : (size count : ℕ) → count < 65536 → pulse size count ≡ let_through size (trailing_ones w16 count)

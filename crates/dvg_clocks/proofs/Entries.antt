@@ -28,7 +28,8 @@ same_taken forecast a b c (i ∷ earlier) same =
   where
     called : (o : Option Entry) → callee c earlier i.instr ≡ o → callee_taken a o ≡ callee_taken b o
     called None is = refl
-    called (Some f) is = same f (named_listed c.list (target c.kind i.instr) (scale_before c earlier) f is)
+    called (Some f) is =
+        same f (named_listed c.list (target c.kind i.instr) (scale_before c earlier) f is)
         (omega (arith, ap callee_words is, word_count-some i.format))
 
 -- what holds of each entry, if it holds of those with fewer words, holds of all
@@ -72,7 +73,8 @@ module _ (forecast : Forecast) (each : ℕ) (few : IsFew forecast each) (by_entr
     where
       called : (o : Option Entry) → callee c earlier i.instr ≡ o → (callee_taken by_entry o).most ≤ each * callee_words o
       called None is = omega arith
-      called (Some f) is = h f (named_listed c.list (target c.kind i.instr) (scale_before c earlier) f is)
+      called (Some f) is =
+          h f (named_listed c.list (target c.kind i.instr) (scale_before c earlier) f is)
           (omega (arith, ap callee_words is, word_count-some i.format))
 
 few_taken : (forecast : Forecast) (each : ℕ) → IsFew forecast each → FewTaken forecast each

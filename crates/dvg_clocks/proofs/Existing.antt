@@ -11,14 +11,16 @@ use Rattle.dvg_clocks.proofs.Forecasts.{forecasts_are_right}
 module _ (forecast : Forecast) (mode : Mode) (w : Window) (rom : Rom) (list : List Entry) (good : Good mode w rom list) where
   -- the items of an entry's shape, as they are gone over
   shape_items : (e : Entry) (k : Walk mode w rom list good e) → items_from Shape (rom_word rom) e.words [] e.addr ≡ k.i ∷ k.items
-  shape_items e k = all_items Shape (rom_word rom) e.addr k.items k.i (record { lead = k.lead; is = k.is; last = k.last }) e.words
+  shape_items e k =
+      all_items Shape (rom_word rom) e.addr k.items k.i (record { lead = k.lead; is = k.is; last = k.last }) e.words
       (omega (arith, few_items (shape_context rom.machine list e) (k.i ∷ k.items), k.few))
 
   -- how deep calls may nest does not matter from an entry's words on
   deep_enough : (e : Entry) → Contains list e → (a b : ℕ) → e.words < a → e.words < b
       → sum_to forecast rom list a e ≡ sum_to forecast rom list b e
-  deep_enough e listed = up_to (λ f. (a b : ℕ) → f.words < a → f.words < b → sum_to forecast rom list a f ≡ sum_to forecast rom list b f)
-      list next e.words e listed (omega arith) where
+  deep_enough e listed =
+      up_to (λ f. (a b : ℕ) → f.words < a → f.words < b → sum_to forecast rom list a f ≡ sum_to forecast rom list b f) list next e.words
+      e listed (omega arith) where
     next : (f : Entry) → Contains list f
         → ((g : Entry) → Contains list g → g.words < f.words → (a b : ℕ) → g.words < a → g.words < b
         → sum_to forecast rom list a g ≡ sum_to forecast rom list b g) → (a b : ℕ) → f.words < a → f.words < b

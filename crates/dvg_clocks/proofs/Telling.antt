@@ -41,7 +41,8 @@ module _ (t : States) (rom : Rom) (list order : List Entry) where
     pub few : AreAllFew kept list
 
   pub begins : IsPermutation list order → IsNonDecreasingBy (λ (e : Entry). e.words) order → Telling 0 []
-  begins moves rising = record { moves = moves; rising = rising; told = λ e i lt. absurd (omega (arith, lt)); few =
+  begins moves rising =
+      record { moves = moves; rising = rising; told = λ e i lt. absurd (omega (arith, lt)); few =
       λ e listed. record { ordered = omega arith; few = omega arith } }
 
   pub ends : (kept : Kept) (n : ℕ) → length order ≤ n → Telling n kept → AreTold t rom list kept
@@ -104,8 +105,8 @@ module _ (t : States) (rom : Rom) (list order : List Entry) where
             where
               by : (b : Bool) → ((e.addr == f.addr) && same_key e.key f.key) ≡ b → (f ≡ e) × (found_at more f.addr f.key ≡ Some clocks)
                   ⊎ (found_at more f.addr f.key ≡ found_at kept f.addr f.key)
-              by true is = inl (only list certificate.1.rising e f here h (grind (arith, is))
-                  (sym (key_same e.key f.key (grind (arith, is)))),
+              by true is =
+                  inl (only list certificate.1.rising e f here h (grind (arith, is)) (sym (key_same e.key f.key (grind (arith, is)))),
                   adds f.addr f.key ∙ ap (λ b. cond b (Some clocks) (found_at kept f.addr f.key)) is)
               by false is = inr (adds f.addr f.key ∙ ap (λ b. cond b (Some clocks) (found_at kept f.addr f.key)) is)
 
@@ -131,8 +132,9 @@ module _ (t : States) (rom : Rom) (list order : List Entry) where
               }
 
           told_still : (f : Entry) → Contains list f → IsToldOf t rom list kept f → IsToldOf t rom list more f
-          told_still f h was = ⊎_elim (λ now. told_this f now.0 now.1)
-              (λ same. record { told = same ∙ was.told; few = few_still f same was.few }) (either f h)
+          told_still f h was =
+              ⊎_elim (λ now. told_this f now.0 now.1) (λ same. record { told = same ∙ was.told; few = few_still f same was.few })
+              (either f h)
 
           pub onward : Telling (n + 1) more
           onward =

@@ -44,8 +44,9 @@ module _ (t : States) (source : Source) (list : List Entry) (kept : Kept) (first
     pub below : sum.most ≤ limit
 
   pub begins : IsKey first.scale → Going first (just 0)
-  begins key = record { items = []; leads = refl; kind = refl; scale = refl; key = key; sum_is = refl; ordered = omega arith; few =
-      omega arith; within = omega arith; below = omega arith }
+  begins key =
+      record { items = []; leads = refl; kind = refl; scale = refl; key = key; sum_is = refl; ordered = omega arith; few = omega arith;
+      within = omega arith; below = omega arith }
 
   module _ (walk : IsWalkable source list first) (here : ScaleCursor) (sum : ClockRange) (k : Going here sum) where
     -- there is an item
@@ -143,8 +144,8 @@ module _ (rom : Rom) (list : List Entry) (all : AreGood rom list) (e : Entry) (l
   pub shape_sum : (t : States) (items : List Item) (j : Item) → IsWhole Shape (rom_word rom) e.addr items j
       → taken_before (clocks_known t) (sum_of (clocks_known t) rom list) (shape_context rom.machine list e) (j ∷ items)
       ≡ sum_of (clocks_known t) rom list e
-  shape_sum t items j whole = sym
-      (entries_sum (clocks_known t) all.mode all.window rom list all.good e listed items j whole.lead whole.is whole.last)
+  shape_sum t items j whole =
+      sym (entries_sum (clocks_known t) all.mode all.window rom list all.good e listed items j whole.lead whole.is whole.last)
 
 -- ---- frames
 
@@ -206,8 +207,9 @@ module _ (m : Memory) (list : List Entry) (words : ℕ) (gf : IsAcceptedFrame m 
     -- what its items take by what is kept is what they take
     as_told : (items : List Item) → taken_before (clocks_known t) (clocks_in kept) (frame_context m.rom.machine list) items
         ≡ taken_before (clocks_known t) (sum_of (clocks_known t) m.rom list) (frame_context m.rom.machine list) items
-    as_told items = same_taken (clocks_known t) (clocks_in kept) (sum_of (clocks_known t) m.rom list) (frame_context m.rom.machine list)
-        items (λ g h less. ap (λ o. unwrap_or o (just 0)) (told g h).told)
+    as_told items =
+        same_taken (clocks_known t) (clocks_in kept) (sum_of (clocks_known t) m.rom list) (frame_context m.rom.machine list) items
+        (λ g h less. ap (λ o. unwrap_or o (just 0)) (told g h).told)
 
     -- in all, its sum
     pub frame_is : (sum : ClockRange)

@@ -19,7 +19,8 @@ module _ (kind : Kind) (source : Source) (first : ℕ) where
   -- there is only one walk to a last item
   pub same_walk : (a b : List Item) (i j : Item) → IsWhole kind source first a i → IsWhole kind source first b j → i ∷ a ≡ j ∷ b
   same_walk a b i j h k =
-      let e : length a ≡ length b = even (too_long kind source first a i h.lead h.is h.last b j.at k.lead)
+      let e : length a ≡ length b =
+          even (too_long kind source first a i h.lead h.is h.last b j.at k.lead)
           (too_long kind source first b j k.lead k.is k.last a i.at h.lead) in
       let s = same_lead kind source first a b i.at j.at h.lead k.lead e in
       let one : i ≡ j = item_same i j s.place (sym h.is ∙ ap (cell_at source) s.place ∙ k.is) in
@@ -39,8 +40,8 @@ module _ (kind : Kind) (source : Source) (first : ℕ) where
 
     from : (n : ℕ) (earlier : List Item) (p : ℕ) → LeadsTo kind source first earlier p → length items < length earlier + n
         → items_from kind source n earlier p ≡ i ∷ items
-    from zero earlier p lead lt = absurd
-        (too_long kind source first items i whole.lead whole.is whole.last earlier p lead (omega (arith, lt)))
+    from zero earlier p lead lt =
+        absurd (too_long kind source first items i whole.lead whole.is whole.last earlier p lead (omega (arith, lt)))
     from (suc n) earlier p lead lt =
         let (format, instr, is) = there earlier p lead in
         let j : Item = record { at = p; format = format; instr = instr } in

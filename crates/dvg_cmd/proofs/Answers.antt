@@ -100,7 +100,8 @@ module _ (asked : ClockOptions) (machine : Machine) (rom : List ℕ) (map : Memo
   Says v = IsAnswerOf (judged_timed asked machine rom map budget w) bytes (told_with asked.line (timed_answer v))
 
   pub timed_answers : (v : Result TimedYes TimedRefusal) → IsTimed asked.timing image words w budget v → Says v
-  timed_answers v said = by v (subst (λ x. IsTimed asked.timing (rom_on machine map rom) x w budget v) a.words_are
+  timed_answers v said =
+      by v (subst (λ x. IsTimed asked.timing (rom_on machine map rom) x w budget v) a.words_are
       (subst (λ y. IsTimed asked.timing y words w budget v) a.rom_is said))
     where
       refused : (r : FrameRefusal) → IsTimed asked.timing (rom_on machine map rom) (words_of bytes) w budget (Err (timed.Judged r))
@@ -118,29 +119,31 @@ module _ (asked : ClockOptions) (machine : Machine) (rom : List ℕ) (map : Memo
               on.verdict.0 }, record { sum = on.verdict.1; within = on.verdict.2; runs = on.clocks })
 
           shown : (l : LineClocks) → asked.line ≡ l → IsAnswerOf (judged_timed asked machine rom map budget w) bytes (told_with l (Timed t))
-          shown line.Told is = record { answer = (Timed t, accepted, ap (λ l. told_with l (Timed t)) (sym is)); judged = refl; whole =
+          shown line.Told is =
+              record { answer = (Timed t, accepted, ap (λ l. told_with l (Timed t)) (sym is)); judged = refl; whole =
               a.in_range.frame_length; means = on.means; told = tt }
-          shown line.LeftOut is = record
-              { answer = (Timed t, accepted, ap (λ l. told_with l (Timed t)) (sym is)); judged = refl; whole = a.in_range.frame_length;
-              means = on.means; told = tt }
+          shown line.LeftOut is =
+              record { answer = (Timed t, accepted, ap (λ l. told_with l (Timed t)) (sym is)); judged = refl; whole =
+              a.in_range.frame_length; means = on.means; told = tt }
       by (Err (timed.Judged r)) on = shown asked.line refl
         where
           shown : (l : LineClocks) → asked.line ≡ l
               → IsAnswerOf (judged_timed asked machine rom map budget w) bytes (told_with l (Judged (Err r)))
-          shown line.Told is = record { answer = (Judged (Err r), refused r on, ap (λ l. told_with l (Judged (Err r))) (sym is));
-              judged = refl; whole = tt; means = tt; told = on.refused.1 }
-          shown line.LeftOut is = record
-              { answer = (Judged (Err r), refused r on, ap (λ l. told_with l (Judged (Err r))) (sym is)); judged = refl; whole = tt;
-              means = tt; told = on.refused.1 }
+          shown line.Told is =
+              record { answer = (Judged (Err r), refused r on, ap (λ l. told_with l (Judged (Err r))) (sym is)); judged = refl; whole =
+              tt; means = tt; told = on.refused.1 }
+          shown line.LeftOut is =
+              record { answer = (Judged (Err r), refused r on, ap (λ l. told_with l (Judged (Err r))) (sym is)); judged = refl; whole =
+              tt; means = tt; told = on.refused.1 }
       by (Err (timed.Slow at)) on = shown asked.line refl
         where
           shown : (l : LineClocks) → asked.line ≡ l → IsAnswerOf (judged_timed asked machine rom map budget w) bytes (told_with l (Slow at))
-          shown line.Told is = record { answer =
-              (Slow at, (a.in_range, a.rom_length, on.verdict), ap (λ l. told_with l (Slow at)) (sym is)); judged = refl; whole =
-              tt; means = tt; told = tt }
-          shown line.LeftOut is = record
-              { answer = (Slow at, (a.in_range, a.rom_length, on.verdict), ap (λ l. told_with l (Slow at)) (sym is)); judged = refl;
-              whole = tt; means = tt; told = tt }
+          shown line.Told is =
+              record { answer = (Slow at, (a.in_range, a.rom_length, on.verdict), ap (λ l. told_with l (Slow at)) (sym is)); judged =
+              refl; whole = tt; means = tt; told = tt }
+          shown line.LeftOut is =
+              record { answer = (Slow at, (a.in_range, a.rom_length, on.verdict), ap (λ l. told_with l (Slow at)) (sym is)); judged =
+              refl; whole = tt; means = tt; told = tt }
 
 -- and over kept shapes
 module _ (asked : ClockOptions) (machine : Machine) (rom : List ℕ) (map : MemoryMap) (bytes : List ℕ) (budget : ℕ) (w : Window)
@@ -161,11 +164,12 @@ pub plain_answers : (asked : ClockOptions) (machine : Machine) (rom : List ℕ) 
 plain_answers asked machine rom map bytes budget w r said = shown asked.line refl
   where
     shown : (l : LineClocks) → asked.line ≡ l → IsAnswerOf (judged_timed asked machine rom map budget w) bytes (Judged (Err (Check r)))
-    shown line.Told is = record { answer = (Judged (Err (Check r)), said, ap (λ l. told_with l (Judged (Err (Check r)))) (sym is));
-        judged = refl; whole = tt; means = tt; told = tt }
-    shown line.LeftOut is = record
-        { answer = (Judged (Err (Check r)), said, ap (λ l. told_with l (Judged (Err (Check r)))) (sym is)); judged = refl; whole = tt;
-        means = tt; told = tt }
+    shown line.Told is =
+        record { answer = (Judged (Err (Check r)), said, ap (λ l. told_with l (Judged (Err (Check r)))) (sym is)); judged = refl; whole =
+        tt; means = tt; told = tt }
+    shown line.LeftOut is =
+        record { answer = (Judged (Err (Check r)), said, ap (λ l. told_with l (Judged (Err (Check r)))) (sym is)); judged = refl; whole =
+        tt; means = tt; told = tt }
 
 -- such a one is 2 or 49
 pub range_answers : (asked : ClockOptions) (machine : Machine) (rom : List ℕ) (map : MemoryMap) (bytes : List ℕ) (budget : ℕ)

@@ -11,8 +11,8 @@ use Rattle.dvg_cmd.proofs.Whole.{held_bytes, held_told, read_short}
 module _ (reader : Option (List ℕ)) (bytes : List ℕ) (read : IsPrefix 4097 reader bytes) where
   -- a dump that is not too long was read as a whole
   pub dump_held : IsDumpLength (length bytes) → Held reader bytes
-  dump_held h = subst (λ all. Held reader all) (sym (read_short 4097 reader bytes read (inl (omega (arith, h.few)))))
-      (held_told reader bytes)
+  dump_held h =
+      subst (λ all. Held reader all) (sym (read_short 4097 reader bytes read (inl (omega (arith, h.few))))) (held_told reader bytes)
 
   dump_back : IsDumpLength (length (held_bytes reader bytes)) → IsDumpLength (length bytes)
   dump_back h = subst (λ (all : List ℕ). IsDumpLength (length all)) (sym (read_short 4097 reader bytes read (inr (omega (arith, h.few))))) h

@@ -20,7 +20,8 @@ one_write_on (text ∷ texts) more old mid new h one = (h.0, h.1, one_write_on t
 module _ (lines more : List (List ℕ)) (old mid new : Option (List ℕ)) (writes writes_mid writes_after : ℕ)
     (h : Sent lines old mid writes writes_mid) where
   pub both_sent : Sent more mid new writes_mid writes_after → Sent (lines ++ more) old new writes writes_after
-  both_sent k = grind (arith, rules, common_steps, (joined_on lines more), (joined lines), (joined more),
+  both_sent k =
+      grind (arith, rules, common_steps, (joined_on lines more), (joined lines), (joined more),
       (one_write_on lines more writes writes_mid writes_after h.one_write k.one_write), joined_on, joined, one_write_on)
 
   pub both_cut : AppendsPrefix mid new (joined more) → AppendsPrefix old new (joined (lines ++ more))
@@ -63,7 +64,8 @@ module _ (all : List (List ℕ)) (old : Option (List ℕ)) (writes : ℕ) where
             append_assoc h.done (line ∷ []) rest ∙ ap (λ ls. h.done ++ ls) (sym next) ∙ h.whole)
 
     pub one_cut : AppendsPrefix mid new piece → AppendsPrefix old new (joined all)
-    one_cut written = grind (arith, rules, common_steps, joined,
+    one_cut written =
+        grind (arith, rules, common_steps, joined,
         (first_cut (h.done ++ line ∷ []) rest old new
         (both_cut h.done (line ∷ []) old mid new writes writes_mid writes_mid h.sent
         (subst (AppendsPrefix mid new) (sym first) written))),
@@ -77,12 +79,13 @@ module _ (all : List (List ℕ)) (old : Option (List ℕ)) (writes : ℕ) where
     whole_then = append_assoc h.done (line ∷ []) rest ∙ ap (λ ls. h.done ++ ls) (sym next) ∙ h.whole
 
     pub line_sent : (writes_after : ℕ) → Sent (line ∷ []) mid new writes_mid writes_after → SentTo rest new writes_after
-    line_sent writes_after sent = record
-        { done = h.done ++ line ∷ []; sent = both_sent h.done (line ∷ []) old mid new writes writes_mid writes_after h.sent sent; whole =
-        whole_then }
+    line_sent writes_after sent =
+        record { done = h.done ++ line ∷ []; sent = both_sent h.done (line ∷ []) old mid new writes writes_mid writes_after h.sent sent;
+        whole = whole_then }
 
     pub cut_line : AppendsPrefix mid new (joined (line ∷ [])) → AppendsPrefix old new (joined all)
-    cut_line cut = subst (λ ls. AppendsPrefix old new (joined ls)) whole_then
+    cut_line cut =
+        subst (λ ls. AppendsPrefix old new (joined ls)) whole_then
         (first_cut (h.done ++ line ∷ []) rest old new (both_cut h.done (line ∷ []) old mid new writes writes_mid writes_mid h.sent cut))
 
 -- ---- the lines of things, each by one of these texts

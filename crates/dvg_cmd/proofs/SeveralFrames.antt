@@ -58,8 +58,8 @@ module _ {A : Type 0} (remaining : A → Option (List ℕ)) (failures : A → �
   pub all_read : (n : ℕ) (olds news : List A) (read : List (List ℕ)) → length news ≤ n → ReadSoFar n olds news read
       → EachRead (of_each remaining olds) (of_each remaining news) × ArePrefixes (of_each remaining olds) read
   all_read zero olds [] [] le h = subst (λ l. EachRead (of_each remaining l) [] × ArePrefixes (of_each remaining l) []) h (tt, tt)
-  all_read (suc n) (o ∷ olds) (m ∷ news) (b ∷ read) le h = let rest =
-      all_read n olds news read (omega (arith, le)) h.3 in ((h.0, rest.0), (h.1, rest.1))
+  all_read (suc n) (o ∷ olds) (m ∷ news) (b ∷ read) le h =
+      let rest = all_read n olds news read (omega (arith, le)) h.3 in ((h.0, rest.0), (h.1, rest.1))
   all_read n olds news read le h = grind (arith)
 
 -- ---- what all readers held

@@ -44,7 +44,8 @@ module _ {R : Type 0} (remaining : R → Option (List ℕ)) (failures : R → �
     -- what is written of a further line, by what was written before
     further : (line : Line) → line_texts listing p (h.lines ++ line ∷ [])
         ≡ line_texts listing p h.lines ++ texts_of listing p_mid.written line
-    further line = texts_then listing p h.lines line
+    further line =
+        texts_then listing p h.lines line
         ∙ ap (λ (q : Progress). line_texts listing p h.lines ++ texts_of listing q.written line) (sym h.progress_is)
 
     -- the next line was written
@@ -58,7 +59,8 @@ module _ {R : Type 0} (remaining : R → Option (List ℕ)) (failures : R → �
           sent = subst (λ ts. Sent ts old new writes writes_after) (sym (further one.line))
               (both_sent (line_texts listing p h.lines) (texts_of listing p_mid.written one.line) old mid new writes writes_mid
               writes_after h.sent one.sent);
-          progress_is = one.progress_is ∙ ap (λ q. gone_with listing.lines q one.line) h.progress_is
+          progress_is =
+              one.progress_is ∙ ap (λ q. gone_with listing.lines q one.line) h.progress_is
               ∙ sym (gone_then listing.lines p h.lines one.line);
         }
 

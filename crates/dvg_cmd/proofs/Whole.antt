@@ -39,7 +39,8 @@ module _ (map : MemoryMap) (is : IsMap map) (rom : Option (List ℕ)) (rb : List
   rom_same h = read_short 4097 rom rb read (inl (omega (arith, h, is.past_frames, is.inside)))
 
   pub rom_back : IsRomLength map (length (held_bytes rom rb)) → IsRomLength map (length rb)
-  rom_back h = subst (λ (x : List ℕ). IsRomLength map (length x))
+  rom_back h =
+      subst (λ (x : List ℕ). IsRomLength map (length x))
       (sym (read_short 4097 rom rb read (inr (omega (arith, h, is.past_frames, is.inside))))) h
 
   pub whole_length : IsRomLength map (length rb) → IsRomLength map (length (held_bytes rom rb))
@@ -60,8 +61,9 @@ module _ (machine : Machine) (c : Certificate) (rb r : List ℕ) (same : IsRomLe
   parts_on : (v : Result Yes Refusal) → IsRomLength c.map (length rb)
       × PartsVerdict mode w (rom_on machine c.map rb) c.entries words budget v → IsRomLength c.map (length r)
       × PartsVerdict mode w (rom_on machine c.map r) c.entries words budget v
-  parts_on v h = subst (λ (x : List ℕ). IsRomLength c.map (length x)
-      × PartsVerdict mode w (rom_on machine c.map x) c.entries words budget v) (same h.0) h
+  parts_on v h =
+      subst (λ (x : List ℕ). IsRomLength c.map (length x) × PartsVerdict mode w (rom_on machine c.map x) c.entries words budget v)
+      (same h.0) h
 
   pub rom_whole : (v : Result Yes Refusal) → RomVerdict machine mode w rb c words budget v → RomVerdict machine mode w r c words budget v
   rom_whole v h = grind (arith, back, parts_on)

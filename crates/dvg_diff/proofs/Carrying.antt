@@ -96,7 +96,8 @@ module _ (rom : Rom) (others : List ℕ) (list : List Entry) (untouched : Reache
 
   module _ (roots : List (ℕ × Key)) (frames : List (List ℕ)) (made : FramesMade rom roots frames list) where
     needs_there : (e f : Entry) → Contains list e → Needs rom list e f → Needs other list e f
-    needs_there e f c n = search (forth rom others e.addr (each_untouched e c) n.earlier n.item.at n.leads,
+    needs_there e f c n =
+        search (forth rom others e.addr (each_untouched e c) n.earlier n.item.at n.leads,
         sym (cell_is e c n.earlier n.item.at n.leads) ∙ n.stands)
 
     pub made_there : FramesMade other roots frames list

@@ -62,8 +62,8 @@ module _ (rom : Rom) (others : List ℕ) (words : List ℕ) (list : List Entry)
     leads : Leads from earlier p
 
   at_entry : (to : ℕ) (scale : Key) → HasEntry list to scale → IsOn to
-  at_entry to scale h = let l = listed_at list to scale h.0 h.1 in
-      record { from = OfShape h.0 l.listed; earlier = []; leads = sym l.addr_is }
+  at_entry to scale h =
+      let l = listed_at list to scale h.0 h.1 in record { from = OfShape h.0 l.listed; earlier = []; leads = sym l.addr_is }
 
   called : (from : Begin list) (earlier : List Item) (i : Item) → Leads from earlier i.at
       → cell_at (word_of (kind_of from) here) i.at ≡ Holds i.format i.instr → (to : ℕ) → target (kind_of from) i.instr ≡ Some to → IsOn to

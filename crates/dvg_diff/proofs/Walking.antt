@@ -42,9 +42,9 @@ module _ (rom other : Rom) where
         module _ (nothing : (format : Format) (instr : Instr) → cell_at (rom_word rom) at ≡ Holds format instr → ⊥) where
           no_longer : (earlier : List Item) (q : ℕ) → LeadsTo Shape (rom_word rom) addr earlier q → length earlier ≤ length passed.items
           no_longer [] q h = omega arith
-          no_longer (j ∷ earlier) q h = grind
-              (arith, (no_longer earlier j.at h.0), (same_lead Shape (rom_word rom) addr earlier passed.items j.at at h.0 passed.leads),
-              (nothing j.format j.instr))
+          no_longer (j ∷ earlier) q h =
+              grind (arith, (no_longer earlier j.at h.0),
+              (same_lead Shape (rom_word rom) addr earlier passed.items j.at at h.0 passed.leads), (nothing j.format j.instr))
 
           takes_none : (earlier : List Item) (q : ℕ) → LeadsTo Shape (rom_word rom) addr earlier q → TakesNone q
           takes_none earlier q h =
@@ -77,8 +77,9 @@ module _ (rom other : Rom) where
       (h : AreTouched rom other (take i list) touched) where
     next : (new more : List TouchedEntry) → AreTouched rom other (get_or list i d ∷ []) new → more ≡ touched ++ new
         → AreTouched rom other (take (i + 1) list) more
-    next new more k grown = grind (arith, rules, common_steps, (take-suc list i d lt),
-        (touched_on (take i list) (get_or list i d ∷ []) touched new h k), take-suc)
+    next new more k grown =
+        grind (arith, rules, common_steps, (take-suc list i d lt), (touched_on (take i list) (get_or list i d ∷ []) touched new h k),
+        take-suc)
 
     pub next_none : (IsTouched rom other (get_or list i d).addr → ⊥) → (more : List TouchedEntry) → more ≡ touched
         → AreTouched rom other (take (i + 1) list) more
@@ -86,5 +87,6 @@ module _ (rom other : Rom) where
 
     pub next_one : (word : ℕ) → ReadsDiffering rom other (get_or list i d).addr word → (more : List TouchedEntry)
         → more ≡ touched ++ record { entry = get_or list i d; word = word } ∷ [] → AreTouched rom other (take (i + 1) list) more
-    next_one word r more grown = next (record { entry = get_or list i d; word = word } ∷ []) more
+    next_one word r more grown =
+        next (record { entry = get_or list i d; word = word } ∷ []) more
         (inr (record { word = word; rest = []; first = refl; differs = r; others = refl })) grown

@@ -41,8 +41,9 @@ module _ (source : Source) (list : List Entry) (leaves : List Bool) (first : Pla
 
   -- what an item calls is marked
   abbrev ItemMarked : Marks → List Item → Item → Type 0
-  ItemMarked m earlier i = (to : ℕ) → target first.kind i.instr ≡ Some to → (e : Entry)
-      × (entry_at list to (scale_before c earlier) ≡ Some e) × IsMarked list m e
+  ItemMarked m earlier i =
+      (to : ℕ) → target first.kind i.instr ≡ Some to → (e : Entry) × (entry_at list to (scale_before c earlier) ≡ Some e)
+      × IsMarked list m e
 
   abbrev AllMarked : Marks → List Item → Type 0
   AllMarked m [] = Unit {0}
@@ -55,13 +56,13 @@ module _ (source : Source) (list : List Entry) (leaves : List Bool) (first : Pla
 
   -- so it is, however the cell at its place is read
   abbrev PlaceMarked : Marks → List Item → ℕ → Type 0
-  PlaceMarked m earlier p = (f : Format) (j : Instr) → cell_at source p ≡ Holds f j
-      → ItemMarked m earlier (record { at = p; format = f; instr = j })
+  PlaceMarked m earlier p =
+      (f : Format) (j : Instr) → cell_at source p ≡ Holds f j → ItemMarked m earlier (record { at = p; format = f; instr = j })
 
   place_marked : (m : Marks) (earlier : List Item) (i : Item) → cell_at source i.at ≡ Holds i.format i.instr → ItemMarked m earlier i
       → PlaceMarked m earlier i.at
-  place_marked m earlier i is h f j q = let same : i ≡ record { at = i.at; format = f; instr = j } =
-      grind (arith, is, q) in subst (ItemMarked m earlier) same h
+  place_marked m earlier i is h f j q =
+      let same : i ≡ record { at = i.at; format = f; instr = j } = grind (arith, is, q) in subst (ItemMarked m earlier) same h
 
   each_marked : (m : Marks) (items : List Item) (p : ℕ) → LeadsTo first.kind source first.at items p → AllMarked m items
       → AtEachOf (PlaceMarked m) items
@@ -79,7 +80,8 @@ module _ (source : Source) (list : List Entry) (leaves : List Bool) (first : Pla
     pub more : MarksMore list leaves (Asks c source first.at) old m
 
   pub begins : (old : Marks) → IsKey first.scale → Going old first old
-  begins old key = record { items = []; leads = refl; kind = refl; scale = refl; key = key; marked = tt; more =
+  begins old key =
+      record { items = []; leads = refl; kind = refl; scale = refl; key = key; marked = tt; more =
       more_none list leaves (Asks c source first.at) old }
 
   module _ (old : Marks) (here : Place) (m : Marks) (k : Going old here m) (format : Format) (instr : Instr)
@@ -123,7 +125,8 @@ module _ (source : Source) (list : List Entry) (leaves : List Bool) (first : Pla
 
     module _ (new : Marks) (called : Option Entry) (calls : IsCalledAt list leaves (target here.kind instr) here.scale m new called) where
       here_marked : Marked new called
-      here_marked = marked_here new called (target first.kind instr) refl
+      here_marked =
+          marked_here new called (target first.kind instr) refl
           (subst (λ x. IsCalledAt list leaves (target x instr) here.scale m new called) k.kind calls)
 
       pub onward : (at : ℕ) → next_address here.kind item ≡ Some at → (scale : Key)

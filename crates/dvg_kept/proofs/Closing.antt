@@ -61,7 +61,8 @@ module _ (rom : Rom) (words : List ℕ) (list : List Entry) (leaves : List Bool)
           × Asks (frame_context rom.machine list) (frame_word rom.machine words) 0 f.addr f.key
           × (Contains m.waiting h.0 ⊎ (slice_get leaves f.addr ≡ Some true)))
           → Asks (frame_context rom.machine list) (frame_word rom.machine words) 0 e.addr e.key
-      asked_as e h new = let same : new.0 ≡ e =
+      asked_as e h new =
+          let same : new.0 ≡ e =
           same_at list h.0 new.0 e new.1 h.2 in
           subst (λ (x : Entry). Asks (frame_context rom.machine list) (frame_word rom.machine words) 0 x.addr x.key) same new.3
 
@@ -95,8 +96,8 @@ module _ (rom : Rom) (words : List ℕ) (list : List Entry) (leaves : List Bool)
         × (entry_at list g.addr g.key ≡ Some g) × Asks (shape_context rom.machine list e) (rom_word rom) e.addr g.addr g.key
         × (Contains new.waiting q ⊎ (slice_get leaves g.addr ≡ Some true))
         → Asks (shape_context rom.machine list e) (rom_word rom) e.addr f.addr f.key
-    asked_as q f h g = subst (λ (x : Entry). Asks (shape_context rom.machine list e) (rom_word rom) e.addr x.addr x.key)
-        (same_at list q g.0 f g.1 h) g.3
+    asked_as q f h g =
+        subst (λ (x : Entry). Asks (shape_context rom.machine list e) (rom_word rom) e.addr x.addr x.key) (same_at list q g.0 f g.1 h) g.3
 
     pub goes_on : IsMarking rom words list new
     goes_on =

@@ -72,7 +72,8 @@ module _ (k : Kept) (kept : IsKept k) (made : List Entry) (also : IsKept (record
           record { made_is = made_grows k.rom made merged e second (also.each e l.listed); good_is =
               good_grows k.window k.rom made merged second e (also.each e l.listed) (also.good e l.listed) }
       by (Some f) some =
-          let same : Some f ≡ Some e = sym (ap (λ o. option_or o (entry_at made e.addr e.key)) some) ∙ sym (is.found e.addr e.key)
+          let same : Some f ≡ Some e =
+              sym (ap (λ o. option_or o (entry_at made e.addr e.key)) some) ∙ sym (is.found e.addr e.key)
               ∙ found_listed merged e is.rising c in
           let there : entry_at k.list e.addr e.key ≡ Some e = some ∙ same in
           let l = listed_at k.list e.addr e.key e there in
@@ -89,7 +90,8 @@ module _ (k : Kept) (kept : IsKept k) (made : List Entry) (also : IsKept (record
               ∙ found_listed merged e is.rising c in
           listed_entry k.rom.map.rom_first k.rom.map.rom_last made e also.certificate.each (listed_at made e.addr e.key e there).listed
       by (Some f) some =
-          let same : Some f ≡ Some e = sym (ap (λ o. option_or o (entry_at made e.addr e.key)) some) ∙ sym (is.found e.addr e.key)
+          let same : Some f ≡ Some e =
+              sym (ap (λ o. option_or o (entry_at made e.addr e.key)) some) ∙ sym (is.found e.addr e.key)
               ∙ found_listed merged e is.rising c in
           listed_entry k.rom.map.rom_first k.rom.map.rom_last k.list e kept.certificate.each
               (listed_at k.list e.addr e.key e (some ∙ same)).listed
@@ -98,9 +100,10 @@ module _ (k : Kept) (kept : IsKept k) (made : List Entry) (also : IsKept (record
   kept_again =
       record {
         rom_is = kept.rom_is;
-        certificate = record { map_is = kept.certificate.map_is; each =
-            all_listed (IsEntry k.rom.map.rom_first k.rom.map.rom_last) merged entry_is; rising = is.rising; few =
-            omega (arith, is.few, few) };
+        certificate =
+            record { map_is = kept.certificate.map_is; each =
+            all_listed (IsEntry k.rom.map.rom_first k.rom.map.rom_last) merged entry_is; rising =
+            is.rising; few = omega (arith, is.few, few) };
         each = λ e c. (from e c).made_is;
         good = λ e c. (from e c).good_is;
       }

@@ -87,8 +87,8 @@ module _ (k : Kept) (kept : IsKept k) (m : Marks) where
 
     scale_same : (items : List Item) (p : ℕ) → LeadsTo Shape (rom_word k.rom) e.addr items p
         → scale_before (keyed_context k.rom.machine k.list e.key) items ≡ scale_before (keyed_context k.rom.machine own e.key) items
-    scale_same items p lead = ap (λ (x : Gathered). x.known.scale)
-        (gathered_same k.rom.machine k.list own e.key items (matched items p lead))
+    scale_same items p lead =
+        ap (λ (x : Gathered). x.known.scale) (gathered_same k.rom.machine k.list own e.key items (matched items p lead))
 
     fine_over : (items : List Item) (p : ℕ) → LeadsTo Shape (rom_word k.rom) e.addr items p
         → AllFine (keyed_context k.rom.machine k.list e.key) items → AllFine (keyed_context k.rom.machine own e.key) items
@@ -155,15 +155,17 @@ module _ (k : Kept) (kept : IsKept k) (m : Marks) where
     all_keyed (i ∷ earlier) p lead = let rest = all_keyed earlier i.at lead.0 in (rest, keyed_item earlier i rest lead.0 lead.1)
 
     pub has_calls : HasCalls k.rom.machine words own
-    has_calls to scale c = subst (λ (x : Key). HasEntry own to x) c.scale_is
+    has_calls to scale c =
+        subst (λ (x : Key). HasEntry own to x) c.scale_is
         (keyed_item c.earlier c.item (all_keyed c.earlier c.item.at c.leads) c.leads c.stands to c.target_is)
 
 -- the marked entries of a frame are its own list
 module _ (k : Kept) (kept : IsKept k) (words : List ℕ) (m : Marks) (marking : IsMarking k.rom words k.list m) (counted : IsCounted m)
     (none : m.waiting ≡ []) where
   closed : (e : Entry) → IsMarked k.list m e → AllAskedMarked (rom_word k.rom) k.list (shape_start e) m
-  closed e h = ⊎_elim (λ w. let c : Contains [] w.0 = subst (λ (x : List ℕ). Contains x w.0) none w.1 in absurd (omega (arith, c.1)))
-      (λ a. a) (marking.closed e h)
+  closed e h =
+      ⊎_elim (λ w. let c : Contains [] w.0 = subst (λ (x : List ℕ). Contains x w.0) none w.1 in absurd (omega (arith, c.1))) (λ a. a)
+      (marking.closed e h)
 
   each : (e : Entry) → Contains (own k kept m) e → MadeEntry k.rom (own k kept m) e
   each e c = made k kept m e c (closed e (own_marked k kept m e c))
@@ -192,7 +194,8 @@ module _ (k : Kept) (kept : IsKept k) (words : List ℕ) (m : Marks) (marking : 
   made_list : FrameMade k.rom words (own k kept m)
   made_list =
       record {
-        certificate = record { map_is = kept.certificate.map_is; each = picked_each _ m.marked k.list kept.certificate.each; rising =
+        certificate =
+            record { map_is = kept.certificate.map_is; each = picked_each _ m.marked k.list kept.certificate.each; rising =
             picked_rising m.marked k.list kept.certificate.rising; few = omega (arith, picked_few m.marked k.list, kept.certificate.few) };
         each = each;
         rooted = λ addr key a. ⊎_elim (λ c. absurd (omega (arith, c.1)))

@@ -142,8 +142,8 @@ module _ (k : Kept) (kept : IsKept k) (timing : Timing) (words : List ℕ) (budg
   accepted = record { window = k.window; budget = budget; depth = yes.depth; few = few; good = good }
 
   in_kept : (e : Entry) → Contains own.list e → Contains k.list e
-  in_kept e c = (listed_at k.list e.addr e.key e
-      (own.extends e.addr e.key e (found_listed own.list e own.made.certificate.rising c))).listed
+  in_kept e c =
+      (listed_at k.list e.addr e.key e (own.extends e.addr e.key e (found_listed own.list e own.made.certificate.rising c))).listed
 
   asked : HasCalls k.rom.machine words own.list
   asked = calls k words yes.shapes own budget yes.words yes.depth good judged.means
@@ -165,10 +165,12 @@ module _ (k : Kept) (kept : IsKept k) (timing : Timing) (words : List ℕ) (budg
   pub timed_slow : (at : ℕ) → IsFirstOver timing.states m k.list timing.limit at
       → IsTimed timing k.rom words k.window budget (Err (Slow at))
   timed_slow at over =
-      let before = before_same (clocks_known timing.states) k.window k.rom own.list k.list own.extends own.made.each own.good in_kept
-          kept.good words asked over.items over.item.at over.leads in
-      let through = through_same (clocks_known timing.states) k.window k.rom own.list k.list own.extends own.made.each own.good in_kept
-          kept.good words asked over.items over.item over.leads over.stands in
+      let before =
+          before_same (clocks_known timing.states) k.window k.rom own.list k.list own.extends own.made.each own.good in_kept kept.good
+          words asked over.items over.item.at over.leads in
+      let through =
+          through_same (clocks_known timing.states) k.window k.rom own.list k.list own.extends own.made.each own.good in_kept kept.good
+          words asked over.items over.item over.leads over.stands in
       record {
         verdict = record {
           yes = yes;

@@ -26,8 +26,8 @@ use Rattle.dvg_kept.proofs.Own.{frame_same}
 callee_same : (a b : List Entry) → Extends a b → (o : Option ℕ) (scale : Key) → ((to : ℕ) → o ≡ Some to → HasEntry a to scale)
     → callee_at b o scale ≡ callee_at a o scale
 callee_same a b ext None scale h = refl
-callee_same a b ext (Some to) scale h = let f =
-    h to refl in exact_named b to scale f.0 (ext to scale f.0 f.1) ∙ sym (exact_named a to scale f.0 f.1)
+callee_same a b ext (Some to) scale h =
+    let f = h to refl in exact_named b to scale f.0 (ext to scale f.0 f.1) ∙ sym (exact_named a to scale f.0 f.1)
 
 abbrev pub item_of : ℕ → Format → Instr → Item
 item_of at format instr = record { at = at; format = format; instr = instr }
@@ -89,5 +89,6 @@ module _ (k : Kept) (words : List ℕ) (n : ℕ) (own : HasOwn k words n) (budge
   mine = good_own k.rom.machine words own.list k.list own.extends calls k.window budget count depth good
 
   pub judged_yes : IsJudged k.rom words k.window budget (Ok (record { shapes = n; words = count; depth = depth }))
-  judged_yes = judged_by k.rom words k.window budget own.list own.made (Ok (record { shapes = n; words = count; depth = depth })) tt
+  judged_yes =
+      judged_by k.rom words k.window budget own.list own.made (Ok (record { shapes = n; words = count; depth = depth })) tt
       (own.good, mine, sym own.count) means

@@ -18,7 +18,8 @@ module _ (labels : List Named) (l : Named) (name : List ℕ) where
   keep_other (Some addr) ne h = grind (arith, rules, common_steps)
 
   last_there : l.name ≡ name → Contains (labels ++ l ∷ []) (record { name = name; addr = l.addr })
-  last_there is = subst (λ n. Contains (labels ++ l ∷ []) (record { name = n; addr = l.addr })) is
+  last_there is =
+      subst (λ n. Contains (labels ++ l ∷ []) (record { name = n; addr = l.addr })) is
       (Contains-append_right labels (l ∷ []) l (0, omega arith, refl))
 
   pub first_found : l.name ≡ name → IsFound labels name None → StandsAt (labels ++ l ∷ []) name l.addr
@@ -30,8 +31,9 @@ module _ (labels : List Named) (l : Named) (name : List ℕ) where
 module _ (labels : List Named) (l : Named) (at : ℕ) where
   on_end : (n : Nearest) (h : Names labels at n.name.now n.distance) → (may_name at l.addr ≡ true → l.addr ≤ h.addr)
       → Names (labels ++ l ∷ []) at n.name.now n.distance
-  on_end n h le = grind (arith, rules, common_steps,
-      (append_assoc h.before (record { name = n.name.now; addr = h.addr } ∷ h.after) (l ∷ [])), append_assoc)
+  on_end n h le =
+      grind (arith, rules, common_steps, (append_assoc h.before (record { name = n.name.now; addr = h.addr } ∷ h.after) (l ∷ [])),
+      append_assoc)
 
   pub keep_best : (best : Option Nearest) → may_name at l.addr ≡ false → IsNearest labels at best → IsNearest (labels ++ l ∷ []) at best
   keep_best None off h = All-push (λ (o : Named). may_name at o.addr ≡ false) labels l h off
@@ -64,8 +66,8 @@ one_more xs i x is lt = grind (arith, rules, common_steps, take-suc, map-append)
 -- what is known of the first labels of a list, of all
 pub two_of_all : (xs : List Label) (n : ℕ) (name : List ℕ) → StandsAtTwo (map named_of (take n xs)) name
     → StandsAtTwo (map named_of xs) name
-two_of_all xs n name h = grind
-    (arith, rules, common_steps, (map named_of (take n xs)), (map named_of (drop n xs)), (map named_of xs),
+two_of_all xs n name h =
+    grind (arith, rules, common_steps, (map named_of (take n xs)), (map named_of (drop n xs)), (map named_of xs),
     (map-append named_of (take n xs) (drop n xs)), (map named_of), (take-append-drop n xs), map, take-append-drop)
 
 pub address_of_found : (labels : List Named) (name : List ℕ) (found : Option ℕ) → IsFound labels name found

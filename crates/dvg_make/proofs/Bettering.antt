@@ -20,8 +20,9 @@ use Rattle.dvg_make.proofs.Merging.{scale_grows, fine_grows, same_made, only_lis
 widened : (box : LitBox) (p : Point) → (new : LitBox) × IsInside box new × InBox new p
     × ((other : LitBox) → IsInside box other → InBox other p → IsInside new other)
 widened Empty p = (Span p.x p.x p.y p.y, tt, grind (arith, ints), λ other h i. grind (arith, ints, h, i))
-widened (Span a b c d) p = (Span (int_min a p.x) (int_max b p.x) (int_min c p.y) (int_max d p.y), grind (arith, ints, clamps),
-    grind (arith, ints, clamps), λ other h i. grind (arith, clamps, h, i))
+widened (Span a b c d) p =
+    (Span (int_min a p.x) (int_max b p.x) (int_min c p.y) (int_max d p.y), grind (arith, ints, clamps), grind (arith, ints, clamps),
+    λ other h i. grind (arith, clamps, h, i))
 
 least_box : (ps : List Point) → (box : LitBox) × IsLeast ps box
 least_box [] = (Empty, record { holds = tt; least = λ other h. tt })
@@ -36,8 +37,9 @@ least_ordered [] box h = grind (arith, (h.least Empty tt))
 least_ordered (p ∷ ps) box h = grind (arith, ints, h.holds.0)
 
 pub made_ordered : (rom : Rom) (list : List Entry) (f : Entry) → MadeEntry rom list f → IsOrdered f.lit
-made_ordered rom list f made = let h =
-    made_ends rom list f made in least_ordered (lit_points (shape_context rom.machine list f) (h.stops.i ∷ h.stops.items)) f.lit h.sums.box
+made_ordered rom list f made =
+    let h = made_ends rom list f made in
+    least_ordered (lit_points (shape_context rom.machine list f) (h.stops.i ∷ h.stops.items)) f.lit h.sums.box
 
 -- ---- the entry that a list names for a call
 
@@ -100,8 +102,8 @@ module _ (rom : Rom) (list : List Entry) (up : Upholds rom list) where
     -- the entry that is called has fewer words
     fewer : (earlier : List Item) (i : Item) → LeadsTo Shape (rom_word rom) e.addr earlier i.at
         → cell_at (rom_word rom) i.at ≡ Holds i.format i.instr → (g : Entry) → callee c earlier i.instr ≡ Some g → g.words < e.words
-    fewer earlier i lead is g n = omega
-        (arith, rule earlier i lead is shape.TooManyWords (λ q. cc q), ap callee_words n, word_count-some i.format)
+    fewer earlier i lead is g n =
+        omega (arith, rule earlier i lead is shape.TooManyWords (λ q. cc q), ap callee_words n, word_count-some i.format)
 
     pub called : (earlier : List Item) (i : Item) → LeadsTo Shape (rom_word rom) e.addr earlier i.at
         → cell_at (rom_word rom) i.at ≡ Holds i.format i.instr → (to : ℕ) → target Shape i.instr ≡ Some to → (key : Key)
@@ -177,8 +179,8 @@ module _ (rom : Rom) (list : List Entry) (up : Upholds rom list) where
 
         walk_on : (earlier : List Item) (i : Item) → LeadsTo Shape (rom_word rom) e.addr earlier i.at
             → cell_at (rom_word rom) i.at ≡ Holds i.format i.instr → Walked earlier → Walked (i ∷ earlier)
-        walk_on earlier i lead is w = ⊎_elim
-            (λ t. further w.made w.all (λ a s x q. q) (λ to q. let no : None ≡ Some to = sym t ∙ q in cc no)) call
+        walk_on earlier i lead is w =
+            ⊎_elim (λ t. further w.made w.all (λ a s x q. q) (λ to q. let no : None ≡ Some to = sym t ∙ q in cc no)) call
             (none_or_some (target Shape i.instr))
           where
             k : Key
@@ -211,7 +213,8 @@ module _ (rom : Rom) (list : List Entry) (up : Upholds rom list) where
                     there))
 
         walked : (items : List Item) (p : ℕ) → LeadsTo Shape (rom_word rom) e.addr items p → Walked items
-        walked [] p lead = record { made = []; all = λ x h. absurd (omega (arith, h.1)); tracked =
+        walked [] p lead =
+            record { made = []; all = λ x h. absurd (omega (arith, h.1)); tracked =
             record { fine = tt; knows = record { place = refl; scale = loose; words = omega arith; depth = omega arith }; holds = tt } }
         walked (i ∷ earlier) p lead = walk_on earlier i lead.0 lead.1 (walked earlier i.at lead.0)
 

@@ -190,15 +190,17 @@ module _ (rom : Rom) (from : List Entry) (root : ℕ × Key) (done : List Entry)
 
   module _ (e : Entry) (f : IsFinished rom done partial e) where
     pub finished_new : entry_at done e.addr e.key ≡ None
-    finished_new = subst (λ a. entry_at done a e.key ≡ None) (sym f.addr)
+    finished_new =
+        subst (λ a. entry_at done a e.key ≡ None) (sym f.addr)
         (subst (λ k. entry_at done partial.addr k ≡ None) (sym f.key) (apart_pop done stack partial h.apart).1)
 
     found_more : (made : List Entry) → IsAim rom from root made → Extends (done ++ e ∷ []) made
     found_more made m addr key g q =
         let p = chain_pop made (MOST_WORDS + 1) 0 stack partial (h.forced made m).1 in
         let pl = listed_at made partial.addr partial.key p.0 p.1 in
-        let same : e ≡ p.0 = same_made rom done made e p.0 (h.forced made m).0 f.made (m.all p.0 pl.listed).made
-            (f.addr ∙ sym pl.addr_is) (f.key ∙ sym pl.key_is) in
+        let same : e ≡ p.0 =
+            same_made rom done made e p.0 (h.forced made m).0 f.made (m.all p.0 pl.listed).made (f.addr ∙ sym pl.addr_is)
+            (f.key ∙ sym pl.key_is) in
         grind (arith, entry_at, option_or, entry_at-append, (h.forced made m).0, pl, listed_at)
 
     ends_at : entry_at (done ++ e ∷ []) partial.addr partial.key ≡ Some e

@@ -39,12 +39,13 @@ module _ (rom : Rom) (roots : List (ℕ × Key)) (i : ℕ) (d : ℕ × Key) (don
     (h : Collected rom (take i roots) done) where
   -- a certificate that has all roots has what is made so far, and this root
   aims : (list : List Entry) → AllMade rom list → HasAll roots list → IsAim rom done ((get_or roots i d).0, (get_or roots i d).1) list
-  aims list all has = search (all, h.forced list all (λ a k c. has a k (in_taken roots i (a, k) c)),
+  aims list all has =
+      search (all, h.forced list all (λ a k c. has a k (in_taken roots i (a, k) c)),
       has (get_or roots i d).0 (get_or roots i d).1 (Contains-get_or roots i d lt))
 
   none_made : (frames : List (List ℕ)) → NoAim rom done ((get_or roots i d).0, (get_or roots i d).1) → NoFramesMade rom roots frames
-  none_made frames b list m = b list
-      (aims list (made_all rom (IsAskedFor rom.machine roots frames list) list m) (λ a k r. m.rooted a k (inl r)))
+  none_made frames b list m =
+      b list (aims list (made_all rom (IsAskedFor rom.machine roots frames list) list m) (λ a k r. m.rooted a k (inl r)))
 
   -- so what a refusal says of such lists, it says of those that have all that frames call, too
   pub root_barred : (frames : List (List ℕ)) (why : EntryFault) → Bars rom done ((get_or roots i d).0, (get_or roots i d).1) why
@@ -94,7 +95,8 @@ module _ (machine : Machine) (roots : List (ℕ × Key)) (frames : List (List �
   named_taken n has addr key c = let g = stands_taken roots n (addr, key) c in named_at g.0 addr key g.1 (λ a k b. has a k (g.2 (a, k) b))
 
   named_root : HasAll roots list → (addr : ℕ) (key : Key) → Contains roots (addr, key) → IsNamed addr key
-  named_root has addr key c = named_at c.0 addr key (slice_get_read roots (length roots) c.0 (addr, key) refl c.1 (sym c.2))
+  named_root has addr key c =
+      named_at c.0 addr key (slice_get_read roots (length roots) c.0 (addr, key) refl c.1 (sym c.2))
       (λ a k b. has a k (in_taken roots c.0 (a, k) b))
 
   -- a call of a frame
@@ -217,8 +219,8 @@ module _ (rom : Rom) (roots : List (ℕ × Key)) (frames : List (List ℕ)) (i :
   module _ (new : List Entry) (ext : Extends old new) (f : IsFramed rom now old new) where
     still_asked : (addr : ℕ) (key : Key) → IsAskedFor rom.machine roots (take i frames) old addr key
         → IsAskedFor rom.machine roots (take (suc i) frames) new addr key
-    still_asked addr key a = ⊎_elim (λ r. inl r)
-        (λ c. inr (c.0, was_taken c.0 c.1, calls_grow rom.machine c.0 old new ext (h.has_calls c.0 c.1) addr key c.2)) a
+    still_asked addr key a =
+        ⊎_elim (λ r. inl r) (λ c. inr (c.0, was_taken c.0 c.1, calls_grow rom.machine c.0 old new ext (h.has_calls c.0 c.1) addr key c.2)) a
 
     pub framed_next : AllFramed rom roots (take (suc i) frames) new
     framed_next =
@@ -241,15 +243,16 @@ module _ (rom : Rom) (roots : List (ℕ × Key)) (frames : List (List ℕ)) (i :
   module _ (list : List Entry) (all : AllMade rom list)
       (has : (addr : ℕ) (key : Key) → IsAskedFor rom.machine roots frames list addr key → HasEntry list addr key) where
     has_before : Extends old list
-    has_before = h.forced list all (λ a k r. has a k (inl r))
+    has_before =
+        h.forced list all (λ a k r. has a k (inl r))
         (λ words c to scale calls. has to scale (inr (words, in_taken frames i words c, calls)))
 
     has_now : HasCalls rom.machine now list
     has_now to scale calls = has to scale (inr (now, Contains-get_or frames i d lt, calls))
 
   none_framed : NoneHasCalls rom now old → NoFramesMade rom roots frames
-  none_framed none list m = let all =
-      made_all rom (IsAskedFor rom.machine roots frames list) list m in
+  none_framed none list m =
+      let all = made_all rom (IsAskedFor rom.machine roots frames list) list m in
       none list all (has_before list all m.rooted) (has_now list all m.rooted)
 
   list_barred : (why : EntryFault) → BarsCalls rom now old why → BarsList rom roots frames why

@@ -14,7 +14,8 @@ use Rattle.dvg_make.proofs.Matching.{gathered, Matched, gathered_same, exact_nam
 
 -- something stands wherever items lead
 abbrev pub Stands : Rom → ℕ → Type 0
-Stands rom addr = (items : List Item) (p : ℕ) → LeadsTo Shape (rom_word rom) addr items p → (format : Format) × (instr : Instr)
+Stands rom addr =
+    (items : List Item) (p : ℕ) → LeadsTo Shape (rom_word rom) addr items p → (format : Format) × (instr : Instr)
     × (cell_at (rom_word rom) p ≡ Holds format instr)
 
 -- by the rules of shapes, but for what is lit at absolute places
@@ -169,7 +170,8 @@ module _ (rom : Rom) (list : List Entry) (e : Entry) where
 
   -- such an item stands at the place
   abbrev At : List Item → ℕ → Type 0
-  At earlier p = (format : Format) × (instr : Instr) × (cell_at (rom_word rom) p ≡ Holds format instr)
+  At earlier p =
+      (format : Format) × (instr : Instr) × (cell_at (rom_word rom) p ≡ Holds format instr)
       × AtItem earlier (record { at = p; format = format; instr = instr })
 
   at_items : (items : List Item) (i : Item) → LeadsTo Shape (rom_word rom) e.addr items i.at
@@ -194,7 +196,8 @@ module _ (rom : Rom) (list : List Entry) (e : Entry) where
       (at_items h.stops.items h.stops.i h.stops.leads h.stops.is h.fine (omega (arith, ap (λ (k : Known). k.depth) h.sums.known))
           (omega (arith, ap (λ (k : Known). k.words) h.sums.known)) h.sums.box.holds
           (subst (λ o. AtLast o (Sums rom.machine list (h.stops.i ∷ h.stops.items) e)) (sym h.stops.last) h.sums)) in
-      let each : EachItem rom e.addr AtItem = λ earlier j l k. let a =
+      let each : EachItem rom e.addr AtItem =
+          λ earlier j l k. let a =
           all earlier j.at l in subst (AtItem earlier)
           (let same : record { at = j.at; format = a.0; instr = a.1 } ≡ j = grind (arith, a.2, k) in same) a.3 in
       record {

@@ -25,9 +25,9 @@ done_made rom done h e c = let is = h.entries e c in record { made = h.made e c;
 -- lists of made entries agree, so a list that has the entry would go on from what is made so far
 module _ (rom : Rom) (done : List Entry) (is : IsDone rom done) (to : ℕ) (scale : Key) where
   pub entry_barred : NoAim rom done (to, scale) → Barred rom to scale
-  entry_barred none list all has = let mine =
-      done_made rom done is in none (done ++ list)
-      (record { all = all_merged rom done list mine all; extends = extends_more done list; has =
+  entry_barred none list all has =
+      let mine = done_made rom done is in
+      none (done ++ list) (record { all = all_merged rom done list mine all; extends = extends_more done list; has =
       (has.0, extends_second rom done list mine all to scale has.0 has.1) })
 
   pub bars_entry : (why : EntryFault) → Bars rom done (to, scale) why → BarsEntry rom to scale why
@@ -151,8 +151,9 @@ module _ (rom : Rom) (words : List ℕ) (old done : List Entry) (at : ℕ) (scal
 
     -- a list that has the calls of the frame has this call's entry
     aim : (list : List Entry) → AllMade rom list → Extends old list → HasCalls rom.machine words list → IsAim rom done (to, scale) list
-    aim list all ext has_calls = let e =
-        w.asked.forced list all ext has_calls in record { all = all; extends = e; has = has_calls to scale (called_by list e).calls }
+    aim list all ext has_calls =
+        let e = w.asked.forced list all ext has_calls in
+        record { all = all; extends = e; has = has_calls to scale (called_by list e).calls }
 
     call_made : (new : List Entry) → InProgress rom done (to, scale) new [] → HasEntry new to scale → FrameWalk rom words old new at scale
     call_made new m has =
@@ -188,8 +189,9 @@ module _ (rom : Rom) (words : List ℕ) (old done : List Entry) (at : ℕ) (scal
     call_barred : (why : EntryFault) → Bars rom done (to, scale) why → BarsHere rom words old at why
     call_barred TooManyEntries b = ((λ list all ext has_calls. b list (aim list all ext has_calls)), stops TooManyEntries tt, tt)
     call_barred Memory b = (tt, stops Memory tt, tt)
-    call_barred why b = ((λ list all ext has_calls. b list (aim list all ext has_calls)),
-        stops why (entry_barred rom done w.is_done to scale b), none_accepts b)
+    call_barred why b =
+        ((λ list all ext has_calls. b list (aim list all ext has_calls)), stops why (entry_barred rom done w.is_done to scale b),
+        none_accepts b)
 
   -- ---- past the item
 

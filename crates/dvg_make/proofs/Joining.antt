@@ -75,8 +75,8 @@ module _ (rom : Rom) (list : List Entry) (key : Key) (before : List Item) (t : E
 
   seen_on : (rest : List Item) (i : Item) → known_before c (rest ++ before) ≡ known_over here (known_before behind rest)
       → seen_at c (rest ++ before) i ≡ seen_over here (seen_at behind rest i)
-  seen_on rest i knows = ap (λ (k : Known). seen_by rom.machine list Shape k i) knows
-      ∙ seen_by_over rom.machine list here (known_before behind rest) i
+  seen_on rest i knows =
+      ap (λ (k : Known). seen_by rom.machine list Shape k i) knows ∙ seen_by_over rom.machine list here (known_before behind rest) i
 
   knows_on : (rest : List Item) → known_before c (rest ++ before) ≡ known_over here (known_before behind rest)
   knows_on [] = sym here_is ∙ over_none here t.key scale

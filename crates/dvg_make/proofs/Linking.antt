@@ -28,8 +28,8 @@ module _ (rom : Rom) (list : List Entry) where
   linked_last : (shape next : ShapeAt) (chain : List ShapeAt)
       → IsLinked rom list shape (chain ++ next ∷ []) ↔ (IsLinked rom list shape chain × Precedes rom list (last_shape shape chain) next)
   linked_last shape next [] = (λ h. (tt, h.0), λ h. (h.1, tt))
-  linked_last shape next (other ∷ chain) = let r =
-      linked_last other next chain in (λ h. let x = r.0 h.1 in ((h.0, x.0), x.1), λ h. (h.0.0, r.1 (h.0.1, h.1)))
+  linked_last shape next (other ∷ chain) =
+      let r = linked_last other next chain in (λ h. let x = r.0 h.1 in ((h.0, x.0), x.1), λ h. (h.0.0, r.1 (h.0.1, h.1)))
 
   pub are_popped : (root : ℕ × Key) (stack : List PartialEntry) (w : PartialEntry) → AreLinked rom list root (stack ++ w ∷ [])
       → AreLinked rom list root stack

@@ -12,8 +12,8 @@ use Rattle.dvg_make.proofs.Agreeing.{agree}
 module _ (machine : Machine) (a b : List Entry) (key : Key) (ext : Extends a b) where
   pub scale_grows : (items : List Item) → AllFine (keyed_context machine a key) items
       → scale_before (keyed_context machine a key) items ≡ scale_before (keyed_context machine b key) items
-  scale_grows items h = ap (λ (x : Gathered). x.known.scale)
-      (gathered_same machine a b key items (matched_fine machine a b key ext items h))
+  scale_grows items h =
+      ap (λ (x : Gathered). x.known.scale) (gathered_same machine a b key items (matched_fine machine a b key ext items h))
 
   pub known_grows : (items : List Item) → AllFine (keyed_context machine a key) items
       → known_before (keyed_context machine a key) items ≡ known_before (keyed_context machine b key) items
@@ -21,14 +21,14 @@ module _ (machine : Machine) (a b : List Entry) (key : Key) (ext : Extends a b) 
 
   pub fine_grows : (items : List Item) → AllFine (keyed_context machine a key) items → AllFine (keyed_context machine b key) items
   fine_grows [] h = tt
-  fine_grows (i ∷ earlier) h = (fine_grows earlier h.0,
-      grind (arith, (seen_matched machine a b key earlier i (matched_fine machine a b key ext (i ∷ earlier) h)),
-      (scale_grows earlier h.0), ext))
+  fine_grows (i ∷ earlier) h =
+      (fine_grows earlier h.0, grind
+      (arith, (seen_matched machine a b key earlier i (matched_fine machine a b key ext (i ∷ earlier) h)), (scale_grows earlier h.0), ext))
 
   pub taken_grows : (items : List Item) → AllTaken (keyed_context machine a key) items → AllTaken (keyed_context machine b key) items
   taken_grows [] h = tt
-  taken_grows (i ∷ earlier) h = let f =
-      fine_taken (keyed_context machine a key) (i ∷ earlier) h in
+  taken_grows (i ∷ earlier) h =
+      let f = fine_taken (keyed_context machine a key) (i ∷ earlier) h in
       (taken_grows earlier h.0, grind
       (arith, (seen_matched machine a b key earlier i (matched_fine machine a b key ext (i ∷ earlier) f)), (fine_grows (i ∷ earlier) f)))
 
@@ -79,8 +79,8 @@ known_same machine a b ext (i ∷ earlier) h =
 
 pub path_grows : (machine : Machine) (words : List ℕ) (a b : List Entry) → Extends a b → (at : ℕ) (scale : Key)
     → Path machine words a at scale → Path machine words b at scale
-path_grows machine words a b ext at scale p = let g =
-    known_same machine a b ext p.items p.keyed in
+path_grows machine words a b ext at scale p =
+    let g = known_same machine a b ext p.items p.keyed in
     record { items = p.items; leads = p.leads; keyed = g.1; scale_is = ap (λ (k : Known). k.scale) (sym g.0) ∙ p.scale_is }
 
 -- the call of an item there
@@ -127,8 +127,8 @@ calls_shrink machine words a b ext has to scale c =
 
 pub has_calls_grow : (machine : Machine) (words : List ℕ) (a b : List Entry) → Extends a b → HasCalls machine words a
     → HasCalls machine words b
-has_calls_grow machine words a b ext has to scale c = let f =
-    has to scale (calls_shrink machine words a b ext has to scale c) in (f.0, ext to scale f.0 f.1)
+has_calls_grow machine words a b ext has to scale c =
+    let f = has to scale (calls_shrink machine words a b ext has to scale c) in (f.0, ext to scale f.0 f.1)
 
 -- ---- two lists
 

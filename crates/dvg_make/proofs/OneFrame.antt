@@ -29,7 +29,8 @@ same_rising [] (y ∷ b) rises rises' h k = let c = k y (zero, omega arith, refl
 same_rising (x ∷ a) [] rises rises' h k = let c = h x (zero, omega arith, refl) in absurd (omega (arith, c.1))
 same_rising (x ∷ a) (y ∷ b) rises rises' h k =
     let first : x ≡ y = same_first x y a b rises rises' (h x (zero, omega arith, refl)) (k y (zero, omega arith, refl)) in
-    let rest : a ≡ b = same_rising a b (rising_tail x a rises) (rising_tail y b rises') (in_rest x y a b first rises h)
+    let rest : a ≡ b =
+        same_rising a b (rising_tail x a rises) (rising_tail y b rises') (in_rest x y a b first rises h)
         (in_rest y x b a (sym first) rises' k) in
     λ i. first i ∷ rest i
 
@@ -48,8 +49,8 @@ needs_at rom P list m e f c n =
     (t.1 ∙ ap Some (sym l.addr_is), sym l.key_is, callee_less rom list e made n.earlier n.item n.leads n.stands t.0 f t.1 t.2)
 
 pub made_all : (rom : Rom) (P : ℕ → Key → Type 0) (list : List Entry) → MadeFor rom P list → AllMade rom list
-made_all rom P list m e c = let is =
-    listed_entry rom.map.rom_first rom.map.rom_last list e m.certificate.each c in
+made_all rom P list m e c =
+    let is = listed_entry rom.map.rom_first rom.map.rom_last list e m.certificate.each c in
     record { made = m.each e c; words = is.words_high; depth = is.depth }
 
 -- what holds of all that is asked for, and of what is needed by an entry of which it holds, holds of each entry
@@ -60,9 +61,9 @@ by_need rom P list m Q asked needs f in_list = up_to (MOST_WORDS + 1) f in_list 
   where
     up_to : (n : ℕ) (f : Entry) → Contains list f → MOST_WORDS + 1 ≤ f.words + n → Q f
     up_to zero f c le = absurd (omega (arith, le, (made_all rom P list m f c).words))
-    up_to (suc n) f c le = ⊎_elim (λ a. asked f c a)
-        (λ e. let less = (needs_at rom P list m e.0 f e.1 e.2).2 in needs e.0 f e.1 c e.2 (up_to n e.0 e.1 (omega (arith, less, le))))
-        (m.needed f c)
+    up_to (suc n) f c le =
+        ⊎_elim (λ a. asked f c a) (λ e. let less = (needs_at rom P list m e.0 f e.1 e.2).2 in
+        needs e.0 f e.1 c e.2 (up_to n e.0 e.1 (omega (arith, less, le)))) (m.needed f c)
 
 module _ (rom : Rom) (P Q : ℕ → Key → Type 0) (a b : List Entry) (made_a : MadeFor rom P a) (made_b : MadeFor rom Q b)
     (asked : (addr : ℕ) (key : Key) → P addr key → HasEntry b addr key) where
@@ -78,8 +79,8 @@ module _ (rom : Rom) (P Q : ℕ → Key → Type 0) (a b : List Entry) (made_a :
       subst (λ (k : Key). HasEntry b f.addr k) (sym same) (e_b.keyed n.earlier n.item n.leads n.stands f.addr at.0)
 
   in_both : (f : Entry) → Contains a f → HasEntry b f.addr f.key → Contains b f
-  in_both f in_a has = grind (arith,
-      (agree rom a b made_a.each made_b.each f.addr f.key f has.0 (found_listed a f made_a.certificate.rising in_a) has.1),
+  in_both f in_a has =
+      grind (arith, (agree rom a b made_a.each made_b.each f.addr f.key f has.0 (found_listed a f made_a.certificate.rising in_a) has.1),
       (found_listed a f made_a.certificate.rising in_a), (listed_at b f.addr f.key has.0 has.1))
 
   all_there : (f : Entry) → Contains a f → Contains b f

@@ -55,8 +55,8 @@ module _ (rom : Rom) (list : List Entry) (w : PartialEntry) where
   none_asked items i o lead is k n not made all ext has =
       let t = listed_at made w.addr w.key has.0 has.1 in
       let its = all has.0 t.listed in
-      let allows = allows_at rom made has.0 its.made items i
-          (subst (λ a. LeadsTo Shape (rom_word rom) a items i.at) (sym t.addr_is) lead) is in
+      let allows =
+          allows_at rom made has.0 its.made items i (subst (λ a. LeadsTo Shape (rom_word rom) a items i.at) (sym t.addr_is) lead) is in
       let match : Matched rom.machine list made w.key (i ∷ items) =
           (matched_fine rom.machine list made w.key ext items k.fine, same_if list made _ ext (target Shape i.instr) n.keyed) in
       let v : seen_at (shape_context rom.machine made has.0) items i ≡ seen_with rom.machine o w.cursor.known i =

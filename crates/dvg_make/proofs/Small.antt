@@ -216,9 +216,9 @@ small_up_to rom list all (suc n) e made lt =
         (place_small rom.machine list e.key (h.stops.i ∷ h.stops.items) small) in
     let many : words_before (shape_context rom.machine list e) (h.stops.i ∷ h.stops.items) ≡ e.words =
         ap (λ (k : Known). k.words) h.sums.known in
-    let points = subst (λ n. AllByRecursion (IsReached WORD_REACH n)
-        (lit_points (shape_context rom.machine list e) (h.stops.i ∷ h.stops.items))) many
-        (points_small rom.machine list e.key (h.stops.i ∷ h.stops.items) small) in
+    let points =
+        subst (λ n. AllByRecursion (IsReached WORD_REACH n) (lit_points (shape_context rom.machine list e) (h.stops.i ∷ h.stops.items)))
+        many (points_small rom.machine list e.key (h.stops.i ∷ h.stops.items) small) in
     record { stop = place; lit = (least_good e.words (lit_points (shape_context rom.machine list e) (h.stops.i ∷ h.stops.items)) e.lit
         points h.sums.box).small }
 

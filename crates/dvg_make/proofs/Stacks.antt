@@ -19,14 +19,14 @@ module _ (addr : ℕ) (key : Key) where
   pub found_own : (ps : Pairs) → All IsOwnPartial ps → (w : PartialEntry) → lookup test ps ≡ Some w → ((w.addr ≡ addr) × (w.key ≡ key))
       × IsMaking (values_of ps) addr key
   found_own [] own w e = cc e
-  found_own (p ∷ ps) own w e = grind
-      (arith, cond, lookup, (own_means p (All-head IsOwnPartial p ps own)), (found_own ps (All-tail IsOwnPartial p ps own) w))
+  found_own (p ∷ ps) own w e =
+      grind (arith, cond, lookup, (own_means p (All-head IsOwnPartial p ps own)), (found_own ps (All-tail IsOwnPartial p ps own) w))
 
   -- what is in the making is found
   pub making_found : (ps : Pairs) → All IsOwnPartial ps → IsMaking (values_of ps) addr key → is_some (lookup test ps) ≡ true
   making_found [] own m = absurd m
-  making_found (p ∷ ps) own m = grind
-      (arith, is_some, cond, lookup, at_holds, pair_test, (All-head IsOwnPartial p ps own),
+  making_found (p ∷ ps) own m =
+      grind (arith, is_some, cond, lookup, at_holds, pair_test, (All-head IsOwnPartial p ps own),
       (making_found ps (All-tail IsOwnPartial p ps own)))
 
   pub none_found : (ps : Pairs) → All IsOwnPartial ps → (IsMaking (values_of ps) addr key → ⊥) → lookup test ps ≡ None
@@ -63,7 +63,8 @@ set_last ps n rest old w long e = absurd (omega (arith, long))
 -- the last of them
 pub top_is : (ps : Pairs) (p : (ℕ × Key) × PartialEntry) → slice_get ps (length ps - 1) ≡ Some p → 0 < length ps
     → (rest : List PartialEntry) × (values_of ps ≡ rest ++ p.1 ∷ [])
-top_is ps p at some = (values_of (slice_range ps 0 (length ps - 1)),
+top_is ps p at some =
+    (values_of (slice_range ps 0 (length ps - 1)),
     ap values_of (split_last ps p at some) ∙ values_push (slice_range ps 0 (length ps - 1)) (p ∷ []))
 
 pub one_less : (ps : Pairs) (rest : List PartialEntry) (old : PartialEntry) → values_of ps ≡ rest ++ old ∷ []

@@ -56,7 +56,8 @@ module _ (rom : Rom) (from : List Entry) (root : ℕ × Key) (done : List Entry)
   module _ (new : PartialEntry) (addr : ℕ) (w : IsWaiting rom done partial new addr) where
     crowded_out : NotBegun done (stack ++ new ∷ []) addr new.cursor.known.scale cause.TooManyEntries
         → CauseAt rom done (shapes (stack ++ new ∷ [])) new.cursor.at new.cursor.known cause.TooManyEntries
-    crowded_out b = grind (arith, common_steps, (calls_it rom from root done stack partial h new addr w),
+    crowded_out b =
+        grind (arith, common_steps, (calls_it rom from root done stack partial h new addr w),
         (contained (stack ++ new ∷ []) (start addr new.cursor.known.scale)),
         (are_unmade done (stack ++ new ∷ []) (apart_moved rom from root done stack partial h new addr w)))
 

@@ -74,8 +74,8 @@ crowded done made most n stack unique apart ext chain =
 making_slice : (stack : List PartialEntry) (i : ℕ) (w : PartialEntry) (addr : ℕ) (key : Key) → slice_get stack i ≡ Some w → w.addr ≡ addr
     → w.key ≡ key → IsMaking stack addr key
 making_slice [] i w addr key e a k = cc e
-making_slice (v ∷ stack) zero w addr key e a k = let same : v ≡ w =
-    cc e in inl (ap (λ (x : PartialEntry). x.addr) same ∙ a, ap (λ (x : PartialEntry). x.key) same ∙ k)
+making_slice (v ∷ stack) zero w addr key e a k =
+    let same : v ≡ w = cc e in inl (ap (λ (x : PartialEntry). x.addr) same ∙ a, ap (λ (x : PartialEntry). x.key) same ∙ k)
 making_slice (v ∷ stack) (suc i) w addr key e a k = inr (making_slice stack i w addr key e a k)
 
 pub start_walk : (rom : Rom) (done : List Entry) (addr : ℕ) (key : Key) → addr < ADDRESS_END → IsKey key
@@ -127,13 +127,15 @@ module _ (rom : Rom) (from : List Entry) (root : ℕ × Key) (done : List Entry)
           (h.needed a k (grind (arith, was_begun))))
 
   called_begun : IsCalled rom done ((stack ++ new ∷ []) ++ start addr at_key ∷ []) addr at_key
-  called_begun = grind (arith, (reached rom done new w.partial),
+  called_begun =
+      grind (arith, (reached rom done new w.partial),
       (making_left (stack ++ new ∷ []) (start addr at_key ∷ []) new.addr new.key (making_last stack new new.addr new.key refl refl)),
       (start addr at_key), (making_last stack new new.addr new.key refl refl), (rom_word rom))
 
   needed_begun : (a : ℕ) (k : Key) → IsPresent done ((stack ++ new ∷ []) ++ start addr at_key ∷ []) a k
       → IsNeeded rom from root done ((stack ++ new ∷ []) ++ start addr at_key ∷ []) a k
-  needed_begun a k p = grind (arith, was_begun, start, called_begun, making_append,
+  needed_begun a k p =
+      grind (arith, was_begun, start, called_begun, making_append,
       (needed_grows rom from root done done (stack ++ partial ∷ []) ((stack ++ new ∷ []) ++ start addr at_key ∷ []) (λ y z e q. q)
       present_begun a k))
 
@@ -201,19 +203,19 @@ module _ (rom : Rom) (from : List Entry) (root : ℕ × Key) (done : List Entry)
 
   pub begun_present : (begun : List PartialEntry) → IsBegun done pushed begun addr new.cursor.known.scale → (a : ℕ) (k : Key)
       → IsPresent done (stack ++ partial ∷ []) a k → IsPresent done begun a k
-  begun_present begun b a k p = subst (λ s. IsPresent done s a k)
-      (sym (b.stack ∙ ap (λ (s : List PartialEntry). s ++ start addr new.cursor.known.scale ∷ []) e))
+  begun_present begun b a k p =
+      subst (λ s. IsPresent done s a k) (sym (b.stack ∙ ap (λ (s : List PartialEntry). s ++ start addr new.cursor.known.scale ∷ []) e))
       (present_begun rom from root done stack partial h new addr w a k p)
 
   pub refused : (at : ℕ) (why : EntryCause) → NotBegun done pushed addr new.cursor.known.scale why → Bars rom from root (entry_fault at why)
-  refused at why b = refuses rom from root done stack partial h new addr w at why
-      (subst (λ s. NotBegun done s addr new.cursor.known.scale why) e b)
+  refused at why b =
+      refuses rom from root done stack partial h new addr w at why (subst (λ s. NotBegun done s addr new.cursor.known.scale why) e b)
 
 pub first_ok : (rom : Rom) (done : List Entry) (addr : ℕ) (key : Key) → IsDone rom done → addr < ADDRESS_END → IsKey key
     → entry_at done addr key ≡ None → (old begun : List PartialEntry) → old ≡ [] → IsBegun done old begun addr key
     → InProgress rom done (addr, key) done begun
-first_ok rom done addr key h near is none old begun e b = let x =
-    rw e at b in rw x.stack (first_begun rom done addr key h near is none (omega (arith, x.few)))
+first_ok rom done addr key h near is none old begun e b =
+    let x = rw e at b in rw x.stack (first_begun rom done addr key h near is none (omega (arith, x.few)))
 
 pub on_ok : {T E : Type 0} (r : Result T E) (P : Type 0) → P → OnOk r P
 on_ok r P h = grind (arith)
@@ -229,7 +231,8 @@ pub first_fault : (rom : Rom) (done : List Entry) (addr : ℕ) (key : Key) → I
     → Bars rom done (addr, key) (entry_fault at why)
 first_fault rom done addr key h none old e at why b =
     let large : MOST_ENTRIES ≤ length done → (made : List Entry) → IsAim rom done (addr, key) made → MOST_ENTRIES < length made =
-    λ le made m. let full = crowded done made (MOST_WORDS + 1) 0 (start addr key ∷ []) h.unique (none, λ x. x, tt) m.extends
+    λ le made m. let full =
+        crowded done made (MOST_WORDS + 1) 0 (start addr key ∷ []) h.unique (none, λ x. x, tt) m.extends
         (first_chain rom done made (addr, key) m) in omega (arith, full, le) in
     grind (arith, slice_get, large)
 

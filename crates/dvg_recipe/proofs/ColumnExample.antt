@@ -212,8 +212,8 @@ record IsLabs (i : Instr) : Type 0 where
   place : IsInColumn x y
 
 labs_of : (i : Instr) → Takes (column_piece (pos 256)).kind Long i → IsLabs i
-labs_of (Labs x y scale) h = record
-    { x = x; y = y; is = ap (λ (s : ℕ). Labs x y s) (only_zero scale h.2); place = record { across = h.0; up = h.1 } }
+labs_of (Labs x y scale) h =
+    record { x = x; y = y; is = ap (λ (s : ℕ). Labs x y s) (only_zero scale h.2); place = record { across = h.0; up = h.1 } }
 labs_of i h = absurd h
 
 -- an instruction that calls one of these
@@ -258,8 +258,8 @@ module _ (p : ColumnParts (pos 256)) (words : List ℕ) (b : Belongs (rom_for Bo
   labs_and_call : (l c : Item) → b.items ≡ c ∷ l ∷ [] → IsLabs l.instr → IsCall (0x800 ∷ 0x802 ∷ []) c.instr → IsColumn words
   labs_and_call l c are labs call =
       let lead_there = subst (λ (items : List Item). LeadsTo Frame source 0 items b.at) are b.leads in
-      let long : l.format ≡ Long = subst (λ (i : Instr). HasFormat l.format i) labs.is
-          (format_there source l.at l.format l.instr lead_there.0.1) in
+      let long : l.format ≡ Long =
+          subst (λ (i : Instr). HasFormat l.format i) labs.is (format_there source l.at l.format l.instr lead_there.0.1) in
       let first : l ≡ place_item labs.x labs.y = item_is l 0 Long (Labs labs.x labs.y 0) lead_there.0.0 long labs.is in
       let short : c.format ≡ Short =
           subst (λ (i : Instr). HasFormat c.format i) call.is (format_there source c.at c.format c.instr lead_there.1) in

@@ -34,11 +34,12 @@ use Rattle.dvg_recipe.specs.Private.Hulls.{Rectangle, Change, Shown, IsInRectang
 -- ---- moves grow with sizes
 
 mul_mono : (a b : ℤ) (f : ℕ) → a ≤ℤ b → (a *ℤ pos f) ≤ℤ (b *ℤ pos f)
-mul_mono (pos a) (pos b) f le = let h : a * f ≤ b * f =
-    mul-le-mul_right f (omega (arith, ints, le)) in omega (arith, ints, h, pos-*ℤ-pos a f, pos-*ℤ-pos b f)
+mul_mono (pos a) (pos b) f le =
+    let h : a * f ≤ b * f = mul-le-mul_right f (omega (arith, ints, le)) in omega (arith, ints, h, pos-*ℤ-pos a f, pos-*ℤ-pos b f)
 mul_mono (pos a) (negsuc b) f le = absurd (omega (arith, ints, le))
 mul_mono (negsuc a) (pos b) f le = omega (arith, ints, negsuc-*ℤ-pos a f, pos-*ℤ-pos b f)
-mul_mono (negsuc a) (negsuc b) f le = let h : suc b * f ≤ suc a * f =
+mul_mono (negsuc a) (negsuc b) f le =
+    let h : suc b * f ≤ suc a * f =
     mul-le-mul_right f (omega (arith, ints, le)) in omega (arith, ints, h, negsuc-*ℤ-pos a f, negsuc-*ℤ-pos b f)
 
 rounded_mono : (m n : ℕ) → m ≤ n → rounded m ≤ rounded n
@@ -168,8 +169,8 @@ origin_near = (
 )
 
 pub still_sound : (scale : Key) → IsKey scale → IsSoundChange (still scale)
-still_sound scale key = record
-    { motion = origin_near; light = tt; into = tt; scale = key; some = omega arith; few = omega arith; depth = omega arith }
+still_sound scale key =
+    record { motion = origin_near; light = tt; into = tt; scale = key; some = omega arith; few = omega arith; depth = omega arith }
 
 pub one_sound : (c : Change) → IsSoundChange c → AreSoundChanges (c ∷ [])
 one_sound c h = record { each = λ x there. subst IsSoundChange (only x there) h }
@@ -197,7 +198,8 @@ place_sound places scale near le =
     record { motion = near; light = tt; into = tt; scale = le; some = omega arith; few = omega arith; depth = omega arith }
 
 number_near : (x y : ℤ) → IsNumber x → IsNumber y → IsNear 1 (record { x = x; y = y })
-number_near x y h k = record { left = omega (arith, ints, h.0); right = omega (arith, ints, h.1); down = omega (arith, ints, k.0); up =
+number_near x y h k =
+    record { left = omega (arith, ints, h.0); right = omega (arith, ints, h.1); down = omega (arith, ints, k.0); up =
     omega (arith, ints, k.1) }
 
 stop_near : (stop : End) → IsEnd stop → IsNearMotion (stop_motion stop)
@@ -220,8 +222,9 @@ call_sound (Some e) scale claim key =
 
 -- no further than a draw is near
 pub within_near : (p : Point) → IsWithin (2 ^ 31) p → IsNear 1 p
-within_near p h = record { left = omega (arith, ints, h.left); right = omega (arith, ints, h.right); down = omega (arith, ints, h.down);
-    up = omega (arith, ints, h.up) }
+within_near p h =
+    record { left = omega (arith, ints, h.left); right = omega (arith, ints, h.right); down = omega (arith, ints, h.down); up =
+    omega (arith, ints, h.up) }
 
 -- a call leads anywhere
 pub call_into : (named : Option Entry) (scale : Key) (known : Known) (i : Item) → IsInto (call_change named scale).into known i
@@ -261,13 +264,13 @@ module _ (list : List Entry) (format : Format) (known : Known) (i : Item) where
           depth = omega arith; named_one = λ t. tt; keyed = λ t. tt }) known i (λ scale. tt) same
 
   pub jsrl_alone : (to : ℕ) → Holds format (Jsrl to) ≡ Holds i.format i.instr → IsAct list (CallAct to) known i
-  jsrl_alone to same = holds_act list (CallAct to) format (Jsrl to)
-      (λ scale at short. call_is (callee_at list (Some to) scale) to scale at format short) known i
-      (λ scale. call_into (callee_at list (Some to) scale) scale known i) same
+  jsrl_alone to same =
+      holds_act list (CallAct to) format (Jsrl to) (λ scale at short. call_is (callee_at list (Some to) scale) to scale at format short)
+      known i (λ scale. call_into (callee_at list (Some to) scale) scale known i) same
 
   pub jmpl_alone : (to : ℕ) → Holds format (Jmpl to) ≡ Holds i.format i.instr → IsAct list StillAct known i
-  jmpl_alone to same = holds_act list StillAct format (Jmpl to) (λ scale at short. still_is to scale at format short) known i
-      (λ scale. tt) same
+  jmpl_alone to same =
+      holds_act list StillAct format (Jmpl to) (λ scale at short. still_is to scale at format short) known i (λ scale. tt) same
 
   pub halt_alone : Holds format Halt ≡ Holds i.format i.instr → IsAct list StillAct known i
   halt_alone same = holds_act list StillAct format Halt
@@ -290,7 +293,8 @@ record IsSize (z : ℤ) : Type 0 where
   high : z ≤ℤ pos 1023
 
 size_in : (format : Format) (range : Range) (z : ℤ) → SizesFit format range → IsInSpan range z → IsSize z
-size_in Short range z h k = let a = svec_near range.low h.1 in let b =
+size_in Short range z h k =
+    let a = svec_near range.low h.1 in let b =
     svec_near range.high h.2 in record { low = omega (arith, ints, a.least, k.low); high = omega (arith, ints, b.greatest, k.high) }
 size_in Long range z h k = record { low = omega (arith, ints, h.least, k.low); high = omega (arith, ints, h.greatest, k.high) }
 

@@ -42,8 +42,8 @@ module _ (over : ItemsOver) where
   -- ---- from indices to items
 
   piece_there : (piece : Piece) (i j : ℕ) → PieceLeads piece over i j → AddsPiece piece over.rom (front i) (front j)
-  piece_there piece i j h = record
-      { item = h.item; one_more = ap front h.next ∙ front_next i h.item h.within ∙ ap (λ (x : Item). x ∷ front i) h.there; taken =
+  piece_there piece i j h =
+      record { item = h.item; one_more = ap front h.next ∙ front_next i h.item h.within ∙ ap (λ (x : Item). x ∷ front i) h.there; taken =
       h.taken; arrives = h.arrives }
 
   row_there : (row : List Piece) (i j : ℕ) → RowLeads row over i j → AddsRow row over.rom (front i) (front j)
@@ -64,8 +64,9 @@ module _ (over : ItemsOver) where
       (n, low, few, times_there n (PartLeads body over) (Spells body over.rom) (part_there body) i j h)
 
   jump_there : (to : ℕ) (i j : ℕ) → JumpLeads to over i j → AddsJump to (front i) (front j)
-  jump_there to i j h = record { item = h.item; one_more =
-      ap front h.next ∙ front_next i h.item h.within ∙ ap (λ (x : Item). x ∷ front i) h.there; jumps = h.jumps }
+  jump_there to i j h =
+      record { item = h.item; one_more = ap front h.next ∙ front_next i h.item h.within ∙ ap (λ (x : Item). x ∷ front i) h.there; jumps =
+      h.jumps }
 
   jumps_there : (jumps : List Jump) (i j : ℕ) → JumpsLead jumps over i j → SpellsJumps jumps over.rom (front i) (front j)
   jumps_there [] i j h = ap front h
@@ -119,16 +120,16 @@ module _ (over : ItemsOver) where
       record { i = b.i; le = b.le; is = b.is; leads = (r.i, b.leads, r.leads) }
 
   part_back : (part : Part) → Back (PartLeads part over) (Spells part over.rom)
-  part_back (Row row) before after j le is h = let r =
-      row_back row.items before after j le is h in record { i = r.i; le = r.le; is = r.is; leads = r.leads }
+  part_back (Row row) before after j le is h =
+      let r = row_back row.items before after j le is h in record { i = r.i; le = r.le; is = r.is; leads = r.leads }
   part_back (Then' p a q b) before after j le is (between, first, rest) =
       let r = part_back b between after j le is rest in
       let f = part_back a before between r.i r.le r.is first in
       record { i = f.i; le = f.le; is = f.is; leads = (r.i, f.leads, r.leads) }
-  part_back (Either' p a q b) before after j le is (inl h) = let r =
-      part_back a before after j le is h in record { i = r.i; le = r.le; is = r.is; leads = inl r.leads }
-  part_back (Either' p a q b) before after j le is (inr h) = let r =
-      part_back b before after j le is h in record { i = r.i; le = r.le; is = r.is; leads = inr r.leads }
+  part_back (Either' p a q b) before after j le is (inl h) =
+      let r = part_back a before after j le is h in record { i = r.i; le = r.le; is = r.is; leads = inl r.leads }
+  part_back (Either' p a q b) before after j le is (inr h) =
+      let r = part_back b before after j le is h in record { i = r.i; le = r.le; is = r.is; leads = inr r.leads }
   part_back (Repeat' least most p body) before after j le is (n, low, few, h) =
       let r = times_back n (PartLeads body over) (Spells body over.rom) (part_back body) before after j le is h in
       record { i = r.i; le = r.le; is = r.is; leads = (n, low, few, r.leads) }

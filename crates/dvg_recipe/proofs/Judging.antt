@@ -98,8 +98,8 @@ pub jumps_split : (jumps : List Jump) (jump : Jump) (rom : Rom) (before after : 
     → SpellsJumps (jumps ++ jump ∷ []) rom before after → Both (SpellsJumps jumps) (JumpPart jump) rom before after
 jumps_split [] jump rom before after (there, between, adds, spelled, same) =
     (before, refl, (there, adds, subst (λ l. Spells jump.body rom there l) (sym same) spelled))
-jumps_split (first ∷ jumps) jump rom before after (there, between, adds, spelled, rest) = let r =
-    jumps_split jumps jump rom between after rest in (r.0, (there, between, adds, spelled, r.1), r.2)
+jumps_split (first ∷ jumps) jump rom before after (there, between, adds, spelled, rest) =
+    let r = jumps_split jumps jump rom between after rest in (r.0, (there, between, adds, spelled, r.1), r.2)
 
 module _ (R : Adds) where
   pub times_last : (n : ℕ) (rom : Rom) (before after : List Item) → TimesOver (suc n) R rom before after
@@ -163,8 +163,9 @@ module _ (w : Window) (list : List Entry) (budget : ℕ) where
       record { each = λ rom made words before after r f good. good_under ys zs words after u (h.each rom made words before after r f good) }
 
   pub carries_from : (R : Adds) (xs ys zs : List Hull) → AreUnder xs ys → Carries w list budget R ys zs → Carries w list budget R xs zs
-  carries_from R xs ys zs u h = record
-      { each = λ rom made words before after r f good. h.each rom made words before after r f (good_under xs ys words before u good) }
+  carries_from R xs ys zs u h =
+      record { each = λ rom made words before after r f good. h.each rom made words before after r f
+      (good_under xs ys words before u good) }
 
   pub carries_either : (R S : Adds) (xs ys zs : List Hull) → Carries w list budget R xs zs → Carries w list budget S xs zs
       → Carries w list budget (λ rom before after. R rom before after ⊎ S rom before after) xs zs
@@ -174,8 +175,8 @@ module _ (w : Window) (list : List Entry) (budget : ℕ) where
 
   pub carries_as : (R S : Adds) (xs ys : List Hull) → ((rom : Rom) (before after : List Item) → S rom before after → R rom before after)
       → Carries w list budget R xs ys → Carries w list budget S xs ys
-  carries_as R S xs ys g h = record
-      { each = λ rom made words before after s f good. h.each rom made words before after (g rom before after s) f good }
+  carries_as R S xs ys g h =
+      record { each = λ rom made words before after s f good. h.each rom made words before after (g rom before after s) f good }
 
   -- ---- rows
 
@@ -206,8 +207,8 @@ module _ (w : Window) (list : List Entry) (budget : ℕ) where
       leads None instr is t h = tt
       leads (Some span) instr is t (known, (earlier, named, came, n, past), inside) =
           let same : earlier ≡ k = known_once rom before earlier k came (comes rom made) in
-          let none : named ≡ None = draw_names i.instr t named
-              (subst (λ (e : Known). Names rom (target Frame i.instr) e.scale named) same n) in
+          let none : named ≡ None =
+              draw_names i.instr t named (subst (λ (e : Known). Names rom (target Frame i.instr) e.scale named) same n) in
           let eq : known ≡ known_past Board i None k =
               past ∙ ap (λ (e : Known). known_past Board i named e) same ∙ ap (λ (o : Option Entry). known_past Board i o k) none in
           subst (λ (e : Known). IsEndIn span e.place) eq inside
@@ -222,8 +223,8 @@ module _ (w : Window) (list : List Entry) (budget : ℕ) where
   }
 
   pub carries_jump : (to : ℕ) (xs ys : List Hull) → LeadOn w list budget IsJump xs ys → Carries w list budget (AddsJumpTo to) xs ys
-  carries_jump to xs ys on = record
-      { each = λ rom made words before after a f good. subst (IsGoodFront w list budget ys words) (sym a.one_more)
+  carries_jump to xs ys on =
+      record { each = λ rom made words before after a f good. subst (IsGoodFront w list budget ys words) (sym a.one_more)
       (good_item IsJump xs ys words before a.item on (to, a.jumps) (subst (IsFront words) a.one_more f) good) }
 
   pub carries_row_next : (row : List Piece) (i n : ℕ) (d : Piece) (xs ys zs : List Hull) → n ≡ suc i → i < length row
@@ -274,8 +275,8 @@ module _ (w : Window) (list : List Entry) (budget : ℕ) where
     none (suc n) rom before after le t = absurd (omega (arith, le))
 
     pub turns_first : (least : ℕ) (xs ys : List Hull) → AreUnder xs ys → Carries w list budget (Turns least 0 R) xs ys
-    turns_first least xs ys u = record
-        { each = λ rom made words before after t f good. subst (IsGoodFront w list budget ys words)
+    turns_first least xs ys u =
+        record { each = λ rom made words before after t f good. subst (IsGoodFront w list budget ys words)
         (sym (none t.0 rom before after t.2 t.3)) (good_under xs ys words before u good) }
 
     pub turns_more : (least n m : ℕ) (xs here next more : List Hull) → m ≡ suc n → Carries w list budget (Turns least n R) xs next

@@ -30,7 +30,8 @@ pub known_once : (rom : Rom) (items : List Item) (k l : Known) → ComesTo rom i
 known_once rom [] k l h t = h ∙ sym t
 known_once rom (i ∷ earlier) k l (a, named, came, names, past) (b, other, came_too, names_too, past_too) =
     let same : a ≡ b = known_once rom earlier a b came came_too in
-    let one : named ≡ other = named_once rom (target Frame i.instr) b.scale named other
+    let one : named ≡ other =
+        named_once rom (target Frame i.instr) b.scale named other
         (subst (λ (x : Known). Names rom (target Frame i.instr) x.scale named) same names) names_too in
     past ∙ ap (λ (x : Known). known_past Board i named x) same ∙ ap (λ (o : Option Entry). known_past Board i o b) one ∙ sym past_too
 

@@ -16,8 +16,8 @@ pub past_same : (xs : List ℕ) → IsPast (λ i j. j ≡ i) xs xs
 past_same xs = record { each = λ j. (λ h. (j, h, refl), λ h. subst (λ n. Contains xs n) (sym h.2) h.1) }
 
 pub past_as : (R S : Leads) (xs ys : List ℕ) → ((i j : ℕ) → R i j → S i j) → ((i j : ℕ) → S i j → R i j) → IsPast R xs ys → IsPast S xs ys
-past_as R S xs ys f g h = record
-    { each = λ j. (λ there. let r = (h.each j).0 there in (r.0, r.1, f r.0 j r.2), λ s. (h.each j).1 (s.0, s.1, g s.0 j s.2)) }
+past_as R S xs ys f g h =
+    record { each = λ j. (λ there. let r = (h.each j).0 there in (r.0, r.1, f r.0 j r.2), λ s. (h.each j).1 (s.0, s.1, g s.0 j s.2)) }
 
 pub past_from : (R : Leads) (xs others ys : List ℕ) → xs ≡ others → IsPast R xs ys → IsPast R others ys
 past_from R xs others ys is h = subst (λ (l : List ℕ). IsPast R l ys) is h
@@ -125,8 +125,8 @@ jumps_split : (jumps : List Jump) (jump : Jump) (items : ItemsOver) (i j : ℕ) 
     → Both (JumpsLead jumps items) (JumpPart jump items) i j
 jumps_split [] jump items i j (m, leads, (k, part, same)) =
     (i, refl, (m, leads, subst (λ n. PartLeads jump.body items m n) (sym same) part))
-jumps_split (first ∷ jumps) jump items i j (m, leads, (l, part, rest)) = let r =
-    jumps_split jumps jump items l j rest in (r.0, (m, leads, (l, part, r.1)), r.2)
+jumps_split (first ∷ jumps) jump items i j (m, leads, (l, part, rest)) =
+    let r = jumps_split jumps jump items l j rest in (r.0, (m, leads, (l, part, r.1)), r.2)
 
 pub past_jumps_next : (jumps : List Jump) (items : ItemsOver) (i n : ℕ) (d : Jump) (xs ys zs all : List ℕ) → n ≡ suc i → i < length jumps
     → IsPast (JumpsLead (take i jumps) items) xs ys → IsPast (JumpLeads (get_or jumps i d).area.first items) ys zs
@@ -166,11 +166,13 @@ piece_to a b items xs ys is h = subst (λ (p : Piece). IsPast (PieceLeads p item
 module _ (lists : List Area) (items : ItemsOver) (i n : ℕ) (d : Area) (here : List ℕ) (is : n ≡ suc i) (lt : i < length lists)
     (h : AreThose (SomeStarts (take i lists) items) here) where
   cases : (area : Area) → Contains (take n lists) area → Contains (take i lists) area ⊎ (get_or lists i d ≡ area)
-  cases area there = Contains-push_cases (take i lists) (get_or lists i d) area
+  cases area there =
+      Contains-push_cases (take i lists) (get_or lists i d) area
       (subst (λ (l : List Area). Contains l area) (take-suc lists i d lt) (subst (λ m. Contains (take m lists) area) is there))
 
   old : (area : Area) → Contains (take i lists) area → Contains (take n lists) area
-  old area there = subst (λ m. Contains (take m lists) area) (sym is)
+  old area there =
+      subst (λ m. Contains (take m lists) area) (sym is)
       (subst (λ (l : List Area). Contains l area) (sym (take-suc lists i d lt))
       (Contains-append_left (take i lists) (get_or lists i d ∷ []) area there))
 
@@ -200,7 +202,8 @@ module _ (lists : List Area) (items : ItemsOver) (i n : ℕ) (d : Area) (here : 
       → AreThose (SomeStarts (take n lists) items) more
   starts_skip more same none = record {
     each = λ j. (
-      λ there. let s = (h.each j).0 (subst (λ (l : List ℕ). Contains l j) same there) in
+      λ there. let s =
+          (h.each j).0 (subst (λ (l : List ℕ). Contains l j) same there) in
           record { area = s.area; listed = old s.area s.listed; starts = s.starts },
       λ s. ⊎_elim
           (λ a. subst (λ (l : List ℕ). Contains l j) (sym same) ((h.each j).1 (record { area = s.area; listed = a; starts = s.starts })))

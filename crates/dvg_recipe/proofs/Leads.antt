@@ -40,8 +40,8 @@ named_there list to scale (Some e) is has key = there (entry_at list to scale) (
       where
         named_any : (x y : Entry) → Some x ≡ Some y → x ≡ y
         named_any x y eq = grind (arith, eq)
-    there None None here any = absurd
-        (not_both (named_entry list to scale) (ap (λ (o : Option Entry). option_or o (entry_at list to Any)) here ∙ any) is)
+    there None None here any =
+        absurd (not_both (named_entry list to scale) (ap (λ (o : Option Entry). option_or o (entry_at list to Any)) here ∙ any) is)
       where
         not_both : (o : Option Entry) → o ≡ None → o ≡ Some e → ⊥
         not_both o none some = grind (arith, none, some)

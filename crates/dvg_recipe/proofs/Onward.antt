@@ -49,7 +49,8 @@ module _ (w : Window) (list : List Entry) (budget : ℕ) where
 
   pub row_one : (row : List Piece) (d : Piece) (xs ys : List Hull) → length row ≡ 1
       → LeadOn w list budget (IsTaken (get_or row 0 d).kind) xs ys → Carries w list budget (AddsRow row) xs ys
-  row_one row d xs ys one on = carries_row_whole w list budget row xs ys 1 (omega (arith, one))
+  row_one row d xs ys one on =
+      carries_row_whole w list budget row xs ys 1 (omega (arith, one))
       (row_next row 0 1 d xs xs ys refl (omega (arith, one)) (carries_same w list budget xs) on)
 
   pub behind_under : (R : Adds) (xs ys all : List Hull) → AreUnder ys all → Carries w list budget R xs ys → Carries w list budget R xs all
@@ -70,8 +71,8 @@ module _ (w : Window) (list : List Entry) (budget : ℕ) where
     one_turn n m xs ys zs is h k = turn_next w list budget (Spells body) n m xs ys zs is (extends_part body) h k
 
     pub times_none : (xs ys : List Hull) → xs ≡ ys → Carries w list budget (TimesOver 0 (Spells body)) xs ys
-    times_none xs ys is = subst (λ (l : List Hull). Carries w list budget (TimesOver 0 (Spells body)) xs l) is
-        (carries_same w list budget xs)
+    times_none xs ys is =
+        subst (λ (l : List Hull). Carries w list budget (TimesOver 0 (Spells body)) xs l) is (carries_same w list budget xs)
 
     pub least_turns : (least : ℕ) (xs ys zs : List Hull) → AreUnder ys zs → Carries w list budget (TimesOver least (Spells body)) xs ys
         → Carries w list budget (Turns least least (Spells body)) xs zs

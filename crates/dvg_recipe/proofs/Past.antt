@@ -23,12 +23,13 @@ use Rattle.dvg_recipe.specs.Private.Hulls.{Rectangle, Places, Lost, Within, Hull
 -- ---- rectangles
 
 shift_in : (r by : Rectangle) (p d : Point) → IsInRectangle r p → IsInRectangle by d → IsInRectangle (moved r by) (shift p d)
-shift_in r by p d h k = record
-    { left = omega (arith, ints, h.left, k.left); right = omega (arith, ints, h.right, k.right); bottom =
+shift_in r by p d h k =
+    record { left = omega (arith, ints, h.left, k.left); right = omega (arith, ints, h.right, k.right); bottom =
     omega (arith, ints, h.bottom, k.bottom); top = omega (arith, ints, h.top, k.top) }
 
 in_window : (w : Window) (r : Rectangle) (p : Point) → IsShown w r → IsInRectangle r p → InWindow w p
-in_window w r p h k = record { left = omega (arith, ints, h.0.left, k.left); right = omega (arith, ints, h.1.right, k.right); bottom =
+in_window w r p h k =
+    record { left = omega (arith, ints, h.0.left, k.left); right = omega (arith, ints, h.1.right, k.right); bottom =
     omega (arith, ints, h.0.bottom, k.bottom); top = omega (arith, ints, h.1.top, k.top) }
 
 -- ---- places
@@ -49,8 +50,9 @@ places_on (By d) (Within r) (Moves v) LostEnd h k = absurd h
 -- ---- into a rectangle
 
 common_in : (r s : Rectangle) (p : Point) → IsInRectangle r p → IsInRectangle s p → IsInRectangle (common r s) p
-common_in r s p h k = record { left = omega (arith, ints, clamps, h.left, k.left); right = omega (arith, ints, clamps, h.right, k.right);
-    bottom = omega (arith, ints, clamps, h.bottom, k.bottom); top = omega (arith, ints, clamps, h.top, k.top) }
+common_in r s p h k =
+    record { left = omega (arith, ints, clamps, h.left, k.left); right = omega (arith, ints, clamps, h.right, k.right); bottom =
+    omega (arith, ints, clamps, h.bottom, k.bottom); top = omega (arith, ints, clamps, h.top, k.top) }
 
 -- where the item leads, whatever it calls: a draw calls nothing
 into_place : (r : Rectangle) (named : Option Entry) (k : Known) (i : Item) → IsInto (Some r) k i
@@ -104,7 +106,8 @@ record IsLit (w : Window) (extent : LitExtent) (place : End) : Type 0 where
 
 -- where what is lit ends, if it is a draw into a rectangle
 abbrev EndsIn : Option Rectangle → LitExtent → End → Type 0
-EndsIn into extent place = (r : Rectangle) (x y : ℤ) (a b : Point) → into ≡ Some r → place ≡ Abs x y → extent ≡ Between a b
+EndsIn into extent place =
+    (r : Rectangle) (x y : ℤ) (a b : Point) → into ≡ Some r → place ≡ Abs x y → extent ≡ Between a b
     → IsInRectangle r (shift (record { x = x; y = y }) b)
 
 part_has : (into : Option Rectangle) (s : Rectangle) (p : Point) → ((r : Rectangle) → into ≡ Some r → IsInRectangle r p)
@@ -147,7 +150,8 @@ module _ (w : Window) (budget : ℕ) (h : Hull) (c : Change) (named : Option Ent
           omega (arith, inside.words, is.words, keeps.few) }
 
   pub inside_past : IsInHull (hull_past c h) (known_past Board i named k)
-  inside_past = record { scale = is.scale_after; place =
+  inside_past =
+      record { scale = is.scale_after; place =
       into_on c.into (places_past c.motion h.places) named k i (places_on c.motion h.places _ k.place inside.place is.motion) into;
       words = omega (arith, inside.words, is.words); depth = omega (arith, inside.depth, is.depth) }
 
@@ -161,11 +165,13 @@ format_there get p Long i e = grind (arith, nat_le, nat_tests, cell_of_format)
 -- ---- two hulls in one
 
 around_one : (r s : Rectangle) (p : Point) → IsInRectangle r p → IsInRectangle (around r s) p
-around_one r s p h = record { left = omega (arith, ints, clamps, h.left); right = omega (arith, ints, clamps, h.right); bottom =
+around_one r s p h =
+    record { left = omega (arith, ints, clamps, h.left); right = omega (arith, ints, clamps, h.right); bottom =
     omega (arith, ints, clamps, h.bottom); top = omega (arith, ints, clamps, h.top) }
 
 around_other : (r s : Rectangle) (p : Point) → IsInRectangle s p → IsInRectangle (around r s) p
-around_other r s p h = record { left = omega (arith, ints, clamps, h.left); right = omega (arith, ints, clamps, h.right); bottom =
+around_other r s p h =
+    record { left = omega (arith, ints, clamps, h.left); right = omega (arith, ints, clamps, h.right); bottom =
     omega (arith, ints, clamps, h.bottom); top = omega (arith, ints, clamps, h.top) }
 
 places_one : (a b : Places) (place : End) → IsAmong a place → IsAmong (joined_places a b) place
@@ -183,12 +189,13 @@ places_other (Within r) (Within s) (Abs x y) h = around_other r s (record { x = 
 places_other (Within r) (Within s) LostEnd h = absurd h
 
 pub hull_one : (a b : Hull) (k : Known) → IsInHull a k → IsInHull (joined a b) k
-hull_one a b k h = record { scale = h.scale; place = places_one a.places b.places k.place h.place; words = omega (arith, h.words);
-    depth = omega (arith, h.depth) }
+hull_one a b k h =
+    record { scale = h.scale; place = places_one a.places b.places k.place h.place; words = omega (arith, h.words); depth =
+    omega (arith, h.depth) }
 
 pub hull_other : (a b : Hull) (k : Known) → a.scale ≡ b.scale → IsInHull b k → IsInHull (joined a b) k
-hull_other a b k same h = record
-    { scale = h.scale ∙ sym same; place = places_other a.places b.places k.place h.place; words = omega (arith, h.words); depth =
+hull_other a b k same h =
+    record { scale = h.scale ∙ sym same; place = places_other a.places b.places k.place h.place; words = omega (arith, h.words); depth =
     omega (arith, h.depth) }
 
 -- ---- limits

@@ -14,8 +14,8 @@ pub none_listed : (j : ℕ) → Contains [] j → ⊥
 none_listed j h = omega (arith, h.1)
 
 pub joined_append : (xs ys : List ℕ) → IsJoined xs ys (xs ++ ys)
-joined_append xs ys = record { each =
-    λ j. (Contains-append_cases xs ys j, ⊎_elim (Contains-append_left xs ys j) (Contains-append_right xs ys j)) }
+joined_append xs ys =
+    record { each = λ j. (Contains-append_cases xs ys j, ⊎_elim (Contains-append_left xs ys j) (Contains-append_right xs ys j)) }
 
 pub joined_as : (xs ys zs others : List ℕ) → zs ≡ others → IsJoined xs ys zs → IsJoined xs ys others
 joined_as xs ys zs others is h = subst (λ (l : List ℕ). IsJoined xs ys l) is h

@@ -26,12 +26,13 @@ none_covered k c = absurd (omega (arith, c.listed.1))
 
 -- all hulls are sound, one more with them
 pub sound_push : (xs : List Hull) (x : Hull) → AreSoundHulls xs → IsSoundHull x → AreSoundHulls (xs ++ x ∷ [])
-sound_push xs x h new = record
-    { each = λ s there. ⊎_elim (h.each s) (λ alone. subst IsSoundHull (listed_alone x s alone) new)
+sound_push xs x h new =
+    record { each = λ s there. ⊎_elim (h.each s) (λ alone. subst IsSoundHull (listed_alone x s alone) new)
     (Contains-append_cases xs (x ∷ []) s there) }
 
 same_or_not : (k i : ℕ) → (k ≡ i) ⊎ (k ≢ i)
-same_or_not k i = ⊎_elim (λ h. inr (λ e. omega (arith, h, e)))
+same_or_not k i =
+    ⊎_elim (λ h. inr (λ e. omega (arith, h, e)))
     (λ h. ⊎_elim (λ le. inr (λ e. omega (arith, le, e))) (λ ge. inl (omega (arith, h, ge))) (cases_lt i k)) (cases_lt k i)
 
 module _ (xs : List Hull) (i : ℕ) (x : Hull) (lt : i < length xs) where
@@ -53,8 +54,8 @@ module _ (xs : List Hull) (i : ℕ) (x : Hull) (lt : i < length xs) where
   set_sound h new = record { each = λ t there. ⊎_elim (h.each t) (λ is. subst IsSoundHull (sym is) new) (set_listed t there) }
 
   pub set_added : (h : Hull) → ((k : Known) → IsInHull h k → IsInHull x k) → AreUnder (h ∷ []) (set xs i x)
-  set_added h wider = record { each =
-      λ k c. record { hull = x; listed = set_has; inside =
+  set_added h wider =
+      record { each = λ k c. record { hull = x; listed = set_has; inside =
       wider k (subst (λ (y : Hull). IsInHull y k) (sym (listed_alone h c.hull c.listed)) c.inside) } }
 
   pub set_kept : ((d : Hull) (k : Known) → IsInHull (get_or xs i d) k → IsInHull x k) → AreUnder xs (set xs i x)
@@ -68,12 +69,12 @@ module _ (xs : List Hull) (i : ℕ) (x : Hull) (lt : i < length xs) where
               inside }) (same_or_not n i)
 
 pub push_kept : (xs : List Hull) (x : Hull) → AreUnder xs (xs ++ x ∷ [])
-push_kept xs x = record { each =
-    λ k c. record { hull = c.hull; listed = Contains-append_left xs (x ∷ []) c.hull c.listed; inside = c.inside } }
+push_kept xs x =
+    record { each = λ k c. record { hull = c.hull; listed = Contains-append_left xs (x ∷ []) c.hull c.listed; inside = c.inside } }
 
 pub push_added : (xs : List Hull) (x : Hull) → AreUnder (x ∷ []) (xs ++ x ∷ [])
-push_added xs x = record { each =
-    λ k c. record { hull = c.hull; listed = Contains-append_right xs (x ∷ []) c.hull c.listed; inside = c.inside } }
+push_added xs x =
+    record { each = λ k c. record { hull = c.hull; listed = Contains-append_right xs (x ∷ []) c.hull c.listed; inside = c.inside } }
 
 -- ---- one hull after another
 

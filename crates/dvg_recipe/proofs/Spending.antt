@@ -90,8 +90,8 @@ module _ (t : States) (list : List Entry) (by_entry : Entry → ClockRange) wher
       → ((scale : Key) (n : ClockRange) → IsUnder n (most_at here scale)
       → IsUnder (taken_past t list by_entry item scale n) (most_at next (scale_past t list by_entry item scale)))
       → TakeOn t list by_entry (AreAlike t item) here next
-  on_alike item here next h = record
-      { each = λ i alike scale n under. grind (arith, alike.clocks scale, alike.calls, alike.sets, h scale n under) }
+  on_alike item here next h =
+      record { each = λ i alike scale n under. grind (arith, alike.clocks scale, alike.calls, alike.sets, h scale n under) }
 
   pub on_kind : (kind other : PieceKind) (here next : MostClocks) → kind ≡ other
       → TakeOn t list by_entry (λ i. Takes kind i.format i.instr) here next
@@ -167,15 +167,15 @@ module _ (t : States) (list : List Entry) (by_entry : Entry → ClockRange) wher
 
   pub spend_piece : (piece : Piece) (xs ys : MostClocks) → TakeOn t list by_entry (λ i. Takes piece.kind i.format i.instr) xs ys
       → Spend t list by_entry (AddsPiece piece) xs ys
-  spend_piece piece xs ys on = record
-      { each = λ rom before after a under. spend_item (λ i. Takes piece.kind i.format i.instr) xs ys before after a.item on a.one_more
-      a.taken under }
+  spend_piece piece xs ys on =
+      record { each = λ rom before after a under. spend_item (λ i. Takes piece.kind i.format i.instr) xs ys before after a.item on
+      a.one_more a.taken under }
 
   pub spend_jump : (to : ℕ) (xs ys : MostClocks) → TakeOn t list by_entry (λ i. (to : ℕ) × (i.instr ≡ Jmpl to)) xs ys
       → Spend t list by_entry (AddsJumpTo to) xs ys
-  spend_jump to xs ys on = record
-      { each = λ rom before after a under. spend_item (λ i. (to : ℕ) × (i.instr ≡ Jmpl to)) xs ys before after a.item on a.one_more
-      (to, a.jumps) under }
+  spend_jump to xs ys on =
+      record { each = λ rom before after a under. spend_item (λ i. (to : ℕ) × (i.instr ≡ Jmpl to)) xs ys before after a.item on
+      a.one_more (to, a.jumps) under }
 
   pub row_next : (row : List Piece) (i n : ℕ) (d : Piece) (xs ys zs : MostClocks) → n ≡ suc i → i < length row
       → Spend t list by_entry (AddsRow (take i row)) xs ys

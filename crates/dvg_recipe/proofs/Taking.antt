@@ -27,7 +27,8 @@ module _ (t : States) (rom : Rom) (recipe : Recipe) (w : Window) (list : List En
   -- the shapes take what is said of them
   as_told : (items : List Item) → taken_before (clocks_known t) (clocks_in kept) (frame_context Board list) items
       ≡ taken_before (clocks_known t) (sum_of (clocks_known t) rom list) (frame_context Board list) items
-  as_told items = same_taken (clocks_known t) (clocks_in kept) (sum_of (clocks_known t) rom list) (frame_context Board list) items
+  as_told items =
+      same_taken (clocks_known t) (clocks_in kept) (sum_of (clocks_known t) rom list) (frame_context Board list) items
       (λ e listed less. ap (λ o. unwrap_or o (just 0)) (told e listed).told)
 
   pub all_take : ((frame : List ℕ) → Belongs rom recipe frame → IsMemory (record { frame = frame; rom = rom })) → AllTake t rom recipe most

@@ -11,8 +11,8 @@ module _ (R : Leads) where
   times_split : (n m l : ℕ) (i j : ℕ) → l ≡ n + m → TimesOver l R i j → Both (TimesOver n R) (TimesOver m R) i j
   times_split zero m l i j is h = (i, refl, subst (λ x. TimesOver x R i j) (omega (arith, is)) h)
   times_split (suc n) m zero i j is h = absurd (omega (arith, is))
-  times_split (suc n) m (suc l) i j is (k, first, rest) = let r =
-      times_split n m l k j (omega (arith, is)) rest in (r.0, (k, first, r.1), r.2)
+  times_split (suc n) m (suc l) i j is (k, first, rest) =
+      let r = times_split n m l k j (omega (arith, is)) rest in (r.0, (k, first, r.1), r.2)
 
   times_sum : (n m l : ℕ) (i j : ℕ) → l ≡ n + m → Both (TimesOver n R) (TimesOver m R) i j → TimesOver l R i j
   times_sum zero m l i j is (k, same, rest) = subst (λ x. TimesOver x R i j) (omega (arith, is)) (subst (λ x. TimesOver m R x j) same rest)

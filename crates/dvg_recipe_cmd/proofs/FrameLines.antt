@@ -47,8 +47,9 @@ module _ {R : Type 0} (remaining : R → Option (List ℕ)) (failures : R → �
     pub cut_frames : (frame : NamedFrame R) (new : Option (List ℕ))
         → WritesLinePrefix (IsLineOfFrame remaining failures rom recipe listing) (of_frames listing) frame mid new
         → ReportsPrefix (IsLineOfFrame remaining failures rom recipe listing) (of_frames listing) (frames ++ frame ∷ []) old new
-    cut_frames = cut_lines (IsLineOfFrame remaining failures rom recipe listing) (of_frames listing) count frames old mid tally writes
-        writes_mid worst h
+    cut_frames =
+        cut_lines (IsLineOfFrame remaining failures rom recipe listing) (of_frames listing) count frames old mid tally writes writes_mid
+        worst h
 
     same : summary_of listing.summary (tally_on no_frames h.lines) ≡ summary_of listing.summary tally
     same = ap (summary_of listing.summary) (sym h.tally_is)

@@ -60,8 +60,9 @@ module _ {A B : Type 0} (IsLineOf : A → Line B → Type 0) (telling : Telling 
             lines_of = lines_of_on things h.lines thing line h.lines_of one.line_of;
             written = sent.written;
             one_write = sent.one_write;
-            outcome_is = is ∙ ap (λ o. worse o end) h.outcome_is
-                ∙ ap (λ o. worse (worst_of telling outcome.Accepted h.lines) o) one.end_is ∙ sym (worst_on outcome.Accepted h.lines line);
+            outcome_is =
+                is ∙ ap (λ o. worse o end) h.outcome_is ∙ ap (λ o. worse (worst_of telling outcome.Accepted h.lines) o) one.end_is
+                ∙ sym (worst_on outcome.Accepted h.lines line);
             tally_is = counted;
           }
 

@@ -40,12 +40,13 @@ module _ {R : Type 0} (remaining : R → Option (List ℕ)) (failures : R → �
     pub cut_recipes : (recipe : NamedRecipe R) (new : Option (List ℕ))
         → WritesLinePrefix (IsLineOfRecipe remaining failures rom asked detail) of_recipes recipe mid new
         → ReportsPrefix (IsLineOfRecipe remaining failures rom asked detail) of_recipes (recipes ++ recipe ∷ []) old new
-    cut_recipes = cut_lines (IsLineOfRecipe remaining failures rom asked detail) of_recipes no_count recipes old mid tt writes writes_mid
-        worst h
+    cut_recipes =
+        cut_lines (IsLineOfRecipe remaining failures rom asked detail) of_recipes no_count recipes old mid tt writes writes_mid worst h
 
     pub all_recipes : Reports (IsLineOfRecipe remaining failures rom asked detail) of_recipes recipes old mid writes writes_mid worst
-    all_recipes = with_last (IsLineOfRecipe remaining failures rom asked detail) of_recipes no_count recipes old mid tt writes writes_mid
-        worst h [] refl mid writes_mid (Appends-nil mid) refl
+    all_recipes =
+        with_last (IsLineOfRecipe remaining failures rom asked detail) of_recipes no_count recipes old mid tt writes writes_mid worst h
+        [] refl mid writes_mid (Appends-nil mid) refl
 
   -- one recipe alone
   pub one_recipe : (recipe : NamedRecipe R) (old new : Option (List ℕ)) (writes writes_after : ℕ) (end : FrameOutcome)

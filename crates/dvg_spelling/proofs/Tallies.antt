@@ -10,5 +10,5 @@ refused_then number (first ∷ counts) count = grind (arith, (refused_then (numb
 -- with the count of the next number it is that of one more
 pub refused_next : (counts : List ℕ) (i d : ℕ) → i < length counts → (get_or counts i d ≡ get_or counts i d)
     × (refused_texts 0 (take (i + 1) counts) ≡ refused_texts 0 (take i counts) ++ refused_text i (get_or counts i d))
-refused_next counts i d lt = (refl,
-    grind (arith, (take_more counts i d lt), (refused_then 0 (take i counts) (get_or counts i d)), length-take))
+refused_next counts i d lt =
+    (refl, grind (arith, (take_more counts i d lt), (refused_then 0 (take i counts) (get_or counts i d)), length-take))

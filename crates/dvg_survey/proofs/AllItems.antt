@@ -13,8 +13,8 @@ module _ (kind : Kind) (word : Source) (first : ℕ) where
   -- no more stand than all
   pub no_more : (a : List Item) → AreAll kind word first a → (b : List Item) → Stand kind word first b → length a < length b → ⊥
   no_more a all [] k lt = omega (arith, lt)
-  no_more a all (j ∷ b) k lt = grind
-      (arith, (no_more a all b (stand_before b j.at k.0)), (all.last j), (same_stand a b all.stand (stand_before b j.at k.0)))
+  no_more a all (j ∷ b) k lt =
+      grind (arith, (no_more a all b (stand_before b j.at k.0)), (all.last j), (same_stand a b all.stand (stand_before b j.at k.0)))
 
   -- what all items keep, those up to any item that stands keep
   within : (P : List Item → Type 0) → ((i : Item) (rest : List Item) → P (i ∷ rest) → P rest) → (a b : List Item)
@@ -28,8 +28,8 @@ module _ (kind : Kind) (word : Source) (first : ℕ) where
 
   pub up_to : (P : List Item → Type 0) → ((i : Item) (rest : List Item) → P (i ∷ rest) → P rest) → (a : List Item)
       → AreAll kind word first a → P a → (b : List Item) → Stand kind word first b → P b
-  up_to P less a all p b k = within P less a b all.stand k
-      (⊎_elim (λ lt. absurd (no_more a all b k lt)) (λ le. le) (cases_lt (length a) (length b))) p
+  up_to P less a all p b k =
+      within P less a b all.stand k (⊎_elim (λ lt. absurd (no_more a all b k lt)) (λ le. le) (cases_lt (length a) (length b))) p
 
   pub one_all : (a b : List Item) → AreAll kind word first a → AreAll kind word first b → a ≡ b
   one_all a b h k = grind (arith, no_more, same_stand, cases_lt)

@@ -26,13 +26,14 @@ module _ (rom : Rom) (list : List Entry) (e : Entry) where
         let seen = seen_is here_in (rom_word rom) e.addr NoneBears here w v s in
         let calls : IsShapeCall rom list e call =
             record { earlier = w.items; item = v.item; leads = here_leads here_in (rom_word rom) e.addr NoneBears here w v s; stands =
-            here_stands here_in (rom_word rom) e.addr NoneBears here w v s; at = at; callee_is =
-            sym (ap (λ (x : Seen). x.callee) seen) ∙ named } in
+            here_stands here_in (rom_word rom) e.addr NoneBears here w v s; at =
+            at; callee_is = sym (ap (λ (x : Seen). x.callee) seen) ∙ named } in
         (record { calls = calls; some = some; depth = depth }, w.holds)
 
     -- or it does not
     none_on : ((f : Entry) → v.callee ≡ Some f → depth_under v.item.instr (Some f) ≡ e.depth → ⊥) → NoneBears (v.item ∷ w.items)
-    none_on not = grind (arith, all_append, calls_among, call_of, callee, cell_at, rom_word,
+    none_on not =
+        grind (arith, all_append, calls_among, call_of, callee, cell_at, rom_word,
         (seen_is here_in (rom_word rom) e.addr NoneBears here w v s))
 
     pub none_past : (step : Step) → step ≡ step_past Shape v → IsSoundStep step
@@ -54,8 +55,8 @@ module _ (rom : Rom) (list : List Entry) (e : Entry) (most : ℕ) where
         → GoDeepest most rom list e (calls ++ rest)
 
   pub starts_down : (map : MemoryMap) → IsCertificate map list → Contains list e → Down [] e 0
-  starts_down map some listed = record
-      { claim = listed_claim list e (map, some) listed; goes =
+  starts_down map some listed =
+      record { claim = listed_claim list e (map, some) listed; goes =
       λ left rest all g. subst (λ (n : ℕ). GoDeepest n rom list e rest) (omega (arith, all)) g }
 
   module _ (calls : List Call) (last : Entry) (count : ℕ) (down : Down calls last count) where
@@ -73,8 +74,8 @@ module _ (rom : Rom) (list : List Entry) (e : Entry) (most : ℕ) where
         })
 
     pub no_further : count < most → ((call : Call) → BearsNot rom list last call) → GoDeepest most rom list e calls
-    no_further lt none = subst (GoDeepest most rom list e) (append-nil calls)
-        (down.goes (suc (most - suc count)) [] (omega (arith, lt)) none)
+    no_further lt none =
+        subst (GoDeepest most rom list e) (append-nil calls) (down.goes (suc (most - suc count)) [] (omega (arith, lt)) none)
 
     pub no_more : most ≤ count → count ≤ most → GoDeepest most rom list e calls
     no_more ge le = subst (GoDeepest most rom list e) (append-nil calls) (down.goes 0 [] (omega (arith, ge, le)) refl)

@@ -15,8 +15,8 @@ module _ (c : Context) (word : Source) (first : ℕ) where
   -- each of them is one
   calls_hold : (items : List Item) → Stand c.kind word first items → AllByRecursion (Calls c word first) (calls_among c items)
   calls_hold [] h = tt
-  calls_hold (i ∷ earlier) h = grind
-      (arith, all_append, calls_among, call_of, callee, (calls_hold earlier (stand_before c.kind word first earlier i.at h.0)),
+  calls_hold (i ∷ earlier) h =
+      grind (arith, all_append, calls_among, call_of, callee, (calls_hold earlier (stand_before c.kind word first earlier i.at h.0)),
       stand_before, one_call)
 
   pub calls_own : (calls : List Call) → AreCalls c word first calls → AllByRecursion (Calls c word first) calls

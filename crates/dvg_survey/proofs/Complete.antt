@@ -94,7 +94,8 @@ module _ (rom : Rom) (words : List ℕ) (list : List Entry) where
   module _ (goal : Entry) where
     -- the entry is not the goal, and the entries of its shape's calls are there
     abbrev pub Done : List Link → Entry → Type 0
-    Done links e = (entry_at list e.addr e.key ≡ Some e) × (e ≡ goal → ⊥)
+    Done links e =
+        (entry_at list e.addr e.key ≡ Some e) × (e ≡ goal → ⊥)
         × ((call : Call) → IsShapeCall rom list e call → is_there links call.entry ≡ true)
 
     -- all calls of the frame, of the shapes of the first entries, none of which is the goal, and from the visited places were reached
@@ -168,8 +169,9 @@ module _ (rom : Rom) (words : List ℕ) (list : List Entry) where
 
       pub no_chain : (calls : List Call) → IsChain rom words list calls goal → ⊥
       no_chain [] c = c
-      no_chain (call ∷ rest) c = none_on rest call.entry
-          (call_named (frame_context rom.machine list) (frame_word rom.machine words) 0 call c.0) (h.framed call c.0) c.1
+      no_chain (call ∷ rest) c =
+          none_on rest call.entry (call_named (frame_context rom.machine list) (frame_word rom.machine words) 0 call c.0)
+          (h.framed call c.0) c.1
 
     -- an entry that was reached is in the list, and so within its limits
     pub reached_claim : (links : List Link) (visited : List Bool) (head k : ℕ) (l : Link) → IsSomeCertificate list

@@ -66,8 +66,8 @@ module _ (rom : Rom) (list : List Entry) (edge : Edge) (e : Entry) (most : ℕ) 
         → FindsStroke most rom list edge e found
 
   pub starts_down : (map : MemoryMap) → IsCertificate map list → Contains list e → Down e 0
-  starts_down map some listed = record
-      { claim = listed_claim list e (map, some) listed; goes =
+  starts_down map some listed =
+      record { claim = listed_claim list e (map, some) listed; goes =
       λ left found all f. subst (λ (n : ℕ). FindsStroke n rom list edge e found) (omega (arith, all)) f }
 
   module _ (last : Entry) (count : ℕ) (down : Down last count) where

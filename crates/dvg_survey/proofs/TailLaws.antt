@@ -49,8 +49,8 @@ module _ (rom : Rom) (list : List Entry) (key : Key) (i : Item) (next : ℕ) (li
 
   sees_by : (rest : List Item) (j : Item) → known_before in_whole (rest ++ i ∷ []) ≡ known_over past (known_before in_tail rest)
       → seen_at in_whole (rest ++ i ∷ []) j ≡ seen_over past (seen_at in_tail rest j)
-  sees_by rest j knows = ap (λ (k : Known). seen_by rom.machine list Shape k j) knows
-      ∙ seen_by_over rom.machine list past (known_before in_tail rest) j
+  sees_by rest j knows =
+      ap (λ (k : Known). seen_by rom.machine list Shape k j) knows ∙ seen_by_over rom.machine list past (known_before in_tail rest) j
 
   knows : (rest : List Item) → known_before in_whole (rest ++ i ∷ []) ≡ known_over past (known_before in_tail rest)
   knows [] = sym past_is ∙ over_none past past.scale refl
@@ -71,14 +71,14 @@ module _ (rom : Rom) (list : List Entry) (key : Key) (i : Item) (next : ℕ) (li
 
   relative_one : (rest : List Item) (j : Item)
       → relative_of (seen_at in_whole (rest ++ i ∷ []) j) ≡ relative_from past.place (relative_of (seen_at in_tail rest j))
-  relative_one rest j = ap relative_of (sees_by rest j (knows rest))
-      ∙ relative_over (seen_at in_tail rest j).extent past.place (seen_at in_tail rest j).place
+  relative_one rest j =
+      ap relative_of (sees_by rest j (knows rest)) ∙ relative_over (seen_at in_tail rest j).extent past.place (seen_at in_tail rest j).place
 
   absolute_one : (rest : List Item) (j : Item)
       → absolute_of (seen_at in_whole (rest ++ i ∷ []) j)
       ≡ absolute_of (seen_at in_tail rest j) ++ absolute_from past.place (relative_of (seen_at in_tail rest j))
-  absolute_one rest j = ap absolute_of (sees_by rest j (knows rest))
-      ∙ absolute_over (seen_at in_tail rest j).extent past.place (seen_at in_tail rest j).place
+  absolute_one rest j =
+      ap absolute_of (sees_by rest j (knows rest)) ∙ absolute_over (seen_at in_tail rest j).extent past.place (seen_at in_tail rest j).place
 
   -- at relative places: what the tail lights, seen from before the first, and what the first lights
   relative_all : (rest : List Item) → lit_points in_whole (rest ++ i ∷ []) ≡ relative_from past.place (lit_points in_tail rest) ++ alone

@@ -47,9 +47,9 @@ module _ (rom : Rom) (list : List Entry) (key : Key) (i : Item) (is : cell_at (r
   IsFurther call = (next : ℕ) × (next_address Shape i ≡ Some next) × CallsFrom rom list (next, past) call
 
   own_or_further : (call : Call) → CallsFrom rom list (i.at, key) call → IsOwn call ⊎ IsFurther call
-  own_or_further call c = grind (arith, (split c.earlier c.item.at c.leads), item_same, (cell_at (rom_word rom)), (rom_word rom),
-      callee_at, target, (target Shape c.item.instr), scale_before, (keyed rom.machine list key),
-      (callee_at list (target Shape c.item.instr)))
+  own_or_further call c =
+      grind (arith, (split c.earlier c.item.at c.leads), item_same, (cell_at (rom_word rom)), (rom_word rom), callee_at, target,
+      (target Shape c.item.instr), scale_before, (keyed rom.machine list key), (callee_at list (target Shape c.item.instr)))
 
 -- from a place where no item stands there are none
 module _ (rom : Rom) (at : ℕ) (none : (format : Format) (instr : Instr) → cell_at (rom_word rom) at ≡ Holds format instr → ⊥) where
@@ -60,8 +60,8 @@ module _ (rom : Rom) (at : ℕ) (none : (format : Format) (instr : Instr) → ce
 -- ---- the walk
 
 at_call : (i : Item) (call : Call) (o : Option Entry) → call.at ≡ i.at → o ≡ Some call.entry → Contains (call_of i o) call
-at_call i call o at is = subst (λ (x : Option Entry). Contains (call_of i x) call) (sym is)
-    (0, omega arith, λ x. record { at = sym at x; entry = call.entry })
+at_call i call o at is =
+    subst (λ (x : Option Entry). Contains (call_of i x) call) (sym is) (0, omega arith, λ x. record { at = sym at x; entry = call.entry })
 
 module _ (rom : Rom) (list : List Entry) (e : Entry) (old : List Bool) where
   -- among calls that have these, all from the walk's start and from each visited place were met, if all from where it stands were
@@ -104,8 +104,8 @@ module _ (rom : Rom) (list : List Entry) (e : Entry) (old : List Bool) where
     -- where no item stands
     pub finds_none : ((format : Format) (instr : Instr) → cell_at (rom_word rom) at ≡ Holds format instr → ⊥)
         → AreNewCalls rom list e old now calls
-    finds_none none = ends (λ call c. absurd
-        (none c.item.format c.item.instr
+    finds_none none =
+        ends (λ call c. absurd (none c.item.format c.item.instr
         (ap (cell_at (rom_word rom)) (sym (only_here rom at none c.earlier c.item.at c.leads)) ∙ c.stands)))
 
     -- past an item, whose place is visited with it
@@ -163,5 +163,6 @@ module _ (rom : Rom) (list : List Entry) (e : Entry) (old : List Bool) where
             further = next_further Shape item next to
 
         pub ends_here : next_address Shape item ≡ None → AreNewCalls rom list e old new more
-        ends_here none = let k = covered more (λ call h. h) (λ call f. let no : None ≡ Some f.0 = sym none ∙ f.1 in cc no) in
+        ends_here none =
+            let k = covered more (λ call h. h) (λ call f. let no : None ≡ Some f.0 = sym none ∙ f.1 in cc no) in
             record { own = own_more; all = k.0; visited = k.1 }

@@ -62,8 +62,8 @@ Loses c at losses items = (losses.place ≡ place_lost_by c items) × (losses.sc
 
 module _ (c : Context) (word : Source) (first : ℕ) (P : List Item → Type 0) where
   pub begins : (here : Cursor) → here ≡ first_cursor c.kind first c.scale → IsSoundCursor here → P [] → Walked c word first P here
-  begins here is sound h = record
-      { items = []; leads = ap (λ (x : Cursor). x.at) is; knows = ap (λ (x : Cursor). x.known) is; sound = sound; holds = h }
+  begins here is sound h =
+      record { items = []; leads = ap (λ (x : Cursor). x.at) is; knows = ap (λ (x : Cursor). x.known) is; sound = sound; holds = h }
 
   module _ (here : Cursor) (w : Walked c word first P here) where
     -- where no item stands

@@ -35,10 +35,10 @@ found_at c xs i e = found_in_prefix c (length xs) xs i (omega arith) (ap (positi
 
 -- what memchr finds
 pub first_byte : (c : ℕ) (xs : List ℕ) (r : Option ℕ) → IsFirstByte (is_byte c) xs r → r ≡ position (λ b. b == c) xs
-first_byte c xs None h = grind
-    (arith, nat_tests, (position_or_len_is (λ b. b == c) xs (length xs) 0 (omega arith) (λ k lt. grind (arith, (h k (omega arith) lt)))
-    (λ lt. absurd (omega arith))))
-first_byte c xs (Some i) h = grind
-    (arith, nat_tests, (h.0.high),
+first_byte c xs None h =
+    grind (arith, nat_tests, (position_or_len_is (λ b. b == c) xs (length xs) 0 (omega arith)
+    (λ k lt. grind (arith, (h k (omega arith) lt))) (λ lt. absurd (omega arith))))
+first_byte c xs (Some i) h =
+    grind (arith, nat_tests, (h.0.high),
     (position_or_len_is (λ b. b == c) xs i 0 (omega (arith, h.0.high)) (λ k lt. grind (arith, (h.0.before k (omega arith) lt)))
     (λ lt. h.1)))

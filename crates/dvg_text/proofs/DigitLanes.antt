@@ -67,5 +67,5 @@ pub lanes : (xs : List ℕ) (n : ℕ) → length xs ≡ 16 → ((k : ℕ) → ge
     → n ≡ cond (eqb (mask_l (map (top 7) (zip2 at_most (replicate 16 10) (zip2 minus xs (replicate 16 48)))) % 2 ^ 64) 0) 16
     (count_trailing_zeros 64 (mask_l (map (top 7) (zip2 at_most (replicate 16 10) (zip2 minus xs (replicate 16 48)))) % 2 ^ 64))
     → (n ≤ 16) × IsRun xs n
-lanes xs n long bytes e = let c =
-    counted xs n long e in (omega (arith, c, prefix_len-le-length (λ x. not (other x)) xs), rw c (run xs bytes))
+lanes xs n long bytes e =
+    let c = counted xs n long e in (omega (arith, c, prefix_len-le-length (λ x. not (other x)) xs), rw c (run xs bytes))

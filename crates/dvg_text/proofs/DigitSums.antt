@@ -93,8 +93,8 @@ parts : (n j : ℕ) (xs : List ℕ) → n ≤ length xs → AllDigits 10 (take n
     → (word xs + zeros (n + j) + 1 ≡ values n xs + shifted n (word (drop n xs) + zeros j + 1)) × (values n xs < shifted n 1)
 parts zero j xs le ds = (omega (arith, ap zeros {x = 0 + j} {y = j} (omega arith)), omega arith)
 parts (suc n) j [] le ds = absurd (omega arith)
-parts (suc n) j (x ∷ xs) le ds = let r =
-    parts n j xs (omega arith) ds.1 in
+parts (suc n) j (x ∷ xs) le ds =
+    let r = parts n j xs (omega arith) ds.1 in
     (omega (arith, digit_value_digit x (digit_from_value x ds.0), r.0, ap zeros {x = suc n + j} {y = suc (n + j)} (omega arith)),
     omega (arith, ds.0, r.1))
 
@@ -114,7 +114,8 @@ moved count w = (w + Zeros) % 2 ^ 64 * 2 ^ (64 - 8 * count) % 2 ^ 64
 
 shifted_is : (k j v : ℕ) → j ≡ 8 * k → shifted k v ≡ v * 2 ^ j
 shifted_is zero j v is = rw is (omega arith)
-shifted_is (suc k) j v is = let pow : 2 ^ j ≡ 256 * 2 ^ (8 * k) =
+shifted_is (suc k) j v is =
+    let pow : 2 ^ j ≡ 256 * 2 ^ (8 * k) =
     ap (λ (i : ℕ). 2 ^ i) {y = 8 + 8 * k} (omega (arith, is)) ∙ pow-add 2 8 (8 * k) in rw pow (omega (arith, shifted_is k (8 * k) v refl))
 
 -- the digits, moved up behind zeros

@@ -22,12 +22,14 @@ pub one_digit : (ds : List ℕ) (i c n : ℕ) → i < length ds → c ≡ get_or
 one_digit ds i c n lt e from to h v = grind (arith, digit_value, digit_value_digit, digits_value_more, add-one, all_more)
 
 pub not_long : (ds : List ℕ) (n : ℕ) → n ≤ MOST_MAGNITUDE → ds ≡ decimal n → (length ds ≤ 13) × (0 < length ds)
-not_long ds n le d = let s = first_digit ds n (omega arith) d in
+not_long ds n le d =
+    let s = first_digit ds n (omega arith) d in
     (omega (arith, ap length d, length-decimal-le 13 n (omega arith) (omega arith) (omega arith)), s.0)
 
 pub no_zero : (ds : List ℕ) (n : ℕ) → n ≤ MOST_MAGNITUDE → ds ≡ decimal n → get_or ds 0 0 ≡ 48 → length ds ≡ 1
-no_zero ds n le d z = grind (arith, nat_lt, rules, common_steps, first_digit, digits_value, decimal_is_IsNumeral, digits_value-lt,
-    length-decimal-le, nat_tests, not_long)
+no_zero ds n le d z =
+    grind (arith, nat_lt, rules, common_steps, first_digit, digits_value, decimal_is_IsNumeral, digits_value-lt, length-decimal-le,
+    nat_tests, not_long)
 
 pub spells : (ds : List ℕ) → AllDigits 10 ds → 0 < length ds → (get_or ds 0 0 ≡ 48 → length ds ≡ 1) → length ds ≤ 13
     → ds ≡ decimal (digits_value 10 ds)
@@ -39,7 +41,7 @@ same_decimal m n h k e = sym (decimal_is_IsNumeral m h).1 ∙ ap (digits_value 1
 -- a number above 0 does not begin with 0
 pub not_zero : (n : ℕ) (ds : List ℕ) → 1 ≤ n → n ≤ MOST_MAGNITUDE → ds ≡ decimal n → get_or ds 0 0 ≡ 48 → ⊥
 not_zero n [] some le e z = omega arith
-not_zero n (c ∷ []) some le e z = let same =
-    same_decimal n 0 (omega arith) (omega arith) (sym e ∙ ap (λ (x : ℕ). x ∷ []) z ∙ sym (decimal_digit 0 (omega arith))) in
+not_zero n (c ∷ []) some le e z =
+    let same = same_decimal n 0 (omega arith) (omega arith) (sym e ∙ ap (λ (x : ℕ). x ∷ []) z ∙ sym (decimal_digit 0 (omega arith))) in
     omega (arith, same)
 not_zero n (c ∷ d ∷ ds) some le e z = let one = no_zero (c ∷ d ∷ ds) n le e z in omega arith

@@ -22,8 +22,8 @@ with_line (Err why) = Err why
 -- the same after any byte
 abbrev pub byte : Taken → Text → ℕ → Result (Taken × Text) CertWhy
 byte (Whole map es) rest b = Err After
-byte t rest b = if b == LINE_FEED then with_line (next t rest) else
-    (if length rest == LONGEST_LINE - 1 then Err TooLong else Ok (t, rest ++ b ∷ []))
+byte t rest b =
+    if b == LINE_FEED then with_line (next t rest) else (if length rest == LONGEST_LINE - 1 then Err TooLong else Ok (t, rest ++ b ∷ []))
 
 -- with its line where a byte cannot come, else what the bytes after it give
 abbrev pub then_read : ℕ → Result (Taken × Text) CertWhy → (Taken → Text → Result (Taken × Text) CertFault)
@@ -188,8 +188,9 @@ read_is (b ∷ text) before t rest k =
     then_is (byte t rest b) before text t rest b k (byte_is before t rest b k) (read_is text (before ++ b ∷ []))
 
 pub whole_read : (text : Text) → ReadIs text (read text Nothing [])
-whole_read text = read_is text [] Nothing []
-    (record { holds = record { parts = refl; lines = tt; begun = (tt, omega arith) }; ends = refl; short = omega arith })
+whole_read text =
+    read_is text [] Nothing [] (record
+    { holds = record { parts = refl; lines = tt; begun = (tt, omega arith) }; ends = refl; short = omega arith })
 
 pub kept : (text : Text) (t : Taken) (rest : Text) → Holds text t rest → Kept text t rest
 kept text t rest h = subst (ReadIs text) (read_held text t rest h) (whole_read text)
@@ -209,7 +210,8 @@ stuck_refusal why text line s = grind (arith, never_met)
 
 -- it is an answer, and each is that
 pub answer_is : (r : Result (Taken × Text) CertFault) (text : Text) → ReadIs text r → ReadAnswer text (answer r) × NotMemory (answer r)
-answer_is (Ok (Whole map es, rest)) text k = let none : rest ≡ [] =
+answer_is (Ok (Whole map es, rest)) text k =
+    let none : rest ≡ [] =
     k.holds.begun in ((k.holds.lines, k.holds.parts ∙ ap (λ (x : Text). text_of map es ++ x) none ∙ append-nil (text_of map es)), tt)
 answer_is (Ok (t, rest)) text k = ((t, rest, k.holds, tt, refl), λ e. absurd cc)
 answer_is (Err f) text s = stuck_refusal f.why text f.line s
@@ -221,7 +223,7 @@ fault_is Unended text line h n = grind (arith, (read_held text h.0 h.1 h.2))
 fault_is why text line h n = ap answer (stuck_read text line why h)
 
 pub one_answer : (text : Text) (a : Result Certificate CertFault) → ReadAnswer text a → NotMemory a → answer (read text Nothing []) ≡ a
-one_answer text (Ok c) h n = ap answer
-    (read_held text (Whole c.map c.entries) []
+one_answer text (Ok c) h n =
+    ap answer (read_held text (Whole c.map c.entries) []
     (record { parts = h.1 ∙ sym (append-nil (text_of c.map c.entries)); lines = h.0; begun = refl }))
 one_answer text (Err f) h n = fault_is f.why text f.line h n

@@ -36,11 +36,13 @@ other_said bytes p e map is same = grind (arith, nothing_left, rom_at, rom_again
 -- ---- its bytes
 
 pub version_free : Without LINE_FEED first_version_line × Without LINE_FEED second_version_line
-version_free = ((refl, (refl, (refl, (refl, (refl, (refl, (refl, (refl, (refl, tt))))))))),
+version_free =
+    ((refl, (refl, (refl, (refl, (refl, (refl, (refl, (refl, (refl, tt))))))))),
     (refl, (refl, (refl, (refl, (refl, (refl, (refl, (refl, (refl, tt))))))))))
 
 pub rom_free : (map : MemoryMap) → Without LINE_FEED (rom_line map)
-rom_free map = line_free (codes "rom" ∷ address_token map.rom_first ∷ address_token map.rom_last ∷ [])
+rom_free map =
+    line_free (codes "rom" ∷ address_token map.rom_first ∷ address_token map.rom_last ∷ [])
     ((lit< tt, (lit< tt, (lit< tt, tt))), (graphic_hex map.rom_first, (graphic_hex map.rom_last, tt)))
 
 -- ---- the text of the first lines

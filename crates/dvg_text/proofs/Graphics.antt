@@ -52,5 +52,6 @@ Without-append c (x ∷ xs) ys h k = (h.0, Without-append c xs ys h.1 k)
 pub line_free : (ws : List Text) → Graphics ws → Without LINE_FEED (join_with_byte SPACE ws)
 line_free [] h = tt
 line_free (w ∷ []) h = graphic_without LINE_FEED w (lit≤ tt) h.0
-line_free (w ∷ v ∷ vs) h = Without-append LINE_FEED w (SPACE ∷ join_with_byte SPACE (v ∷ vs)) (graphic_without LINE_FEED w (lit≤ tt) h.0)
+line_free (w ∷ v ∷ vs) h =
+    Without-append LINE_FEED w (SPACE ∷ join_with_byte SPACE (v ∷ vs)) (graphic_without LINE_FEED w (lit≤ tt) h.0)
     (refl, line_free (v ∷ vs) h.1)

@@ -32,11 +32,13 @@ with_later map es (Some (DoneLine n)) = if n == length es then Ok (Whole map es)
 -- by the addresses that the second line of version 2 says
 abbrev with_rom : Option (ℕ × ℕ) → Result Taken CertWhy
 with_rom None = Err Form
-with_rom (Some p) = if (nat_le RAM_WORDS p.0 && (nat_le p.0 p.1 && nat_le p.1 MEMORY_LAST)) && not (is_asteroids (map_of p)) then Ok
+with_rom (Some p) =
+    if (nat_le RAM_WORDS p.0 && (nat_le p.0 p.1 && nat_le p.1 MEMORY_LAST)) && not (is_asteroids (map_of p)) then Ok
     (Begun (map_of p) []) else Err Form
 
 abbrev pub next : Taken → Text → Result Taken CertWhy
-next Nothing line = if bytes_eq line first_version_line then Ok (Begun asteroids []) else
+next Nothing line =
+    if bytes_eq line first_version_line then Ok (Begun asteroids []) else
     (if bytes_eq line second_version_line then Ok Versioned else Err Form)
 next Versioned line = with_rom (nothing_left (rom_at line))
 next (Begun map es) line = with_later map es (said map.rom_first map.rom_last line)
@@ -55,9 +57,9 @@ rom_is None line e = nowhere_said line (sym e)
 rom_is (Some p) line e = grind (arith, nat_tests, (rom_reads line), (other_said line p (sym e)), no_entry_yet, (rom_taken (map_of p) line))
 
 later_is : (map : MemoryMap) (es : List Entry) (line : Text) → IsCertificate map es → IsNext (Begun map es) line (next (Begun map es) line)
-later_is map es line h = grind
-    (arith, nat_tests, (line_takes map.rom_first map.rom_last line (small_map map h.map_is)), line_again, certificate_push, begun_push,
-    length-append)
+later_is map es line h =
+    grind (arith, nat_tests, (line_takes map.rom_first map.rom_last line (small_map map h.map_is)), line_again, certificate_push,
+    begun_push, length-append)
 
 pub next_is : (t : Taken) (line : Text) → IsTaken t → IsUnended t → IsNext t line (next t line)
 next_is Nothing line h u = first_is line
@@ -100,5 +102,6 @@ entry_next map es fs e h =
         (grind (arith, nat_tests, (rising_mid es e fs h.rising), (length-append es (e ∷ fs)), (h.few)))
 
 pub done_next : (map : MemoryMap) (es : List Entry) → IsCertificate map es → next (Begun map es) (done_line (length es)) ≡ Ok (Whole map es)
-done_next map es h = rw (line_again map.rom_first map.rom_last (done_line (length es)) (DoneLine (length es)) (small_map map h.map_is)
-    (h.few, refl)) (grind (arith, nat_tests))
+done_next map es h =
+    rw (line_again map.rom_first map.rom_last (done_line (length es)) (DoneLine (length es)) (small_map map h.map_is) (h.few, refl))
+    (grind (arith, nat_tests))

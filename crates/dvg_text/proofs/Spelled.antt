@@ -57,8 +57,8 @@ put_on old mid new held part more rest h k =
 text_at : (map : MemoryMap) (es : List Entry) (i : ℕ)
     → text_of map es ≡ begun_with map (take i es) ++ (flat_map (λ e. ended (entry_line e)) (drop i es) ++ ended (done_line (length es)))
 unfolding begun_with
-text_at map es i = grind (arith, (take-append-drop i es),
-    (flat_map-append (λ (e : Entry). ended (entry_line e)) (take i es) (drop i es)), append_assoc)
+text_at map es i =
+    grind (arith, (take-append-drop i es), (flat_map-append (λ (e : Entry). ended (entry_line e)) (take i es) (drop i es)), append_assoc)
 
 -- one more entry
 begun_next : (map : MemoryMap) (es : List Entry) (i : ℕ) (d : Entry) → i < length es

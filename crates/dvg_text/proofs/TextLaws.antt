@@ -17,7 +17,8 @@ pub one_certificate : OneCertificate
 one_certificate c d text h k = let same = answers_once text (Ok c) (Ok d) h tt k tt in cc
 
 pub each_answer : OneAnswer
-each_answer text = let a = answer_is (read text Nothing []) text (whole_read text) in
+each_answer text =
+    let a = answer_is (read text Nothing []) text (whole_read text) in
     (answer (read text Nothing []), a.0, a.1, λ other h n. sym (one_answer text other h n))
 
 pub read_back : ReadBack
@@ -48,7 +49,8 @@ open_prefix prefix after h = by (read prefix Nothing []) (whole_read prefix)
   where
     by : (r : Result (Taken × List ℕ) CertFault) → ReadIs prefix r → MayStand prefix
     by (Ok s) k = (s.0, s.1, k.holds)
-    by (Err f) s = let e = sym (stuck_read (prefix ++ after) f.line f.why (stuck_stays prefix after f.line f.why s))
+    by (Err f) s =
+        let e = sym (stuck_read (prefix ++ after) f.line f.why (stuck_stays prefix after f.line f.why s))
         ∙ read_held (prefix ++ after) h.0 h.1 h.2 in absurd cc
 
 pub short_text : ShortText

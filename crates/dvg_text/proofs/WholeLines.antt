@@ -25,14 +25,16 @@ box_text b = join_with_byte SPACE (box_tokens b)
 
 -- an entry's fields, with the text between them
 abbrev pub fields_text : Entry → Text → Text
-fields_text e rest = codes "shape "
-    ++ (address_token e.addr ++ (codes " " ++ (key_token e.key ++ (codes " end " ++ (end_text e.stop ++ (codes " box " ++ (box_text e.lit
+fields_text e rest =
+    codes "shape " ++ (address_token e.addr
+    ++ (codes " " ++ (key_token e.key ++ (codes " end " ++ (end_text e.stop ++ (codes " box " ++ (box_text e.lit
     ++ (codes " depth " ++ (decimal e.depth
         ++ (codes " words " ++ (decimal e.words ++ (codes " scale " ++ (key_token e.scale ++ rest)))))))))))))
 
 pub entry_joined : (e : Entry) → entry_line e ≡ fields_text e []
-entry_joined e = grind (arith, decimal, codes, key_token, address_token, join_with_byte, append_assoc, end_tokens, box_tokens,
-    join_append, signed_decimal, append-nil)
+entry_joined e =
+    grind (arith, decimal, codes, key_token, address_token, join_with_byte, append_assoc, end_tokens, box_tokens, join_append,
+    signed_decimal, append-nil)
 
 -- an entry's fields, and what follows its line
 pub fields_then : (e : Entry) (rest : Text) → fields_text e rest ≡ entry_line e ++ rest
@@ -50,7 +52,8 @@ led n le = by (decimal n) refl
   where
     by : (w : Text) → w ≡ decimal n → (c : ℕ) × (ds : Text) × (w ≡ c ∷ ds) × (48 ≤ c) × (c ≤ 57) × (1 ≤ n → c ≢ 48)
     by [] e = absurd (omega (arith, (first_digit [] n (omega arith) e).0))
-    by (c ∷ ds) e = let r = digit_from_value c (first_digit (c ∷ ds) n (omega arith) e).1.0 in
+    by (c ∷ ds) e =
+        let r = digit_from_value c (first_digit (c ∷ ds) n (omega arith) e).1.0 in
         (c, ds, refl, omega arith, omega arith, λ some z. not_zero n (c ∷ ds) some le e z)
 
 number_spelled : (z : ℤ) (rest : Text) → IsNumber z → NoDigitFirst rest → number_at (signed_decimal z ++ rest) ≡ Some (z, rest)
@@ -121,8 +124,8 @@ count_again bytes n few is = grind (arith, (natural_again 0 MOST_ENTRIES n []), 
 
 -- what a line says, an entry or a count
 unfoldable pub said : ℕ → ℕ → Text → Option Line
-said first last bytes = option_or (option_map EntryLine (nothing_left (entry_at first last bytes)))
-    (option_map DoneLine (nothing_left (done_at bytes)))
+said first last bytes =
+    option_or (option_map EntryLine (nothing_left (entry_at first last bytes))) (option_map DoneLine (nothing_left (done_at bytes)))
 
 pub line_takes : (first last : ℕ) (bytes : Text) → last < ADDRESS_END → Says (said first last bytes) (λ l. IsLine first last l bytes)
 unfolding said

@@ -4,8 +4,8 @@ use Rattle.dvg_c.proofs.Made.{verdict_of}
 use Rattle.dvg_c.proofs.exports.dvgcheck_make.Goals as goal
 
 pub returns-in_default : goal.returns-in_default
-returns-in_default c = record { verdict = Err unmade.Machine; holds = c.in_default.ensures; told =
-    c.no_certificate.ensures c.args.text.now }
+returns-in_default c =
+    record { verdict = Err unmade.Machine; holds = c.in_default.ensures; told = c.no_certificate.ensures c.args.text.now }
 
 pub returns-in_default-map_between : goal.returns-in_default-map_between
 returns-in_default-map_between c =

@@ -5,7 +5,8 @@ use Rattle.dvg_c.proofs.make.made_text.Goals as goal
 pub returns-in-Ok-run_make_frames-clause-ok : goal.returns-in-Ok-run_make_frames-clause-ok
 returns-in-Ok-run_make_frames-clause-ok c =
     let readers = c.in_ok-readers.readers.items in
-    let frames_are = ap (of_each (λ reader. Some reader.device.now)) c.deref_mut.ensures.value
+    let frames_are =
+        ap (of_each (λ reader. Some reader.device.now)) c.deref_mut.ensures.value
         ∙ of_each_twice (λ reader. reader.device.now) Some readers in (
       of_each (λ reader. reader.device.now) readers,
       c.in_ok-readers.ensures.ok,
@@ -18,7 +19,8 @@ returns-in-Ok-run_make_frames-clause-ok c =
 pub returns-clause-err : goal.returns-clause-err
 returns-clause-err c =
     let readers = c.in_ok-readers.readers.items in
-    let frames_are = ap (of_each (λ reader. Some reader.device.now)) c.deref_mut.ensures.value
+    let frames_are =
+        ap (of_each (λ reader. Some reader.device.now)) c.deref_mut.ensures.value
         ∙ of_each_twice (λ reader. reader.device.now) Some readers in (
       of_each (λ reader. reader.device.now) readers,
       c.in_ok-readers.ensures.ok,

@@ -10,7 +10,8 @@ returns-then-at-entries c =
     nothing_there c.args.entries.now c.args.addr c.args.key c.partition_point-at.result c.requires c.if-at-entries.true point
 
 pub returns-then-is_at : goal.returns-then-is_at
-returns-then-is_at c = this_there c.args.entries.now c.args.addr c.args.key c.partition_point-at.result _ c.requires
+returns-then-is_at c =
+    this_there c.args.entries.now c.args.addr c.args.key c.partition_point-at.result _ c.requires
     (omega (arith, c.partition_point-at.ensures.bound)) (search rules)
 
 pub returns-else-is_at : goal.returns-else-is_at

@@ -17,6 +17,7 @@ refused_time-time-requires c at is = own c.judge_seen-judged.result.0 c.judge_se
     own : (judged : Result JudgedFrame MakeAccount)
         → IfOk judged (λ (j : JudgedFrame). FrameMade c.args.rom.now c.args.frame.now j.cert.entries)
         → IfOk judged (λ (j : JudgedFrame). IsAccepted (record { frame = c.args.frame.now; rom = c.args.rom.now }) j.cert.entries)
-    own (Ok j) made = accepted c.args.rom.now c.args.frame.now c.args.window c.args.budget c.requires timed.verdict.yes j.cert.entries
-        made timed.verdict.verdict
+    own (Ok j) made =
+        accepted c.args.rom.now c.args.frame.now c.args.window c.args.budget c.requires timed.verdict.yes j.cert.entries made
+        timed.verdict.verdict
     own (Err e) made = tt

@@ -29,7 +29,8 @@ returns-in_err-images-clause-refused g c =
 
 pub returns-in_err-comparison-clause-refused : goal.returns-in_err-comparison-clause-refused
 returns-in_err-comparison-clause-refused g c =
-    let refused = frames_refused c.in_ok-images.ensures.images
+    let refused =
+        frames_refused c.in_ok-images.ensures.images
         (record { rom_prefix = c.in_ok-rom.ensures.bytes; frame_prefixes = c.in_ok-frames.ensures.bytes }) c.deref.ensures.value
         c.args.roots.now c.in_err-comparison.field-0.0 c.in_err-comparison.ensures.err c.in_err-comparison.ensures.told in
     grind (arith, told_err, frames_run_number, of_each, refused)

@@ -21,8 +21,8 @@ returns-in_err-write_lines-clause-prefix g c =
         ∙ ap (λ b. b ++ codes ": touched\n") (c.as_bytes.ensures.value ∙ c.as_str.ensures.value)) c.in_err-write_lines.ensures.prefix)
 
 pub loop-i-preserved : goal.loop-i-preserved
-loop-i-preserved g c = grind (arith, of_each, string_bytes, lines_from, one_sent, next_frame, append-nil, codes, some_text,
-    else-reaching-i, pass_frame)
+loop-i-preserved g c =
+    grind (arith, of_each, string_bytes, lines_from, one_sent, next_frame, append-nil, codes, some_text, else-reaching-i, pass_frame)
 
 pub returns-clause-sent : goal.returns-clause-sent
 returns-clause-sent g c =

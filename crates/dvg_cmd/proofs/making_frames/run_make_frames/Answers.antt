@@ -24,7 +24,8 @@ returns-in_err-write_cert-clause-prefix g c =
     (own_map c.in_ok-images.ensures.images c.in_ok-bytes.ensures.bytes c.deref.ensures.value))
 
 pub returns-clause-text : goal.returns-clause-text
-returns-clause-text g c = grind
-    (arith, writes, of_each, (frames_made c.in_ok-images.ensures.images c.in_ok-bytes.ensures.bytes c.deref.ensures.value
-    c.args.roots.now c.in_ok-cert.cert.entries c.in_ok-cert.ensures.ok),
+returns-clause-text g c =
+    grind (arith, writes, of_each,
+    (frames_made c.in_ok-images.ensures.images c.in_ok-bytes.ensures.bytes c.deref.ensures.value c.args.roots.now
+    c.in_ok-cert.cert.entries c.in_ok-cert.ensures.ok),
     (own_map c.in_ok-images.ensures.images c.in_ok-bytes.ensures.bytes c.deref.ensures.value))

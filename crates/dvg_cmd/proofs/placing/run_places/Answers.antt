@@ -21,6 +21,6 @@ returns-in_err-write_each-clause-prefix g c =
     c.args.window c.in_ok-cert.cert.entries c.in_ok-places.places.items c.in_ok-cert.ensures.ok c.in_ok-places.ensures), joined, of_each)
 
 pub returns-clause-text : goal.returns-clause-text
-returns-clause-text g c = grind
-    (arith, (places_made c.in_ok-images.ensures.images c.in_ok-bytes.ensures.bytes c.deref.ensures.value c.args.roots.now c.args.window
-    c.in_ok-cert.cert.entries c.in_ok-places.places.items c.in_ok-cert.ensures.ok c.in_ok-places.ensures), joined, of_each)
+returns-clause-text g c =
+    grind (arith, (places_made c.in_ok-images.ensures.images c.in_ok-bytes.ensures.bytes c.deref.ensures.value c.args.roots.now
+    c.args.window c.in_ok-cert.cert.entries c.in_ok-places.places.items c.in_ok-cert.ensures.ok c.in_ok-places.ensures), joined, of_each)

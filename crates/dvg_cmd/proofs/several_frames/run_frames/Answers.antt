@@ -21,15 +21,15 @@ returns-in_err-run_named-clause-prefix g c =
     )
 
 pub loop-frame-init : goal.loop-frame-init
-loop-frame-init g c = search (rules,
-    no_lines g.R.Read.remaining g.R.CountedRead.failures (g.J.FrameJudge.judging c.args.judge.now) c.args.listing c.args.start
-    (g.W.Write.contents c.args.out.now) c.new-progress.result (g.W.CountedWrite.whole_writes c.args.out.now),
+loop-frame-init g c =
+    search (rules, no_lines g.R.Read.remaining g.R.CountedRead.failures (g.J.FrameJudge.judging c.args.judge.now) c.args.listing
+    c.args.start (g.W.Write.contents c.args.out.now) c.new-progress.result (g.W.CountedWrite.whole_writes c.args.out.now),
     alike_itself (g.J.FrameJudge.judging c.args.judge.now))
 
 pub loop-frame-preserved : goal.loop-frame-preserved
-loop-frame-preserved g c = search
-    (rules, more_lines g.R.Read.remaining g.R.CountedRead.failures _ c.args.listing c.args.start c.loop-frame.yielded c.in-Some.frame _ _
-    _ _ _ _ _ c.loop-frame.invariant.reports _ _
+loop-frame-preserved g c =
+    search (rules, more_lines g.R.Read.remaining g.R.CountedRead.failures _ c.args.listing c.args.start c.loop-frame.yielded
+    c.in-Some.frame _ _ _ _ _ _ _ c.loop-frame.invariant.reports _ _
     (writes_alike _ _ c.loop-frame.invariant.same c.args.start g.R.Read.remaining g.R.CountedRead.failures c.args.listing c.in-Some.frame
     _ _ _ _ _ _ c.in_ok-run_named.ensures.ok), alike_on _ _ _ c.loop-frame.invariant.same c.in_ok-run_named.ensures.same)
 

@@ -9,8 +9,8 @@ returns-clause-ok g c =
       line = record { name = c.as_str-2.result.now; answer = c.answer_opened-answer.result.0; behind = c.answer_opened-answer.result.1 };
       line_of = record { name_is = named; answers = c.answer_opened-answer.ensures.answers; asked = c.answer_opened-answer.ensures.behind };
       sent = c.in_ok-write_listed.ensures.sent;
-      progress_is = c.add.ensures ∙ ap
-          (λ name. gone_with c.args.listing.lines c.args.progress.now
+      progress_is =
+          c.add.ensures ∙ ap (λ name. gone_with c.args.listing.lines c.args.progress.now
           (record { name = name; answer = c.answer_opened-answer.result.0; behind = c.answer_opened-answer.result.1 })) (sym named);
     }
 

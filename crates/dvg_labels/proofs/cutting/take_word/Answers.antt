@@ -3,6 +3,6 @@ use Rattle.dvg_labels.proofs.Parts.{word_off}
 use Rattle.dvg_labels.proofs.cutting.take_word.Goals as goal
 
 pub returns-clause-behind : goal.returns-clause-behind
-returns-clause-behind c = rw take_rest
-    ((word_off c.args.line.now _ _ _ (take_rest c.args.line.now c.len_before.result) c.len_before.ensures.value
+returns-clause-behind c =
+    rw take_rest ((word_off c.args.line.now _ _ _ (take_rest c.args.line.now c.len_before.result) c.len_before.ensures.value
     c.len_before-end.ensures.value).1)

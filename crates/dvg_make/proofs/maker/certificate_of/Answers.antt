@@ -8,6 +8,7 @@ certificate_unchecked-requires c =
         c.in_ok-sort.ensures.rising c.in_ok-sort.ensures.same c.in_ok-sort.ensures.len (rw c.requires.done.1 c.requires.map))
 
 pub returns-clause-made : goal.returns-clause-made
-returns-clause-made c = λ rom roots frames m h. rw (c.certificate_unchecked.ensures, c.in_ok-entries.ensures)
+returns-clause-made c =
+    λ rom roots frames m h. rw (c.certificate_unchecked.ensures, c.in_ok-entries.ensures)
     (is_made rom roots frames c.args.done c.sort.new.self h c.in_ok-sort.ensures.rising c.in_ok-sort.ensures.same
     c.in_ok-sort.ensures.len (rw m c.requires.map))

@@ -6,7 +6,8 @@ use Rattle.dvg_recipe.proofs.Spending.{on_fewer, on_kind, on_ok_then}
 use Rattle.dvg_recipe.proofs.clocks.add_piece.Goals as goal
 
 pub returns-in-Place : goal.returns-in-Place
-returns-in-Place g c = on_ok_then c.add_places.result _ _
+returns-in-Place g c =
+    on_ok_then c.add_places.result _ _
     (on_kind c.args.counting.now.timing.now.states (g.E.Entries.list c.args.counting.now.entries.now)
     (clocks_in c.args.counting.now.shapes.now) _ c.args.piece.now.kind c.args.here.now c.add_places.new.next (sym c.in-Place.is))
     c.add_places.ensures.past
@@ -32,7 +33,8 @@ returns-in-Draw g c =
     c.add_item.ensures.past
 
 pub returns-in-Fixed : goal.returns-in-Fixed
-returns-in-Fixed g c = on_ok_then c.add_fixed.result _ _
+returns-in-Fixed g c =
+    on_ok_then c.add_fixed.result _ _
     (on_kind c.args.counting.now.timing.now.states (g.E.Entries.list c.args.counting.now.entries.now)
     (clocks_in c.args.counting.now.shapes.now) _ c.args.piece.now.kind c.args.here.now c.add_fixed.new.next (sym c.in-Fixed.is))
     c.add_fixed.ensures.past

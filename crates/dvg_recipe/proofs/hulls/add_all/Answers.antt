@@ -21,5 +21,6 @@ loop-hull-preserved c =
     )
 
 pub returns-clause-added : goal.returns-clause-added
-returns-clause-added c = under_whole c.args.more.now c.loop-hull.hulls.items c.loop-hull.hull-index
-    (omega (arith, c.loop-hull-test.false)) c.loop-hull.invariant.1
+returns-clause-added c =
+    under_whole c.args.more.now c.loop-hull.hulls.items c.loop-hull.hull-index (omega (arith, c.loop-hull-test.false))
+    c.loop-hull.invariant.1

@@ -24,8 +24,7 @@ returns-clause-means g c =
         λ t there. c.counts.ensures t (subst (λ (l : List Hull). Contains l t) (sym c.deref-2.ensures.value) there) in
     subst (λ (x : Accepted). AllMean rom recipe w x.words x.depth) (sym h.1)
     (every_means rom list w budget recipe yes.words yes.depth
-        (record { rom = c.prove_whole.ensures; list = c.requires.list; good = c.requires.good }) c.prove_for_board.ensures
-        c.requires.board
+        (record { rom = c.prove_whole.ensures; list = c.requires.list; good = c.requires.good }) c.prove_for_board.ensures c.requires.board
     (every_good w list budget recipe yes.words yes.depth rom made ends members.1 last h.2)))
     c.accepted.ensures
 

@@ -18,8 +18,8 @@ returns-in_err-run_named-clause-prefix g c =
     )
 
 pub loop-frame-preserved : goal.loop-frame-preserved
-loop-frame-preserved g c = search
-    (rules, more_frames g.R.Read.remaining g.R.CountedRead.failures _ _ c.args.listing c.loop-frame.yielded _ _ _ _ _ _
+loop-frame-preserved g c =
+    search (rules, more_frames g.R.Read.remaining g.R.CountedRead.failures _ _ c.args.listing c.loop-frame.yielded _ _ _ _ _ _
     c.loop-frame.invariant.so_far c.in-Some.frame _ _ _ _ _ c.in_ok-run_named.ensures.ok c.or_worse-worst.ensures)
 
 pub returns-in_err-write_summary-clause-prefix : goal.returns-in_err-write_summary-clause-prefix

@@ -6,8 +6,9 @@ use Rattle.dvg_survey.proofs.chains.find_chain.Goals as goal
 use Rattle.dvg_survey.proofs.Common.{slice_get_within}
 
 pub loop-next-init : goal.loop-next-init
-loop-next-init g c = begun c.args.rom.now c.args.frame.now c.args.cert.now.entries c.args.goal.now c.in_ok-reached.reached
-    c.in_ok-visited.visited (rw (c.machine.ensures, c.requires) at c.in_ok-reached.ensures) c.in_ok-visited.ensures
+loop-next-init g c =
+    begun c.args.rom.now c.args.frame.now c.args.cert.now.entries c.args.goal.now c.in_ok-reached.reached c.in_ok-visited.visited
+    (rw (c.machine.ensures, c.requires) at c.in_ok-reached.ensures) c.in_ok-visited.ensures
 
 pub reach_from-requires-clause-entry : goal.reach_from-requires-clause-entry
 reach_from-requires-clause-entry g c =
@@ -16,7 +17,8 @@ reach_from-requires-clause-entry g c =
 
 pub loop-next-preserved : goal.loop-next-preserved
 loop-next-preserved g c =
-    let other : c.in-Some.link.call.entry ≡ c.args.goal.now → ⊥ = λ e. let no : true ≡ false =
+    let other : c.in-Some.link.call.entry ≡ c.args.goal.now → ⊥ =
+        λ e. let no : true ≡ false =
         sym ((entry_decides c.in-Some.link.call.entry c.args.goal.now).1 e) ∙ sym c.eq.ensures ∙ c.if-eq.false in cc no in
     gone_on c.args.rom.now c.args.frame.now c.args.cert.now.entries c.args.goal.now _ _ c.reach_from.new.visited _ c.in-Some.link
         c.reach_from.new.reached c.loop-next.invariant (sym c.get.ensures ∙ c.in-Some.is) other
@@ -28,7 +30,8 @@ returns-in_default-clause-none g c =
     (grind (arith, (slice_get_cases c.loop-next.reached c.loop-next.next), c.get.ensures, c.in_default.not-Some))
 
 pub returns-clause-none : goal.returns-clause-none
-returns-clause-none g c = no_chain c.args.rom.now c.args.frame.now c.args.cert.now.entries c.args.goal.now _ _ _ c.loop-next.invariant
+returns-clause-none g c =
+    no_chain c.args.rom.now c.args.frame.now c.args.cert.now.entries c.args.goal.now _ _ _ c.loop-next.invariant
     (omega (arith, c.loop-next-test.false, ap length c.entries-listed.ensures.value, c.loop-next.invariant.sound.counted))
 
 pub chain-requires-clause-last : goal.chain-requires-clause-last

@@ -22,5 +22,6 @@ returns-in-Last-clause-none g c = none_bears c.args.rom.now (g.E.Entries.list c.
         (where_none c.call_under.result c.in_default-call_under.not-Some c.call_under.ensures.none)).last _ c.in-Last.is)
 
 pub returns-clause-none : goal.returns-clause-none
-returns-clause-none g c = none_bears c.args.rom.now (g.E.Entries.list c.args.entries.now) c.args.entry.now
+returns-clause-none g c =
+    none_bears c.args.rom.now (g.E.Entries.list c.args.entries.now) c.args.entry.now
     (at_nothing _ _ _ _ _ c.loop-seen.invariant (where_none c.see.result c.in_default.not-Some c.see.ensures.none))

@@ -4,9 +4,9 @@ use Rattle.dvg_survey.proofs.items.new_calls.Goals as goal
 use Rattle.dvg_survey.proofs.Visiting.{starts, walks_on}
 
 pub returns-then-has : goal.returns-then-has
-returns-then-has g c = grind (arith,
-    (stops c.args.rom.now (g.E.Entries.list c.args.entries.now) c.args.entry.now c.args.visited.now _ _ _ _ c.loop-format.invariant
-    (sym c.has.ensures.value ∙ c.if-has.true)))
+returns-then-has g c =
+    grind (arith, (stops c.args.rom.now (g.E.Entries.list c.args.entries.now) c.args.entry.now c.args.visited.now _ _ _ _
+    c.loop-format.invariant (sym c.has.ensures.value ∙ c.if-has.true)))
 
 pub returns-in-None : goal.returns-in-None
 returns-in-None g c =

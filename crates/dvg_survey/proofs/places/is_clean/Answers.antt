@@ -16,5 +16,6 @@ returns-in-Last-clause-clean g c =
         (c.is_clean_item.ensures.clean c.if-not-is_clean_item.false)).last _ c.in-Last.is)
 
 pub returns-clause-clean : goal.returns-clause-clean
-returns-clause-clean g c = λ t. all_clean c.args.window.now c.args.rom.now (g.E.Entries.list c.args.entries.now) c.args.broken.now
-    c.args.entry.now (at_nothing _ _ _ _ _ c.loop-seen.invariant (where_none c.see.result c.in_default.not-Some c.see.ensures.none))
+returns-clause-clean g c =
+    λ t. all_clean c.args.window.now c.args.rom.now (g.E.Entries.list c.args.entries.now) c.args.broken.now c.args.entry.now
+    (at_nothing _ _ _ _ _ c.loop-seen.invariant (where_none c.see.result c.in_default.not-Some c.see.ensures.none))

@@ -5,7 +5,8 @@ use Rattle.dvg_survey.proofs.AllShapes.{none_boxed, one_more}
 use Rattle.dvg_survey.proofs.tails.shapes_extent.Goals as goal
 
 pub entries-init : goal.entries-init
-entries-init g c = grind (arith, (none_kept (IsLitFrom c.args.rom.now (g.E.Entries.list c.args.entries.now)) SLOTS),
+entries-init g c =
+    grind (arith, (none_kept (IsLitFrom c.args.rom.now (g.E.Entries.list c.args.entries.now)) SLOTS),
     (none_boxed c.args.rom.now c.args.cert.now.entries (length c.entries-list.result.now)
     (omega (arith, ap length c.entries-list.ensures.value))))
 

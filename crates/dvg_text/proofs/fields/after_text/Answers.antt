@@ -8,5 +8,5 @@ returns-then-is_same g c =
     past_found _ c.args.text.now c.args.bytes.now c.in_ok-prefix.prefix.now c.in_ok-prefix.rest.now parts.0 parts.1 (search rules)
 
 pub returns-else-is_same : goal.returns-else-is_same
-returns-else-is_same g c = past_not_found _ c.args.text.now c.args.bytes.now c.in_ok-prefix.prefix.now c.in_ok-prefix.ensures.cases.0
-    (search rules) (search rules)
+returns-else-is_same g c =
+    past_not_found _ c.args.text.now c.args.bytes.now c.in_ok-prefix.prefix.now c.in_ok-prefix.ensures.cases.0 (search rules) (search rules)

@@ -3,9 +3,9 @@ use Rattle.dvg_text.proofs.Refusals.{not_whole, rest_free, line_refused, end_fau
 use Rattle.dvg_text.proofs.reader.take_next.Goals as goal
 
 pub returns-in-Some : goal.returns-in-Some
-returns-in-Some c = after_refused c.line_number-line.result c.in-Some.fault c.args.lines.now c.args.begun.now.items c.args.rest.now
-    c.requires.taken c.requires.begun (c.if-is_whole.ensures.0 (search rules)) c.line_number-line.ensures c.in-Some.ensures.some.0
-    c.in-Some.ensures.some.1
+returns-in-Some c =
+    after_refused c.line_number-line.result c.in-Some.fault c.args.lines.now c.args.begun.now.items c.args.rest.now c.requires.taken
+    c.requires.begun (c.if-is_whole.ensures.0 (search rules)) c.line_number-line.ensures c.in-Some.ensures.some.0 c.in-Some.ensures.some.1
 
 pub returns-in-Ok-None : goal.returns-in-Ok-None
 returns-in-Ok-None c =

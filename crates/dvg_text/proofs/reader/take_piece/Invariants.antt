@@ -2,7 +2,8 @@ use Rattle.dvg_text.proofs.Common.{◌≡◌, ◌++◌, length, IsTaken, IsRest,
 use Rattle.dvg_text.proofs.reader.take_piece.Given as goal
 
 abbrev pub invariant-loop-after : goal.invariant-loop-after
-invariant-loop-after l = IsTaken l.lines × IsRest l.lines l.begun.items
+invariant-loop-after l =
+    IsTaken l.lines × IsRest l.lines l.begun.items
     × ((text_taken l.fn.lines ++ l.fn.begun.items) ++ l.piece ≡ text_taken l.lines ++ (l.begun.items ++ l.rest))
 
 abbrev pub decreases-loop-after : goal.decreases-loop-after

@@ -5,8 +5,8 @@ use Rattle.dvg_make.proofs.Turns.{on_ok}
 use Rattle.dvg_make.proofs.made_entries.MadeEntries.sort.Goals as goal
 
 pub invariant_of-self : goal.invariant_of-self
-invariant_of-self c = All-permutation IsOwn c.self.inside.found.entries c.sort_keys.new.self.entries c.sort_keys.ensures.reordered.0
-    c.self.invariant
+invariant_of-self c =
+    All-permutation IsOwn c.self.inside.found.entries c.sort_keys.new.self.entries c.sort_keys.ensures.reordered.0 c.self.invariant
 
 pub returns-clause-rising : goal.returns-clause-rising
 returns-clause-rising c =

@@ -11,5 +11,6 @@ pub loop-index-preserved : goal.loop-index-preserved
 loop-index-preserved c = grind (arith, framed_next)
 
 pub returns-clause-ok : goal.returns-clause-ok
-returns-clause-ok c = subst (λ f. AllFramed c.args.rom.now c.args.roots.now f c.loop-index.self.done)
+returns-clause-ok c =
+    subst (λ f. AllFramed c.args.rom.now c.args.roots.now f c.loop-index.self.done)
     (take_all c.loop-index.index c.args.frames.now c.loop-index-test.false) c.loop-index.invariant.framed

@@ -3,12 +3,12 @@ use Rattle.dvg_make.proofs.Framing.{starts, called, goes_on, at_last, at_nothing
 use Rattle.dvg_make.proofs.making.Making.make_frame.Goals as goal
 
 pub loop-format-init : goal.loop-format-init
-loop-format-init c = record { right = c.requires.right; partial =
-    starts c.args.rom.now c.args.frame.now c.args.self.now.done c.requires.right.done }
+loop-format-init c =
+    record { right = c.requires.right; partial = starts c.args.rom.now c.args.frame.now c.args.self.now.done c.requires.right.done }
 
 pub returns-in-Err-clause-err : goal.returns-in-Err-clause-err
-returns-in-Err-clause-err c = grind
-    (arith, (target_blocked c.args.rom.now c.args.frame.now c.args.self.now.done c.loop-format.self.done c.loop-format.at
+returns-in-Err-clause-err c =
+    grind (arith, (target_blocked c.args.rom.now c.args.frame.now c.args.self.now.done c.loop-format.self.done c.loop-format.at
     c.loop-format.scale c.loop-format.invariant.partial c.in-Holds.format c.in-Holds.instr (sym c.in-Holds.ensures.value)
     c.in-Err.blocked c.in-Err.ensures.err c.args.index))
 

@@ -17,7 +17,7 @@ returns-in_err-need-clause-err c =
         c.loop-addr.invariant.collected c.in_err-need.field-0.0 c.in_err-need.ensures.err)
 
 pub loop-addr-preserved : goal.loop-addr-preserved
-loop-addr-preserved c = search
-    (rules, root_collected c.args.rom.now c.args.roots.now c.loop-addr.addr-index (c.loop-addr.addr-index + 1) _ c.loop-addr.self.done
-    c.need.new.self.done (omega arith) c.loop-addr-test.true c.loop-addr.invariant.collected c.in_ok-need.ensures.ok
-    c.in_ok-need.ensures.has)
+loop-addr-preserved c =
+    search (rules, root_collected c.args.rom.now c.args.roots.now c.loop-addr.addr-index (c.loop-addr.addr-index + 1) _
+    c.loop-addr.self.done c.need.new.self.done (omega arith) c.loop-addr-test.true c.loop-addr.invariant.collected
+    c.in_ok-need.ensures.ok c.in_ok-need.ensures.has)

@@ -39,8 +39,8 @@ loop-partial-init c =
         c.in_default.ensures.ok))
 
 pub loop-partial-preserved : goal.loop-partial-preserved
-loop-partial-preserved c = search
-    (rules, c.in_default-turn.ensures.ok c.args.self.now.done (c.args.addr, c.args.key) c.loop-partial.invariant.making,
+loop-partial-preserved c =
+    search (rules, c.in_default-turn.ensures.ok c.args.self.now.done (c.args.addr, c.args.key) c.loop-partial.invariant.making,
     c.in_default-turn.ensures.present c.args.addr c.args.key c.loop-partial.invariant.present)
 
 pub returns-in-Err-turn-clause-err : goal.returns-in-Err-turn-clause-err

@@ -35,7 +35,8 @@ pub returns-else-is_err-clause-right : goal.returns-else-is_err-clause-right
 returns-else-is_err-clause-right c = not_err c.finish.result _ (sym c.if-is_err.ensures.value) c.finish.ensures.right
 
 pub returns-then-is_err-clause-told : goal.returns-then-is_err-clause-told
-returns-then-is_err-clause-told c = λ from root h. let m =
+returns-then-is_err-clause-told c =
+    λ from root h. let m =
     rw c.requires.top.1 at h in (rw c.requires.top.1
     (tells_memory _ from root _ c.requires.top.0 c.args.partial m c.obstacle.result c.obstacle.ensures
     (reached _ _ _ (walks_last _ _ c.requires.top.0 c.args.partial m.partials))), h.needed, h.room)
@@ -55,8 +56,9 @@ returns-else-is_err-clause-present c =
         (rw c.in-Finished.is at c.in_ok-entry.ensures.ok) addr key (rw c.requires.top.1 at p))
 
 pub returns-in-Ok-clause-ok : goal.returns-in-Ok-clause-ok
-returns-in-Ok-clause-ok c = λ from root h. begun_ok _ from root _ c.requires.top.0 c.args.partial (rw c.requires.top.1 at h)
-    c.in-Waiting.partial c.in-Waiting.addr (rw c.in-Waiting.is at c.in_ok-entry.ensures.ok) c.replace_top.new.self
+returns-in-Ok-clause-ok c =
+    λ from root h. begun_ok _ from root _ c.requires.top.0 c.args.partial (rw c.requires.top.1 at h) c.in-Waiting.partial
+    c.in-Waiting.addr (rw c.in-Waiting.is at c.in_ok-entry.ensures.ok) c.replace_top.new.self
     (c.replace_top.ensures c.requires.top.0 c.args.partial c.requires.top.1) c.begin.new.stack c.in-Ok.ensures.ok
 
 pub returns-in-Ok-clause-present : goal.returns-in-Ok-clause-present

@@ -19,7 +19,8 @@ pub returns-clause-added : goal.returns-clause-added
 returns-clause-added c = record { each = each }
   where
     each : (scale : Key) (n : ClockRange) → IsUnder n (most_at c.args.more.now scale) → IsUnder n (most_at c.add_from-2.new.self scale)
-    each (At s) n under = c.add_from-2.ensures.kept.each (At s) n
+    each (At s) n under =
+        c.add_from-2.ensures.kept.each (At s) n
         (c.loop-scale.invariant.0 s n (scale_below c.args.more.now.at c.loop-scale.scale s n (search rules) under) under)
     each Any n under = c.add_from-2.ensures.added n under
 

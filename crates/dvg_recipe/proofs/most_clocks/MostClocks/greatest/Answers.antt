@@ -18,7 +18,8 @@ pub returns : goal.returns
 returns c = each
   where
     each : (scale : Key) (n : ClockRange) → IsUnder n (most_at c.args.self.now scale) → IsUnder n (Some c.joined.result)
-    each (At s) n under = subst (λ r. IsUnder n (Some r)) (sym c.joined.ensures)
+    each (At s) n under =
+        subst (λ r. IsUnder n (Some r)) (sym c.joined.ensures)
         (joined_more c.args.self.now.any c.loop-scale.most n
         (c.loop-scale.invariant s n (scale_below c.args.self.now.at c.loop-scale.scale s n (search rules) under) under))
     each Any n under = subst (λ r. IsUnder n (Some r)) (sym c.joined.ensures) (joined_old c.args.self.now.any c.loop-scale.most n under)

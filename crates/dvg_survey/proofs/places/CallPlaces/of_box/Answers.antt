@@ -25,9 +25,11 @@ returns-clause-places c =
         ((simp to_z-of_z at c.between.ensures.places) x y)
 
 pub returns-clause-frame : goal.returns-clause-frame
-returns-clause-frame c = λ entry v x y budget is call. seen_places c.args.window.now c.between.result c.args.lit.now entry v x y is call
+returns-clause-frame c =
+    λ entry v x y budget is call. seen_places c.args.window.now c.between.result c.args.lit.now entry v x y is call
     (returns-clause-places c x y)
 
 pub returns-clause-shape : goal.returns-clause-shape
-returns-clause-shape c = λ entry owner v x y mode is call. seen_places c.args.window.now c.between.result c.args.lit.now entry v x y is
-    call (returns-clause-places c x y)
+returns-clause-shape c =
+    λ entry owner v x y mode is call. seen_places c.args.window.now c.between.result c.args.lit.now entry v x y is call
+    (returns-clause-places c x y)
