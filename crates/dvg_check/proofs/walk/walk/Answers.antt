@@ -35,6 +35,6 @@ pub returns-in-Err-clause-err : goal.returns-in-Err-clause-err
 returns-in-Err-clause-err g c =
     rw c.at-in-Err.ensures (found_broken _ g.R.Rules.order _ _ (g.R.Rules.keeps c.args.rules.now) g.R.Rules.KIND
         (g.E.Entries.list c.args.entries.now) (g.R.Rules.scale c.args.rules.now) _ _ c.items.cursor _ _ c.items.invariant.1
-        (sym c.in-Holds.ensures.value) c.items.callees c.in-Err.why c.see-seen.result
+        (sym c.in-Holds.ensures.value) c.items.callees c.in-Err.why c.see_by-seen.result
     c.items.invariant.0 (rw c.machine-machine.ensures at c.in-Err.ensures.broken)
-        (rw (sym c.items.invariant.0, c.KIND-in-Err.ensures, c.machine-machine.ensures) at c.see-seen.ensures.value))
+        (rw (sym c.items.invariant.0, c.KIND-in-Err.ensures, c.machine-machine.ensures) at c.see_by-seen.ensures.value))
