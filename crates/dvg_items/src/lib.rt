@@ -2,7 +2,7 @@
 //!
 //! A [`Cursor`] has the word address of an item, and what is known there ([`Known`]). [`Cursor::see`] gives what the rules see
 //! of that item ([`Seen`]), and [`Seen::step`] leads past it. The crates that judge, make and explain shapes and frames walk
-//! over items in this way.
+//! over items in this way. [`Items`] gives the items alone, for whoever asks what stands there.
 #![tactic(auto)]
 
 mod action;
