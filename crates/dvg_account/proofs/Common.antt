@@ -1,8 +1,7 @@
 -- The names that these proofs share, passed on from one place, the most cited first. Declares nothing.
 pub use Rattle.std.proofs.Common.{Contains}
 pub use Rattle.std.specs.Prelude.{option_to_list}
-pub use Rattle.dvg_spelling.proofs.Common.{arith, rules, ◌≡◌, List, [], ◌++◌, Option, Some, None, ◌∙◌, ap, subst, refl, sym, ◌∷◌, ℕ,
-    IfNone, length, take, take-suc, ◌<◌, get_or, ◌+◌, ◌≢◌, suc}
+pub use Rattle.dvg_spelling.proofs.Common.{arith, rules, ◌≡◌, List, [], ◌++◌, Option, Some, None, ◌∙◌, ap, subst, refl, sym, ◌∷◌, ℕ, IfNone, length, take, take-suc, ◌<◌, get_or, ◌+◌, ◌≢◌, suc}
 pub use Rattle.dvg_make.proofs.Common.{append_assoc, Result, Ok, Err, IfOk, listed_at, frame_word, IfSome, rom_word, entry_at, HasEntry}
 pub use Rattle.dvg_survey.proofs.Common.{NoneLead}
 pub use Rattle.dvg_account.specs.declared.line.Line.TheVariants.{Rule, Path, MakerCure, WhatToDo}

@@ -1,6 +1,5 @@
 -- The keys of the entries at a word address, up to the next entry.
-use Rattle.dvg_account.proofs.Common.{◌≡◌, ◌≢◌, ℕ, suc, ◌+◌, ◌<◌, List, [], ◌∷◌, ◌++◌, length, take, take-suc, get_or, arith, rules,
-    refl, sym, ap, ◌∙◌, Entry}
+use Rattle.dvg_account.proofs.Common.{◌≡◌, ◌≢◌, ℕ, suc, ◌+◌, ◌<◌, List, [], ◌∷◌, ◌++◌, length, take, take-suc, get_or, arith, rules, refl, sym, ap, ◌∙◌, Entry}
 use Rattle.dvg_cert.specs.declared.entry.Key.{Key}
 use Rattle.dvg_account.specs.Refused.{keys_at}
 

@@ -1,6 +1,5 @@
 -- Frames that are cut, one after another.
-use Rattle.dvg_c.proofs.Common.{◌≡◌, ℕ, ◌+◌, ◌<◌, List, [], ◌∷◌, ◌++◌, length, sum, take, drop, get_or, arith, common_steps, take-suc,
-    take-append-drop, concat, of_each, of_each_append}
+use Rattle.dvg_c.proofs.Common.{◌≡◌, ℕ, ◌+◌, ◌<◌, List, [], ◌∷◌, ◌++◌, length, sum, take, drop, get_or, arith, common_steps, take-suc, take-append-drop, concat, of_each, of_each_append}
 use Rattle.std.proofs.lemmas.List.Folds.{concat-append}
 use Rattle.std.proofs.lemmas.List.Sums.{sum_by_more}
 

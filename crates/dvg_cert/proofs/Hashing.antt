@@ -1,6 +1,5 @@
 -- Looking an entry up by the addresses and keys of a list, and one more of these for a rising list.
-use Rattle.dvg_cert.proofs.Common.{◌≡◌, ℕ, ◌+◌, ◌<◌, Bool, false, List, [], ◌∷◌, ◌++◌, length, take, get_or, position, Some, None,
-    is_some, refl, sym, ap, ◌∙◌, arith, list_any, position_or_len, nat_tests, ◌&&◌, nat_eq, Entry, Key, IsRising, own_keys, is_at, entry_at}
+use Rattle.dvg_cert.proofs.Common.{◌≡◌, ℕ, ◌+◌, ◌<◌, Bool, false, List, [], ◌∷◌, ◌++◌, length, take, get_or, position, Some, None, is_some, refl, sym, ap, ◌∙◌, arith, list_any, position_or_len, nat_tests, ◌&&◌, nat_eq, Entry, Key, IsRising, own_keys, is_at, entry_at}
 use Rattle.std.proofs.lemmas.List.{length-map, map-append, take_more}
 use Rattle.std.proofs.lemmas.List.Folds.{find_at}
 use Rattle.std.proofs.lemmas.Option.{gets}

@@ -1,6 +1,5 @@
 -- A list of entries from its entries one by one.
-use Rattle.dvg_cert.proofs.Common.{◌≡◌, ℕ, zero, suc, ◌+◌, ◌<◌, List, [], ◌∷◌, ◌++◌, length, get_or, take, drop, refl, ap, subst, arith,
-    AllByRecursion, MemoryMap, Entry, IsEntry, IsCertificate, IsRising, StandsAfter}
+use Rattle.dvg_cert.proofs.Common.{◌≡◌, ℕ, zero, suc, ◌+◌, ◌<◌, List, [], ◌∷◌, ◌++◌, length, get_or, take, drop, refl, ap, subst, arith, AllByRecursion, MemoryMap, Entry, IsEntry, IsCertificate, IsRising, StandsAfter}
 
 -- a list within a list
 pub each_mid : {X : Type 0} (P : X → Type 0) (xs : List X) (y : X) (ys : List X) → AllByRecursion P (xs ++ y ∷ ys) → P y

@@ -1,7 +1,5 @@
 -- A list that rises has one entry at an address and key at most.
-use Rattle.dvg_cert.proofs.Common.{◌≡◌, ℕ, zero, suc, Bool, true, false, cond, List, [], ◌∷◌, length, take, get_or, ◌<◌, Option, Some,
-    None, refl, sym, subst, arith, inl, inr, ◌⊎◌, IfSome, IfNone, Contains, nat_tests, Entry, Key, Before, IsRising, rules, common_steps,
-    is_at, entry_at, IsOnlyAt, HasNoneAt}
+use Rattle.dvg_cert.proofs.Common.{◌≡◌, ℕ, zero, suc, Bool, true, false, cond, List, [], ◌∷◌, length, take, get_or, ◌<◌, Option, Some, None, refl, sym, subst, arith, inl, inr, ◌⊎◌, IfSome, IfNone, Contains, nat_tests, Entry, Key, Before, IsRising, rules, common_steps, is_at, entry_at, IsOnlyAt, HasNoneAt}
 use Rattle.std.proofs.lemmas.Bool.{and_parts, and_from}
 
 pub at_means : (addr : ℕ) (key : Key) (e : Entry) → is_at addr key e ≡ true → (e.addr ≡ addr) × (e.key ≡ key)

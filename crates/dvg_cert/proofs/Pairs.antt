@@ -1,6 +1,5 @@
 -- Looking an entry up among pairs of an address and key with an entry.
-use Rattle.dvg_cert.proofs.Common.{◌≡◌, ℕ, Bool, ◌&&◌, List, [], ◌∷◌, ◌++◌, refl, ap, ◌∙◌, arith, suc, nat_eq, Entry, Key, At, Any,
-    IsOwn, IsKeyed, same_key, is_at, entry_at}
+use Rattle.dvg_cert.proofs.Common.{◌≡◌, ℕ, Bool, ◌&&◌, List, [], ◌∷◌, ◌++◌, refl, ap, ◌∙◌, arith, suc, nat_eq, Entry, Key, At, Any, IsOwn, IsKeyed, same_key, is_at, entry_at}
 use Rattle.std.proofs.lemmas.List.{map-append}
 use Rattle.std.proofs.lemmas.List.Elements.{All-push}
 use Rattle.std.specs.Map.{lookup, values_of}

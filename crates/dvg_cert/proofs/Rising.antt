@@ -1,6 +1,5 @@
 -- Lists of entries that rise, and one more at the end.
-use Rattle.dvg_cert.proofs.Common.{◌≡◌, ℕ, suc, ◌-◌, ◌<◌, List, [], ◌∷◌, ◌++◌, length, Some, ap, ◌∙◌, arith, slice_get, AllByRecursion,
-    length_push, MemoryMap, IsMap, MOST_ENTRIES, ADDRESS_END, Entry, IsEntry, Before, StandsAfter, IsRising, IsCertificate}
+use Rattle.dvg_cert.proofs.Common.{◌≡◌, ℕ, suc, ◌-◌, ◌<◌, List, [], ◌∷◌, ◌++◌, length, Some, ap, ◌∙◌, arith, slice_get, AllByRecursion, length_push, MemoryMap, IsMap, MOST_ENTRIES, ADDRESS_END, Entry, IsEntry, Before, StandsAfter, IsRising, IsCertificate}
 
 pub stands : (es : List Entry) (f e : Entry) → slice_get es (length es - 1) ≡ Some f
     → ((Before f e → StandsAfter es e) × (StandsAfter es e → Before f e))

@@ -1,7 +1,5 @@
 -- Binary search in a list of entries that rises.
-use Rattle.dvg_cert.proofs.Common.{◌≡◌, ℕ, zero, suc, ◌<◌, position_or_len, Bool, true, false, List, [], ◌∷◌, length, get_or, Some, None,
-    refl, arith, IsTrue, ◌↔◌, nat_tests, Contains-get_or, Entry, Key, KeyBefore, Before, IsRising, is_at, entry_at, lower_key,
-    stands_before}
+use Rattle.dvg_cert.proofs.Common.{◌≡◌, ℕ, zero, suc, ◌<◌, position_or_len, Bool, true, false, List, [], ◌∷◌, length, get_or, Some, None, refl, arith, IsTrue, ◌↔◌, nat_tests, Contains-get_or, Entry, Key, KeyBefore, Before, IsRising, is_at, entry_at, lower_key, stands_before}
 use Rattle.std.proofs.lemmas.List.Folds.{find_at}
 use Rattle.std.proofs.lemmas.List.Sums.{position_or_len_is}
 use Rattle.std.proofs.lemmas.Option.{slice_get_past, slice_get-get_or}

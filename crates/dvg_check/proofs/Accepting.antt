@@ -1,7 +1,5 @@
 -- What is accepted is safe, and what a ROM comes to.
-use Rattle.dvg_check.proofs.Common.{List, subst, ◌≡◌, ℕ, Good, GoodFrame, Exact, Err, Ok, Result, IfOk, IsFrame, IsWindowOrZone, Means,
-    Shapes, IsJudged, listed_claim, Memory, IsMemory, Entry, Contains, ◌≤◌, arith, length, Machine, Mode, Window, IsRomLength,
-    Certificate, rom_on}
+use Rattle.dvg_check.proofs.Common.{List, subst, ◌≡◌, ℕ, Good, GoodFrame, Exact, Err, Ok, Result, IfOk, IsFrame, IsWindowOrZone, Means, Shapes, IsJudged, listed_claim, Memory, IsMemory, Entry, Contains, ◌≤◌, arith, length, Machine, Mode, Window, IsRomLength, Certificate, rom_on}
 use Rattle.dvg_check.specs.Verdict.{Yes, Refusal, PartsVerdict, RomVerdict}
 use Rattle.dvg_check.proofs.Circuit.{safe_on_circuit, counts_on_circuit}
 use Rattle.dvg_check.specs.declared.frames.Accepted.{Accepted}

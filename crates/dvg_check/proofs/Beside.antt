@@ -1,8 +1,5 @@
 -- Two runs beside each other: what their steps keep of their places and strokes, while all else of their states is the same.
-use Rattle.dvg_check.proofs.Common.{List, zero, subst, suc, refl, nat_lt, ◌≡◌, ◌≤◌, ◌++◌, ℕ, Machine, Cell, Odd, Holds, Labs, Profile,
-    Point, DrawFields, shift, displacement, labs_place, cell_at, Stroke, State, Status, Running, Reached, lit_by, after_cell,
-    after_fetch, next_status, Memory, word_at, state_of, Course, course_past, course_at, course_after, course_along, on, OnlyRounds,
-    arith, Draws, effective_scale, Both, nat_le, pos, nat_tests, instruction_of, format_of, negsuc, labs_coordinate, LabsOnScreen}
+use Rattle.dvg_check.proofs.Common.{List, zero, subst, suc, refl, nat_lt, ◌≡◌, ◌≤◌, ◌++◌, ℕ, Machine, Cell, Odd, Holds, Labs, Profile, Point, DrawFields, shift, displacement, labs_place, cell_at, Stroke, State, Status, Running, Reached, lit_by, after_cell, after_fetch, next_status, Memory, word_at, state_of, Course, course_past, course_at, course_after, course_along, on, OnlyRounds, arith, Draws, effective_scale, Both, nat_le, pos, nat_tests, instruction_of, format_of, negsuc, labs_coordinate, LabsOnScreen}
 
 -- ---- what the two machines read alike: every cell but an odd LABS of the profile
 

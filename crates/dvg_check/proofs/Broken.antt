@@ -1,6 +1,5 @@
 -- The rule that a fault names is broken by what stands there.
-use Rattle.dvg_check.proofs.Common.{sym, ◌≡◌, ◌≢◌, ℕ, ap, ◌∙◌, subst, arith, Source, Context, seen_at, Known, IsFound, PlaceKeeps,
-    SeenItem, FaultFound, Found}
+use Rattle.dvg_check.proofs.Common.{sym, ◌≡◌, ◌≢◌, ℕ, ap, ◌∙◌, subst, arith, Source, Context, seen_at, Known, IsFound, PlaceKeeps, SeenItem, FaultFound, Found}
 use Rattle.dvg_check.specs.Finding.{Missing, Odd, Seen}
 use Rattle.dvg_check.specs.Private.Breaking.{Breaks}
 use Rattle.dvg_check.proofs.Faults.{neither_less}

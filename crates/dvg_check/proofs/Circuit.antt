@@ -1,9 +1,5 @@
 -- What is safe on the board's generator is safe on its circuit.
-use Rattle.dvg_check.proofs.Common.{Bool, true, ◌≡◌, ℕ, zero, suc, ◌+◌, ◌%◌, ◌≤◌, List, ◌∷◌, length, nat_lt, refl, ap, sym, subst, ◌∙◌,
-    arith, pos, if◌then◌else◌, AllByRecursion, cases_lt, Window, Point, Board, InWindow, Memory, IsMemory, Stroke, State, Status,
-    Running, Halted, Fault, Reached, start, next_status, state_of, Ends, IsSafeStatus, Safe, rules, AllZip, length-reverse, Circuit,
-    Counters, Reads, Run, act, run_after, begin, IsStart, ReadsAs, IsSamePlace, IsDrawnAs, Agrees, AgreesWith, counters_after, IsPast,
-    IsSafeRun, SafeRuns, CountsOfRun, IsDrawAtPlaces, SafeIsWithinOnCircuit, SafeIsSafeOnCircuit, CountsAreOnCircuit}
+use Rattle.dvg_check.proofs.Common.{Bool, true, ◌≡◌, ℕ, zero, suc, ◌+◌, ◌%◌, ◌≤◌, List, ◌∷◌, length, nat_lt, refl, ap, sym, subst, ◌∙◌, arith, pos, if◌then◌else◌, AllByRecursion, cases_lt, Window, Point, Board, InWindow, Memory, IsMemory, Stroke, State, Status, Running, Halted, Fault, Reached, start, next_status, state_of, Ends, IsSafeStatus, Safe, rules, AllZip, length-reverse, Circuit, Counters, Reads, Run, act, run_after, begin, IsStart, ReadsAs, IsSamePlace, IsDrawnAs, Agrees, AgreesWith, counters_after, IsPast, IsSafeRun, SafeRuns, CountsOfRun, IsDrawAtPlaces, SafeIsWithinOnCircuit, SafeIsSafeOnCircuit, CountsAreOnCircuit}
 use Rattle.std.specs.Prelude.{◌*ℤ◌}
 use Rattle.dvg_words.proofs.Stack.{stack_within_max}
 use Rattle.dvg_circuit.specs.declared.lit.LitDraw.{LitDraw}

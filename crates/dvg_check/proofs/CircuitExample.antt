@@ -1,7 +1,5 @@
 -- The worked example on the circuit, instruction by instruction.
-use Rattle.dvg_check.proofs.Common.{true, false, ◌≡◌, ℕ, zero, suc, ◌≤◌, List, length, inl, refl, sym, subst, arith, Contains, ints,
-    Board, format_of, instruction_of, screen, Entry, Exact, Safe, get_or-set_same, IsWindow, Circuit, Counters, Run, run_after, begin,
-    IsStart, ReadsNow, ReadsAs, memory_for, example_list}
+use Rattle.dvg_check.proofs.Common.{true, false, ◌≡◌, ℕ, zero, suc, ◌≤◌, List, length, inl, refl, sym, subst, arith, Contains, ints, Board, format_of, instruction_of, screen, Entry, Exact, Safe, get_or-set_same, IsWindow, Circuit, Counters, Run, run_after, begin, IsStart, ReadsNow, ReadsAs, memory_for, example_list}
 use Rattle.dvg_cert.specs.declared.limits.TheConstants.{MOST_DEPTH}
 use Rattle.dvg_check.specs.CircuitExample.{example_reads, WorkedCircuit}
 use Rattle.dvg_check.proofs.Circuit.{safe_on_circuit, counts_on_circuit}

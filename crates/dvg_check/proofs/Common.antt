@@ -2,30 +2,18 @@
 pub use Rattle.std.proofs.Common.{◌≢◌, unwrap_or, max, length-append, slice_index_or, append_assoc, replicate, w16}
 pub use Rattle.std.specs.Prelude.{Err, Ok, Result, IfOk}
 pub use Rattle.std.proofs.lemmas.List.{get_or-replicate, get_or_past, length-reverse, get_or-set_same, length-replicate}
-pub use Rattle.dvg_items.proofs.Common.{List, subst, ◌≡◌, ℕ, IsSomeCertificate, arith, ap, refl, Bool, true, Option, None, Some, ◌+◌,
-    ◌≤◌, if◌then◌else◌, nat_tests, zero, sym, suc, false, length, ◌∷◌, ◌++◌, [], shift, ◌∙◌, rules, ⊎_elim, AllByRecursion, Contains,
-    ints, common_steps, IsNear, ◌<◌, word_count, LeadsTo, next_address, ◌==◌, origin, place_past, address_after, IsSoundCursor,
-    place_moved_by, entry_at, IsClaim, IsNearPlace, IfSome, ◌≤ℤ◌, w64, to_z-of_z, SFits}
-pub use Rattle.dvg_circuit.proofs.Common.{Window, IsWindowOrZone, nat_le, pos, ◌%◌, format_of, cell_holding, cell_of_words, Memory,
-    negsuc, ◌/◌, labs_of, nat_lt, DrawFields, Stroke, State, Status, Running, Halted, Fault, Reached, after_instruction, after_cell,
-    effective_scale, cases_lt, InWindow, IsMemory, start, reverse, AllZip, Reads, Run, act, run_after, begin, ReadsAs, IsSamePlace,
-    IsDrawnAs, Agrees, AgreesWith, counters_after, screen, IsWindow, ReadsNow, ℤ, ◌+ℤ◌, ◌*◌, axis_move, fetches, ◌-◌, ◌^◌}
+pub use Rattle.dvg_items.proofs.Common.{List, subst, ◌≡◌, ℕ, IsSomeCertificate, arith, ap, refl, Bool, true, Option, None, Some, ◌+◌, ◌≤◌, if◌then◌else◌, nat_tests, zero, sym, suc, false, length, ◌∷◌, ◌++◌, [], shift, ◌∙◌, rules, ⊎_elim, AllByRecursion, Contains, ints, common_steps, IsNear, ◌<◌, word_count, LeadsTo, next_address, ◌==◌, origin, place_past, address_after, IsSoundCursor, place_moved_by, entry_at, IsClaim, IsNearPlace, IfSome, ◌≤ℤ◌, w64, to_z-of_z, SFits}
+pub use Rattle.dvg_circuit.proofs.Common.{Window, IsWindowOrZone, nat_le, pos, ◌%◌, format_of, cell_holding, cell_of_words, Memory, negsuc, ◌/◌, labs_of, nat_lt, DrawFields, Stroke, State, Status, Running, Halted, Fault, Reached, after_instruction, after_cell, effective_scale, cases_lt, InWindow, IsMemory, start, reverse, AllZip, Reads, Run, act, run_after, begin, ReadsAs, IsSamePlace, IsDrawnAs, Agrees, AgreesWith, counters_after, screen, IsWindow, ReadsNow, ℤ, ◌+ℤ◌, ◌*◌, axis_move, fetches, ◌-◌, ◌^◌}
 pub use Rattle.dvg_cert.proofs.Common.{inl, inr, ◌⊎◌, IsCertificate, take, get_or, drop, get_or_default}
 pub use Rattle.dvg_words.proofs.Common.{IsFrame, IsRom, word_at, after_fetch, ◌*ℤ◌, neg_ℤ, slice_get, rom_on, IsRomLength}
 unfoldable pub use Rattle.dvg_circuit.proofs.Common.{instruction_of, displacement, next_status}
 unfoldable pub use Rattle.dvg_items.proofs.Common.{cell_at}
-pub use Rattle.dvg_check.specs.Rules.{Good, GoodFrame, Mode, Exact, AtLast, AsClaimed, CellKeeps, PlaceKeeps, FrameKeeps,
-    FramePlaceKeeps, GoodShape, AllKeep, FrameWhy, Bound, IsForward, ShapePlaceKeeps, ShapeWhy, ShapeKeeps}
-pub use Rattle.dvg_items.specs.Known.{stop_effect, Context, frame_context, target, words_before, depth_before, place_before, depth_under,
-    callee, known_before, shape_context, scale_before, callee_words, draw_effect, callee_effect, scale_set, effect_of}
+pub use Rattle.dvg_check.specs.Rules.{Good, GoodFrame, Mode, Exact, AtLast, AsClaimed, CellKeeps, PlaceKeeps, FrameKeeps, FramePlaceKeeps, GoodShape, AllKeep, FrameWhy, Bound, IsForward, ShapePlaceKeeps, ShapeWhy, ShapeKeeps}
+pub use Rattle.dvg_items.specs.Known.{stop_effect, Context, frame_context, target, words_before, depth_before, place_before, depth_under, callee, known_before, shape_context, scale_before, callee_words, draw_effect, callee_effect, scale_set, effect_of}
 pub use Rattle.dvg_words.specs.declared.instruction.Instr.TheVariants.{Labs, Halt, Jsrl, Rtsl, Jmpl, Draw as Draws}
-pub use Rattle.dvg_check.specs.Drift.{on, Course, course_past, course_at, course_after, course_along, OnlyRounds, Both, course_at_start,
-    place_of, PlaceIsSum, course_of, FewDraws, RunsOnlyRound, HalfPlaceEach, IsInset, InsetIsSafe}
-pub use Rattle.dvg_check.specs.Private.Tails.{BoxInWindow, last_item, ClaimsLess, known_at_end, claimed, place_over, known_over,
-    first_seen, MayStandAt, MayStandFirst, IsBehind, after_item, IsSmall, Tail, IsTail, end_of, entry_of, AreTails}
-pub use Rattle.dvg_check.specs.Laws.{CountsAtHalt, IsDrawAtPlaces, SafeIsWithinOnCircuit, SafeIsSafeOnCircuit, CountsAreOnCircuit,
-    OneFault, NoFault, OneCount, NoShapeFault, OneShapeFault, GoodIsSafe, ExactIsExact, word_of, IsDrawOrLabs, lit_on, StrokeInWindow,
-    SafeStrokes, SafeStack, OneShape, AllShapes, Past, OneItem, IsBetween}
+pub use Rattle.dvg_check.specs.Drift.{on, Course, course_past, course_at, course_after, course_along, OnlyRounds, Both, course_at_start, place_of, PlaceIsSum, course_of, FewDraws, RunsOnlyRound, HalfPlaceEach, IsInset, InsetIsSafe}
+pub use Rattle.dvg_check.specs.Private.Tails.{BoxInWindow, last_item, ClaimsLess, known_at_end, claimed, place_over, known_over, first_seen, MayStandAt, MayStandFirst, IsBehind, after_item, IsSmall, Tail, IsTail, end_of, entry_of, AreTails}
+pub use Rattle.dvg_check.specs.Laws.{CountsAtHalt, IsDrawAtPlaces, SafeIsWithinOnCircuit, SafeIsSafeOnCircuit, CountsAreOnCircuit, OneFault, NoFault, OneCount, NoShapeFault, OneShapeFault, GoodIsSafe, ExactIsExact, word_of, IsDrawOrLabs, lit_on, StrokeInWindow, SafeStrokes, SafeStack, OneShape, AllShapes, Past, OneItem, IsBetween}
 pub use Rattle.dvg_words.specs.declared.instruction.Cell.TheVariants.{Holds, Odd, Missing}
 pub use Rattle.dvg_items.specs.Lit.{PlaceKnown, ScaleKnown, LitInWindow, LitInBox, IsInside, InBox, box_extent, draw_extent, callee_extent}
 pub use Rattle.dvg_words.specs.Memory.{Rom, frame_word, rom_word, InRom, InFrame}

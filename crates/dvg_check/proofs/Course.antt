@@ -1,7 +1,5 @@
 -- The beam is where it was last set, moved by the sum of the moves since then.
-use Rattle.dvg_check.proofs.Common.{zero, subst, sym, suc, nat_lt, ◌≡◌, ℕ, shift, displacement, labs_place, State, Status, Running,
-    Reached, start, next_status, Memory, state_of, shift_origin, shift_shift, Course, course_after, course_along, course_at_start, arith,
-    place_of, PlaceIsSum}
+use Rattle.dvg_check.proofs.Common.{zero, subst, sym, suc, nat_lt, ◌≡◌, ℕ, shift, displacement, labs_place, State, Status, Running, Reached, start, next_status, Memory, state_of, shift_origin, shift_shift, Course, course_after, course_along, course_at_start, arith, place_of, PlaceIsSum}
 
 -- what each step keeps of course and status holds all along a run
 pub along :

@@ -1,7 +1,5 @@
 -- The runs of the worked frame, state by state.
-use Rattle.dvg_check.proofs.Common.{arith, ap, refl, true, false, inl, pos, ◌≡◌, ◌⊎◌, ◌∷◌, ℕ, [], Machine, Profile, Board, Point, Cell,
-    Holds, Short, Long, Labs, Halt, DrawFields, displacement, labs_place, cell_at, instruction_of, State, Status, Running, Halted, Fault,
-    Reached, start, next_status, word_at, Course, course_after, course_at_start, on, Draws, course_of, FewDraws}
+use Rattle.dvg_check.proofs.Common.{arith, ap, refl, true, false, inl, pos, ◌≡◌, ◌⊎◌, ◌∷◌, ℕ, [], Machine, Profile, Board, Point, Cell, Holds, Short, Long, Labs, Halt, DrawFields, displacement, labs_place, cell_at, instruction_of, State, Status, Running, Halted, Fault, Reached, start, next_status, word_at, Course, course_after, course_at_start, on, Draws, course_of, FewDraws}
 use Rattle.dvg_check.specs.CourseExample.{edge_memory, edge_move, edge_course, WorkedCourse}
 use Rattle.dvg_check.proofs.Course.{along}
 

@@ -1,8 +1,5 @@
 -- How far apart runs of the two machines are, and what is safe on one of them by the other.
-use Rattle.dvg_check.proofs.Common.{arith, List, subst, sym, ap, refl, true, false, length, ℤ, pos, ◌≡◌, ◌+◌, ◌≤◌, ◌∷◌, ◌∙◌, ◌+ℤ◌, ◌*ℤ◌,
-    ℕ, [], AllByRecursion, ints, Machine, Point, Window, shift, displacement, InWindow, Stroke, State, Status, Running, Halted, Reached,
-    start, lit_by, Memory, state_of, Course, course_past, course_at_start, on, Safe, Ends, IsSafeState, rules, common_steps, negsuc,
-    neg_ℤ, ◌*◌, point_is, course_of, RunsOnlyRound, HalfPlaceEach, IsInset, InsetIsSafe, IsMapped, HaltsWithin, StaysSafe}
+use Rattle.dvg_check.proofs.Common.{arith, List, subst, sym, ap, refl, true, false, length, ℤ, pos, ◌≡◌, ◌+◌, ◌≤◌, ◌∷◌, ◌∙◌, ◌+ℤ◌, ◌*ℤ◌, ℕ, [], AllByRecursion, ints, Machine, Point, Window, shift, displacement, InWindow, Stroke, State, Status, Running, Halted, Reached, start, lit_by, Memory, state_of, Course, course_past, course_at_start, on, Safe, Ends, IsSafeState, rules, common_steps, negsuc, neg_ℤ, ◌*◌, point_is, course_of, RunsOnlyRound, HalfPlaceEach, IsInset, InsetIsSafe, IsMapped, HaltsWithin, StaysSafe}
 use Rattle.dvg_words.specs.Machines.{IsNearMove, HalfPlace}
 use Rattle.dvg_check.proofs.Beside.{coordinate_same, drawn_on, Relation, IsKept, Beside, run_on, run_back, Ahead}
 use Rattle.dvg_check.proofs.Safety.{safe_state}

@@ -1,8 +1,5 @@
 -- The worked example: what stands at its places, and that each item keeps each rule.
-use Rattle.dvg_check.proofs.Common.{Shape, ShapeWhy, ShapePlaceKeeps, LeadsTo, AllBefore, GoodFrame, words_before, depth_before, ◌+◌, ℕ,
-    arith, List, refl, pos, ◌≡◌, ◌∷◌, [], ints, displacement, screen, cell_at, instruction_of, frame_word, rom_word, Machine, DrawFields,
-    Holds, Long, Short, Labs, Halt, Jsrl, Rtsl, frame_context, FramePlaceKeeps, GoodShape, Good, FrameWhy, Mode, Bound, Exact, Item,
-    Frame, Entry, length-replicate, Draws, rom_for, example_entry, example_list, WorkedExample}
+use Rattle.dvg_check.proofs.Common.{Shape, ShapeWhy, ShapePlaceKeeps, LeadsTo, AllBefore, GoodFrame, words_before, depth_before, ◌+◌, ℕ, arith, List, refl, pos, ◌≡◌, ◌∷◌, [], ints, displacement, screen, cell_at, instruction_of, frame_word, rom_word, Machine, DrawFields, Holds, Long, Short, Labs, Halt, Jsrl, Rtsl, frame_context, FramePlaceKeeps, GoodShape, Good, FrameWhy, Mode, Bound, Exact, Item, Frame, Entry, length-replicate, Draws, rom_for, example_entry, example_list, WorkedExample}
 use Rattle.dvg_words.specs.Example.{example_frame}
 use Rattle.dvg_check.proofs.Faults.{all_kept}
 

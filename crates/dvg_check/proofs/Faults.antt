@@ -1,10 +1,6 @@
 -- The items of a shape or of a frame are determined: so a walk to the last one has met them all, and there is one first
 -- fault at most.
-use Rattle.dvg_check.proofs.Common.{◌⊎◌, inl, inr, Source, List, length, refl, sym, arith, ap, None, subst, ◌≡◌, ◌<◌, ◌∷◌, ◌++◌, ◌∙◌, ℕ,
-    ⊎_elim, [], cases_lt, AllByRecursion, Contains, if◌then◌else◌, cell_at, frame_word, rom_word, Holds, Halt, Entry, frame_number,
-    LeadsTo, next_address, AllKeep, FramePlaceKeeps, ShapePlaceKeeps, GoodShape, FrameWhy, ShapeWhy, Item, Kind, Frame, Shape, ◌==◌,
-    Same, same_lead, too_long, shorter, everywhere, AllBefore, FaultAt, shape_number, ShapeFaultAt, OneFault, NoFault, OneCount,
-    NoShapeFault, OneShapeFault}
+use Rattle.dvg_check.proofs.Common.{◌⊎◌, inl, inr, Source, List, length, refl, sym, arith, ap, None, subst, ◌≡◌, ◌<◌, ◌∷◌, ◌++◌, ◌∙◌, ℕ, ⊎_elim, [], cases_lt, AllByRecursion, Contains, if◌then◌else◌, cell_at, frame_word, rom_word, Holds, Halt, Entry, frame_number, LeadsTo, next_address, AllKeep, FramePlaceKeeps, ShapePlaceKeeps, GoodShape, FrameWhy, ShapeWhy, Item, Kind, Frame, Shape, ◌==◌, Same, same_lead, too_long, shorter, everywhere, AllBefore, FaultAt, shape_number, ShapeFaultAt, OneFault, NoFault, OneCount, NoShapeFault, OneShapeFault}
 use Rattle.std.proofs.lemmas.List.Elements.{Contains-append_right}
 use Rattle.dvg_check.specs.declared.fault.FrameWhy.TheVariants as frame
 use Rattle.dvg_check.specs.declared.fault.ShapeWhy.TheVariants as shape

@@ -1,10 +1,5 @@
 -- A frame from any start to its halt.
-use Rattle.dvg_check.proofs.Common.{Machine, List, Option, Some, arith, refl, length, inl, inr, ap, sym, subst, ◌≡◌, ◌+◌, ◌≤◌, ◌⊎◌, ◌∷◌,
-    ◌++◌, ◌∙◌, ℕ, [], AllByRecursion, Contains, InWindow, origin, word_count, cell_at, State, Reached, Running, Halted, places, start,
-    next_status, Memory, InRom, word_at, IsMemory, frame_word, Window, Point, Holds, Format, Instr, Halt, End, Rel, Entry, Empty, Counts,
-    LitFits, Stretch, LeadsTo, place_before, frame_context, depth_under, depth_before, callee, words_before, seen_at, Good, AllKeep,
-    FramePlaceKeeps, FrameKeeps, CellKeeps, GoodFrame, Ends, FrameWhy, Mode, Bound, Exact, Item, Frame, length-append, InFrame,
-    GoodIsSafe, ExactIsExact, all_append, all_map, all_right, named_listed, word_count-some}
+use Rattle.dvg_check.proofs.Common.{Machine, List, Option, Some, arith, refl, length, inl, inr, ap, sym, subst, ◌≡◌, ◌+◌, ◌≤◌, ◌⊎◌, ◌∷◌, ◌++◌, ◌∙◌, ℕ, [], AllByRecursion, Contains, InWindow, origin, word_count, cell_at, State, Reached, Running, Halted, places, start, next_status, Memory, InRom, word_at, IsMemory, frame_word, Window, Point, Holds, Format, Instr, Halt, End, Rel, Entry, Empty, Counts, LitFits, Stretch, LeadsTo, place_before, frame_context, depth_under, depth_before, callee, words_before, seen_at, Good, AllKeep, FramePlaceKeeps, FrameKeeps, CellKeeps, GoodFrame, Ends, FrameWhy, Mode, Bound, Exact, Item, Frame, length-append, InFrame, GoodIsSafe, ExactIsExact, all_append, all_map, all_right, named_listed, word_count-some}
 use Rattle.dvg_check.specs.declared.fault.FrameWhy.TheVariants as frame
 use Rattle.dvg_check.proofs.Onward.{Stands}
 use Rattle.dvg_check.proofs.Runs.{reached_on, counts_sum, counts_same, rest_of, grows, stretch_as}

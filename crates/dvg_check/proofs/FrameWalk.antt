@@ -1,7 +1,5 @@
 -- What a walk over a frame's items gives.
-use Rattle.dvg_check.proofs.Common.{ap, ◌∙◌, Machine, None, nat_lt, arith, List, subst, ◌≡◌, ℕ, nat_tests, frame_word, Window, Holds,
-    Format, Instr, Rtsl, Halt, Entry, address_after, frame_context, FramePlaceKeeps, GoodFrame, FrameKeeps, CellKeeps, seen_at, FrameWhy,
-    Frame, Known, IsForward, WalksTo}
+use Rattle.dvg_check.proofs.Common.{ap, ◌∙◌, Machine, None, nat_lt, arith, List, subst, ◌≡◌, ℕ, nat_tests, frame_word, Window, Holds, Format, Instr, Rtsl, Halt, Entry, address_after, frame_context, FramePlaceKeeps, GoodFrame, FrameKeeps, CellKeeps, seen_at, FrameWhy, Frame, Known, IsForward, WalksTo}
 use Rattle.dvg_check.specs.declared.fault.FrameWhy.TheVariants as frame
 
 -- the last item of a frame is a halt

@@ -1,6 +1,5 @@
 -- The first faulty entry of a list.
-use Rattle.dvg_check.proofs.Common.{List, length, take, suc, arith, ap, subst, ◌≡◌, ◌<◌, ◌∷◌, ◌++◌, ℕ, AllByRecursion, Rom, Window,
-    Entry, At, Rel, pos, Empty, GoodShape, Mode, drop, slice_index_or, all_append, ShapeFaultFound, ShapeFinding, FirstShapeFound}
+use Rattle.dvg_check.proofs.Common.{List, length, take, suc, arith, ap, subst, ◌≡◌, ◌<◌, ◌∷◌, ◌++◌, ℕ, AllByRecursion, Rom, Window, Entry, At, Rel, pos, Empty, GoodShape, Mode, drop, slice_index_or, all_append, ShapeFaultFound, ShapeFinding, FirstShapeFound}
 use Rattle.std.proofs.Math.Seq.{take-suc, split_at}
 
 -- what the code reads for an entry past the end

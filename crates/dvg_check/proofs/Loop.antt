@@ -1,7 +1,5 @@
 -- What the loop over items keeps, and what follows where it stops.
-use Rattle.dvg_check.proofs.Common.{Source, arith, ◌<◌, refl, List, ap, ◌≡◌, ◌∷◌, ℕ, cell_at, Cell, Missing, Odd, Holds, Format, Instr,
-    Entry, Key, IsFound, LeadsTo, Context, known_before, seen_at, PlaceKeeps, CellKeeps, Item, Kind, Known, Seen, rules, AllBefore,
-    FaultFound, seen_by, WalksTo, KeepsAll, BreaksFirst, IsSoundCursor, Found}
+use Rattle.dvg_check.proofs.Common.{Source, arith, ◌<◌, refl, List, ap, ◌≡◌, ◌∷◌, ℕ, cell_at, Cell, Missing, Odd, Holds, Format, Instr, Entry, Key, IsFound, LeadsTo, Context, known_before, seen_at, PlaceKeeps, CellKeeps, Item, Kind, Known, Seen, rules, AllBefore, FaultFound, seen_by, WalksTo, KeepsAll, BreaksFirst, IsSoundCursor, Found}
 use Rattle.dvg_check.specs.declared.fault.Found.TheVariants as found
 use Rattle.dvg_items.specs.declared.cursor.Cursor.{Cursor}
 use Rattle.dvg_items.specs.declared.cursor.Step.{Step}

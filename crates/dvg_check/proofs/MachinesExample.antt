@@ -1,6 +1,5 @@
 -- The two frames that one machine accepts and the other refuses, item by item.
-use Rattle.dvg_check.proofs.Common.{arith, refl, pos, ◌∷◌, ℕ, [], ints, displacement, screen, cell_at, instruction_of, Machine, Profile,
-    Board, Long, Labs, FramePlaceKeeps, GoodFrame, Item, Draws, FirstFrameFault, AllBefore}
+use Rattle.dvg_check.proofs.Common.{arith, refl, pos, ◌∷◌, ℕ, [], ints, displacement, screen, cell_at, instruction_of, Machine, Profile, Board, Long, Labs, FramePlaceKeeps, GoodFrame, Item, Draws, FirstFrameFault, AllBefore}
 use Rattle.dvg_check.specs.MachinesExample.{edge_frame, left_frame}
 use Rattle.dvg_check.specs.declared.fault.FrameWhy.TheVariants as frame
 use Rattle.dvg_check.proofs.Example.{accepted}

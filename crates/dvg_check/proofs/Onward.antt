@@ -1,12 +1,5 @@
 -- From one item to the next, over calls too.
-use Rattle.dvg_check.proofs.Common.{◌≢◌, ℤ, Shape, Source, Machine, Option, None, Some, refl, nat_le, arith, inl, sym, ap, inr, zero,
-    suc, List, max, length, nat_lt, ◌≡◌, ◌+◌, ◌≤◌, ◌⊎◌, ◌∷◌, ◌++◌, ◌∙◌, ℕ, [], nat_tests, ints, AllByRecursion, shift, InWindow,
-    displacement, origin, instruction_of, cell_of_format, cell_at, word_count, Stroke, lit_by, State, next_status, Running, places,
-    Memory, InRom, word_at, IsMemory, DrawFields, Window, Point, Holds, Format, Long, Short, Instr, Labs, Halt, Jsrl, Rtsl, Jmpl, End,
-    Lost, Entry, Key, At, LitBox, Empty, Span, PlaceFits, LitFits, ScaleFits, Stretch, address_after, LeadsTo, place_moved_by, Context,
-    place_before, scale_before, target, callee, callee_words, depth_under, place_past, word_of, InBox, LitInWindow, LitInBox, PlaceKnown,
-    ScaleKnown, HasCallee, Mode, Item, shift_origin, Draws, Any, box_at, Behaves, draw_effect, IsDrawOrLabs, lit_on, box_extent,
-    draw_extent, extent, Between, listed_at}
+use Rattle.dvg_check.proofs.Common.{◌≢◌, ℤ, Shape, Source, Machine, Option, None, Some, refl, nat_le, arith, inl, sym, ap, inr, zero, suc, List, max, length, nat_lt, ◌≡◌, ◌+◌, ◌≤◌, ◌⊎◌, ◌∷◌, ◌++◌, ◌∙◌, ℕ, [], nat_tests, ints, AllByRecursion, shift, InWindow, displacement, origin, instruction_of, cell_of_format, cell_at, word_count, Stroke, lit_by, State, next_status, Running, places, Memory, InRom, word_at, IsMemory, DrawFields, Window, Point, Holds, Format, Long, Short, Instr, Labs, Halt, Jsrl, Rtsl, Jmpl, End, Lost, Entry, Key, At, LitBox, Empty, Span, PlaceFits, LitFits, ScaleFits, Stretch, address_after, LeadsTo, place_moved_by, Context, place_before, scale_before, target, callee, callee_words, depth_under, place_past, word_of, InBox, LitInWindow, LitInBox, PlaceKnown, ScaleKnown, HasCallee, Mode, Item, shift_origin, Draws, Any, box_at, Behaves, draw_effect, IsDrawOrLabs, lit_on, box_extent, draw_extent, extent, Between, listed_at}
 use Rattle.dvg_check.proofs.Runs.{counts_same, stretch_less, stretch_on, deeper}
 use Rattle.dvg_check.proofs.Steps.{fits_moved, next_there, one_item, stands}
 

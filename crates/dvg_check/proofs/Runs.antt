@@ -1,7 +1,5 @@
 -- Runs: they go on, they are determined, and what is recorded only grows.
-use Rattle.dvg_check.proofs.Common.{Machine, List, zero, arith, subst, sym, suc, ap, refl, nat_lt, length, max, ◌≡◌, ◌+◌, ◌≤◌, ◌++◌, ◌∙◌,
-    ℕ, [], cell_at, Status, Reached, Running, Halted, State, Stroke, lit_by, after_cell, next_status, after_fetch, Memory, word_at, Cell,
-    Holds, state_of, Counts, Stretch, Mode, append_assoc, length-append, fetches, Draws, all_append, all_map, Step}
+use Rattle.dvg_check.proofs.Common.{Machine, List, zero, arith, subst, sym, suc, ap, refl, nat_lt, length, max, ◌≡◌, ◌+◌, ◌≤◌, ◌++◌, ◌∙◌, ℕ, [], cell_at, Status, Reached, Running, Halted, State, Stroke, lit_by, after_cell, next_status, after_fetch, Memory, word_at, Cell, Holds, state_of, Counts, Stretch, Mode, append_assoc, length-append, fetches, Draws, all_append, all_map, Step}
 
 -- ---- runs
 

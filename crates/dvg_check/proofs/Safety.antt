@@ -1,6 +1,5 @@
 -- What is safe, state by state.
-use Rattle.dvg_check.proofs.Common.{arith, ℕ, Status, state_of, InWindow, Memory, Window, Ends, IsSafeState, IsSafeStatus, at_place,
-    StrokeInWindow, SafeStrokes}
+use Rattle.dvg_check.proofs.Common.{arith, ℕ, Status, state_of, InWindow, Memory, Window, Ends, IsSafeState, IsSafeStatus, at_place, StrokeInWindow, SafeStrokes}
 
 -- what is safe is no fault
 pub safe_state : (m : Memory) (w : Window) (words depth steps : ℕ) (after : Status) → IsSafeStatus m w words depth steps after

@@ -1,10 +1,5 @@
 -- A shape's items one after another, and all shapes by induction on their words.
-use Rattle.dvg_check.proofs.Common.{inl, inr, state_of, AsClaimed, List, Some, length, arith, sym, Option, None, zero, ap, suc, max,
-    subst, refl, ◌≡◌, ◌+◌, ◌<◌, ◌≤◌, ◌∷◌, ◌∙◌, ℕ, [], AllByRecursion, Contains, shift, origin, cell_at, word_count, places, State,
-    Reached, Running, Memory, IsMemory, InRom, rom_word, Window, Point, Cell, Holds, Format, Instr, Entry, LitBox, Stretch, LitFits,
-    Counts, PlaceFits, ScaleFits, LeadsTo, next_address, Context, callee, depth_before, words_before, shape_context, target,
-    scale_before, callee_words, depth_under, word_of, GoodShape, CellKeeps, ShapeKeeps, AtLast, Good, seen_at, Mode, ShapeWhy, Item,
-    Shape, shift_origin, Behaves, OneShape, AllShapes, named_listed, word_count-some}
+use Rattle.dvg_check.proofs.Common.{inl, inr, state_of, AsClaimed, List, Some, length, arith, sym, Option, None, zero, ap, suc, max, subst, refl, ◌≡◌, ◌+◌, ◌<◌, ◌≤◌, ◌∷◌, ◌∙◌, ℕ, [], AllByRecursion, Contains, shift, origin, cell_at, word_count, places, State, Reached, Running, Memory, IsMemory, InRom, rom_word, Window, Point, Cell, Holds, Format, Instr, Entry, LitBox, Stretch, LitFits, Counts, PlaceFits, ScaleFits, LeadsTo, next_address, Context, callee, depth_before, words_before, shape_context, target, scale_before, callee_words, depth_under, word_of, GoodShape, CellKeeps, ShapeKeeps, AtLast, Good, seen_at, Mode, ShapeWhy, Item, Shape, shift_origin, Behaves, OneShape, AllShapes, named_listed, word_count-some}
 use Rattle.dvg_check.specs.declared.fault.ShapeWhy.TheVariants as shape
 use Rattle.dvg_check.proofs.Onward.{Fits, Stands, over_item}
 use Rattle.dvg_check.proofs.Runs.{stretch_here, stretch_on, counts_same}

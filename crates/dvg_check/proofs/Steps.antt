@@ -1,9 +1,5 @@
 -- One item: what stands at a place, and what a draw or a LABS does.
-use Rattle.dvg_check.proofs.Common.{Source, arith, Some, ap, List, nat_le, nat_lt, ◌≡◌, ◌∷◌, ◌++◌, ◌∙◌, ℕ, nat_tests, AllByRecursion,
-    shift, displacement, cell_of_format, cell_of_words, format_of, cell_at, word_count, places, State, next_status, after_instruction,
-    after_cell, after_fetch, Memory, InRom, IsMemory, word_at, Point, Holds, Format, Instr, End, Rel, Abs, Lost, shift_shift, PlaceFits,
-    ScaleFits, place_moved_by, Context, place_before, callee, scale_before, place_past, word_of, Item, Kind, Shape, Frame, slice_get,
-    fetches, InFrame, effect_of, IsDrawOrLabs, Past, OneItem}
+use Rattle.dvg_check.proofs.Common.{Source, arith, Some, ap, List, nat_le, nat_lt, ◌≡◌, ◌∷◌, ◌++◌, ◌∙◌, ℕ, nat_tests, AllByRecursion, shift, displacement, cell_of_format, cell_of_words, format_of, cell_at, word_count, places, State, next_status, after_instruction, after_cell, after_fetch, Memory, InRom, IsMemory, word_at, Point, Holds, Format, Instr, End, Rel, Abs, Lost, shift_shift, PlaceFits, ScaleFits, place_moved_by, Context, place_before, callee, scale_before, place_past, word_of, Item, Kind, Shape, Frame, slice_get, fetches, InFrame, effect_of, IsDrawOrLabs, Past, OneItem}
 use Rattle.std.proofs.lemmas.Option.{slice_get_within}
 
 -- ---- what stands at a place

@@ -1,11 +1,5 @@
 -- A weaker claim of a good shape is good, and so is an item before a good tail.
-use Rattle.dvg_check.proofs.Common.{ℤ, shape_context, shift, moved, InWindow, Machine, arith, List, None, Some, refl, sym, ap, subst,
-    inl, inr, max, pos, ⊎_elim, ◌≡◌, ◌⊎◌, ◌≤◌, ◌∷◌, ◌∙◌, ℕ, [], ints, cell_at, word_count, Rom, rom_word, Window, Point, Cell, Holds,
-    End, Rel, Abs, Entry, Key, LitBox, Span, LeadsTo, next_address, Context, known_before, place_past, callee_words, depth_under, target,
-    PlaceKnown, ScaleKnown, LitInWindow, LitInBox, InBox, IsInside, seen_at, Item, Shape, Known, LitExtent, Effect, Seen, CellKeeps,
-    ShapeKeeps, GoodShape, Mode, Bound, Exact, ShapeWhy, Between, item_same, too_long, seen_by, ClaimsLess, known_at_end, claimed,
-    place_over, known_over, first_seen, MayStandAt, MayStandFirst, IsBehind, last_item, after_item, Option, ◌+◌, ◌-◌, ◌<◌, ADDRESS_END,
-    IsTail, IfSome, next_further, end_of, entry_of, IsSmall, Tail, BoxInWindow}
+use Rattle.dvg_check.proofs.Common.{ℤ, shape_context, shift, moved, InWindow, Machine, arith, List, None, Some, refl, sym, ap, subst, inl, inr, max, pos, ⊎_elim, ◌≡◌, ◌⊎◌, ◌≤◌, ◌∷◌, ◌∙◌, ℕ, [], ints, cell_at, word_count, Rom, rom_word, Window, Point, Cell, Holds, End, Rel, Abs, Entry, Key, LitBox, Span, LeadsTo, next_address, Context, known_before, place_past, callee_words, depth_under, target, PlaceKnown, ScaleKnown, LitInWindow, LitInBox, InBox, IsInside, seen_at, Item, Shape, Known, LitExtent, Effect, Seen, CellKeeps, ShapeKeeps, GoodShape, Mode, Bound, Exact, ShapeWhy, Between, item_same, too_long, seen_by, ClaimsLess, known_at_end, claimed, place_over, known_over, first_seen, MayStandAt, MayStandFirst, IsBehind, last_item, after_item, Option, ◌+◌, ◌-◌, ◌<◌, ADDRESS_END, IsTail, IfSome, next_further, end_of, entry_of, IsSmall, Tail, BoxInWindow}
 use Rattle.dvg_items.specs.declared.known.Effect.TheVariants.{Moves}
 use Rattle.dvg_items.proofs.PlaceLaw.{moves_on}
 use Rattle.dvg_check.specs.declared.fault.ShapeWhy.TheVariants as shape

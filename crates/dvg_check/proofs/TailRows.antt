@@ -1,7 +1,5 @@
 -- What is kept by a pass, and the entries that it shows to be good.
-use Rattle.dvg_check.proofs.Common.{arith, length-replicate, List, Option, None, ◌∷◌, ◌⊎◌, suc, length, take, get_or, sym, subst, ◌≡◌,
-    ◌<◌, ◌≤◌, ℕ, ⊎_elim, AllByRecursion, Entry, Key, replicate, get_or_default, IsClaim, IsSomeCertificate, listed_claim, AllKept,
-    IsKept, Kept, get_or-replicate, get_or_past}
+use Rattle.dvg_check.proofs.Common.{arith, length-replicate, List, Option, None, ◌∷◌, ◌⊎◌, suc, length, take, get_or, sym, subst, ◌≡◌, ◌<◌, ◌≤◌, ℕ, ⊎_elim, AllByRecursion, Entry, Key, replicate, get_or_default, IsClaim, IsSomeCertificate, listed_claim, AllKept, IsKept, Kept, get_or-replicate, get_or_past}
 
 -- nothing is kept
 pub none_kept : {T : Type 0} (P : ℕ → Key → T → Type 0) (n : ℕ) → AllKept P (replicate n None)

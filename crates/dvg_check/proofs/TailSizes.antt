@@ -1,7 +1,5 @@
 -- A tail's numbers stay small.
-use Rattle.dvg_check.proofs.Common.{arith, ints, ◌≤◌, ◌+◌, ℕ, ℤ, Point, End, LitBox, Empty, Span, InBox, IsInside, IsNear, IsNearPlace,
-    IsNearBox, ITEM_REACH, place_more, box_more, wall, in_wall, inside_wall, reached_by_point, nothing_reached, moved, IsSmall, Tail,
-    place_over, stop_effect, place_after}
+use Rattle.dvg_check.proofs.Common.{arith, ints, ◌≤◌, ◌+◌, ℕ, ℤ, Point, End, LitBox, Empty, Span, InBox, IsInside, IsNear, IsNearPlace, IsNearBox, ITEM_REACH, place_more, box_more, wall, in_wall, inside_wall, reached_by_point, nothing_reached, moved, IsSmall, Tail, place_over, stop_effect, place_after}
 
 -- ---- boxes
 

@@ -1,10 +1,7 @@
 -- A multiplier that begins at any count.
-use Rattle.dvg_circuit.proofs.Common.{◌≡◌, ℕ, zero, suc, ◌+◌, ◌*◌, ◌/◌, ◌^◌, ◌≤◌, refl, ap, arith, ints, ℤ, pos, ◌+ℤ◌, nat_abs, nat_lt,
-    List, [], ◌∷◌, if◌then◌else◌, subst, ◌∙◌, sym, ⊎_elim, ◌<◌, pulse, stepped, negsuc, pow-succ', cases_eq, nat_tests, bit, counts,
-    pulses, signed, moved, twelve_bits, IsBetween}
+use Rattle.dvg_circuit.proofs.Common.{◌≡◌, ℕ, zero, suc, ◌+◌, ◌*◌, ◌/◌, ◌^◌, ◌≤◌, refl, ap, arith, ints, ℤ, pos, ◌+ℤ◌, nat_abs, nat_lt, List, [], ◌∷◌, if◌then◌else◌, subst, ◌∙◌, sym, ⊎_elim, ◌<◌, pulse, stepped, negsuc, pow-succ', cases_eq, nat_tests, bit, counts, pulses, signed, moved, twelve_bits, IsBetween}
 use Rattle.dvg_circuit.specs.Counters.{counter_after}
-use Rattle.dvg_circuit.specs.AnyStart.{pulses_from, counter_from, moved_from, IsWithin, OnePlaceEach, AxisDraw, end_of, end_from,
-    below_nine, OnePlaceADraw, WorkedStarts}
+use Rattle.dvg_circuit.specs.AnyStart.{pulses_from, counter_from, moved_from, IsWithin, OnePlaceEach, AxisDraw, end_of, end_from, below_nine, OnePlaceADraw, WorkedStarts}
 use Rattle.dvg_circuit.proofs.Rounding.{multiplier, gated, rounded_half_up}
 use Rattle.dvg_circuit.proofs.Places.{at_most_one, step_of, signed_more}
 

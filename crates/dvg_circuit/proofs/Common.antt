@@ -5,12 +5,9 @@ pub use Rattle.std.specs.List.{AllByRecursion, AllZip}
 pub use Rattle.std.proofs.lemmas.Bool.{cases_lt, cases_eq}
 pub use Rattle.std.proofs.lemmas.Nat.Bits.{bit_at_lowest, bit_at-suc, bit_at-trailing_ones, shr_and_one}
 pub use Rattle.std.proofs.Math.Nat.{pow-succ', pow-suc, mod-eq_of_lt}
-pub use Rattle.dvg_words.proofs.Common.{◌≡◌, ℕ, refl, arith, ints, zero, suc, ◌≤◌, ap, ◌∙◌, rules, [], ◌∷◌, ◌+◌, ◌%◌, ◌<◌, List, length,
-    Some, nat_le, subst, pos, negsuc, nat_tests, Memory, State, Status, Reached, after_cell, ◌*◌, ℤ, ◌+ℤ◌, DrawFields, axis_move,
-    effective_scale, ◌/◌, Bool, ◌^◌, Window, InWindow}
+pub use Rattle.dvg_words.proofs.Common.{◌≡◌, ℕ, refl, arith, ints, zero, suc, ◌≤◌, ap, ◌∙◌, rules, [], ◌∷◌, ◌+◌, ◌%◌, ◌<◌, List, length, Some, nat_le, subst, pos, negsuc, nat_tests, Memory, State, Status, Reached, after_cell, ◌*◌, ℤ, ◌+ℤ◌, DrawFields, axis_move, effective_scale, ◌/◌, Bool, ◌^◌, Window, InWindow}
 unfoldable pub use Rattle.dvg_words.proofs.Common.{instruction_of, cell_at, next_status, displacement}
-pub use Rattle.dvg_circuit.specs.Counters.{IsShown, bit, Counters, counts, counters_after, ending_ones, let_through, pulse, pulses,
-    stepped, passed}
+pub use Rattle.dvg_circuit.specs.Counters.{IsShown, bit, Counters, counts, counters_after, ending_ones, let_through, pulse, pulses, stepped, passed}
 pub use Rattle.dvg_circuit.specs.Circuit.{Run, step, run_after, begin, LitDraw, Reads, past, places, decoded, performed, act}
 pub use Rattle.dvg_circuit.specs.Laws.{signed, moved, twelve_bits, IsBetween, CounterIsPlace, RoundedHalfUp}
 pub use Rattle.dvg_circuit.specs.Following.{IsSamePlace, IsDrawnAs, AreStored, Agrees, AgreesWith, CircuitFollows, IsAmong, DrawnOnStroke}

@@ -1,10 +1,5 @@
 -- The circuit follows the generator, instruction by instruction.
-use Rattle.dvg_circuit.proofs.Common.{false, ◌≡◌, ℕ, zero, suc, ◌+◌, ◌%◌, ◌<◌, ◌≤◌, List, [], ◌∷◌, ◌++◌, length, reverse, Option, Some,
-    None, nat_le, refl, ap, sym, subst, ◌∙◌, arith, pos, negsuc, ◌*ℤ◌, slice_set, AllByRecursion, AllZip, cases_lt, cases_eq, true,
-    nat_tests, Board, Format, Short, Long, Instr, signed_field, word_count, format_of, instruction_of, cell_holding, long_cell,
-    cell_of_words, cell_at, Memory, IsMemory, fetched_at, State, Status, Running, Reached, generator_places, fetches, after_instruction,
-    after_cell, next_status, start, Reads, Run, past, places, decoded, performed, act, step, run_after, begin, IsRead, ReadsNow, ReadsAs,
-    IsSamePlace, AreStored, Agrees, AgreesWith, CircuitFollows}
+use Rattle.dvg_circuit.proofs.Common.{false, ◌≡◌, ℕ, zero, suc, ◌+◌, ◌%◌, ◌<◌, ◌≤◌, List, [], ◌∷◌, ◌++◌, length, reverse, Option, Some, None, nat_le, refl, ap, sym, subst, ◌∙◌, arith, pos, negsuc, ◌*ℤ◌, slice_set, AllByRecursion, AllZip, cases_lt, cases_eq, true, nat_tests, Board, Format, Short, Long, Instr, signed_field, word_count, format_of, instruction_of, cell_holding, long_cell, cell_of_words, cell_at, Memory, IsMemory, fetched_at, State, Status, Running, Reached, generator_places, fetches, after_instruction, after_cell, next_status, start, Reads, Run, past, places, decoded, performed, act, step, run_after, begin, IsRead, ReadsNow, ReadsAs, IsSamePlace, AreStored, Agrees, AgreesWith, CircuitFollows}
 use Rattle.std.proofs.lemmas.List.{append-nil, reverse-append, get_or-set_same, get_or-set_other, length-set}
 use Rattle.dvg_circuit.proofs.Moves.{beam_moved, drawn_as}
 use Rattle.dvg_circuit.proofs.Reading.{IsRight, right, low_word}

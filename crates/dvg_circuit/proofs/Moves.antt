@@ -1,7 +1,5 @@
 -- A draw moves the generator's beam and the circuit's counters alike, and the counters pass places between its ends.
-use Rattle.dvg_circuit.proofs.Common.{◌≡◌, ℕ, ◌≤◌, refl, ap, arith, ℤ, pos, negsuc, ◌+ℤ◌, ◌*ℤ◌, nat_abs, cases_lt, ints, DrawFields,
-    Point, Board, shift, axis_move, displacement, effective_scale, Counters, counts, counters_after, signed, moved, twelve_bits,
-    IsSamePlace, IsAmong, IsDrawnAs, DrawnOnStroke}
+use Rattle.dvg_circuit.proofs.Common.{◌≡◌, ℕ, ◌≤◌, refl, ap, arith, ℤ, pos, negsuc, ◌+ℤ◌, ◌*ℤ◌, nat_abs, cases_lt, ints, DrawFields, Point, Board, shift, axis_move, displacement, effective_scale, Counters, counts, counters_after, signed, moved, twelve_bits, IsSamePlace, IsAmong, IsDrawnAs, DrawnOnStroke}
 use Rattle.dvg_words.proofs.Machines.{board_moves}
 use Rattle.dvg_circuit.proofs.Rounding.{rounded_half_up, more_pulses}
 use Rattle.dvg_circuit.proofs.Places.{counter_is_place}

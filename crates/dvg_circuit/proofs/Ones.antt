@@ -1,6 +1,5 @@
 -- In how many ones a count ends, as the code counts them.
-use Rattle.dvg_circuit.proofs.Common.{◌≡◌, ℕ, zero, suc, ◌/◌, ◌<◌, refl, subst, sym, ◌∙◌, ⊎_elim, arith, if◌then◌else◌, nat_tests,
-    nat_lt, cases_eq, bit_at_lowest, bit_at-suc, bit_at-trailing_ones, ending_ones, let_through, pulse}
+use Rattle.dvg_circuit.proofs.Common.{◌≡◌, ℕ, zero, suc, ◌/◌, ◌<◌, refl, subst, sym, ◌∙◌, ⊎_elim, arith, if◌then◌else◌, nat_tests, nat_lt, cases_eq, bit_at_lowest, bit_at-suc, bit_at-trailing_ones, ending_ones, let_through, pulse}
 use Rattle.std.specs.Int.{bit_at, trailing_ones, w16}
 
 -- the count's bits below b are ones

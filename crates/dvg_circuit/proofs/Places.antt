@@ -1,6 +1,5 @@
 -- The counters hold the twelve bits of the places that they pass.
-use Rattle.dvg_circuit.proofs.Common.{pulse, ◌≡◌, ℕ, zero, suc, ◌+◌, ◌≤◌, ap, arith, ℤ, ◌+ℤ◌, ints, stepped, signed, twelve_bits,
-    CounterIsPlace}
+use Rattle.dvg_circuit.proofs.Common.{pulse, ◌≡◌, ℕ, zero, suc, ◌+◌, ◌≤◌, ap, arith, ℤ, ◌+ℤ◌, ints, stepped, signed, twelve_bits, CounterIsPlace}
 
 pub at_most_one : (size count : ℕ) → pulse size count ≤ 1
 at_most_one size count = grind (arith)

@@ -1,6 +1,5 @@
 -- What the circuit reads and decodes is what the generator does.
-use Rattle.dvg_circuit.proofs.Common.{◌≡◌, ℕ, ◌<◌, nat_le, Some, arith, pos, neg_ℤ, nat_abs, nat_tests, Board, Format, Short, decoded,
-    Instr, opcode, instruction_of, format_of, Memory, IsMemory, fetched_at}
+use Rattle.dvg_circuit.proofs.Common.{◌≡◌, ℕ, ◌<◌, nat_le, Some, arith, pos, neg_ℤ, nat_abs, nat_tests, Board, Format, Short, decoded, Instr, opcode, instruction_of, format_of, Memory, IsMemory, fetched_at}
 use Rattle.dvg_words.specs.declared.instruction.Instr.TheVariants.{Draw as Draws, Labs, Jsrl}
 use Rattle.dvg_circuit.specs.Laws.{AllDecoded}
 use Rattle.dvg_circuit.proofs.Moves.{AreSizes}

@@ -1,6 +1,5 @@
 -- How many pulses a multiplier lets through.
-use Rattle.dvg_circuit.proofs.Common.{◌/◌, ◌-◌, nat_lt, refl, ◌==◌, if◌then◌else◌, ending_ones, ◌≡◌, ℕ, zero, suc, ◌+◌, ◌*◌, ◌%◌, ◌^◌,
-    ◌<◌, ◌≤◌, ap, arith, pow-succ', cases_eq, nat_tests, rules, pow-suc, mod-eq_of_lt, bit, pulses, RoundedHalfUp}
+use Rattle.dvg_circuit.proofs.Common.{◌/◌, ◌-◌, nat_lt, refl, ◌==◌, if◌then◌else◌, ending_ones, ◌≡◌, ℕ, zero, suc, ◌+◌, ◌*◌, ◌%◌, ◌^◌, ◌<◌, ◌≤◌, ap, arith, pow-succ', cases_eq, nat_tests, rules, pow-suc, mod-eq_of_lt, bit, pulses, RoundedHalfUp}
 use Rattle.std.proofs.lemmas.Grind.{common_steps}
 use Rattle.std.proofs.Math.Pow.{pow_mono}
 use Rattle.std.proofs.lemmas.Nat.{mod-pow-add, pow_pos}

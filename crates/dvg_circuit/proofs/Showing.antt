@@ -1,6 +1,5 @@
 -- What is shown of a stroke.
-use Rattle.dvg_circuit.proofs.Common.{◌≡◌, ap, arith, ℤ, pos, negsuc, ◌+ℤ◌, ◌*ℤ◌, ints, Window, IsWindowOrZone, clipped, InWindow, Point,
-    Stroke, bit, IsShown, Counters, counters_after, LitDraw, IsBetween, moved, twelve_bits, IsDrawnAs}
+use Rattle.dvg_circuit.proofs.Common.{◌≡◌, ap, arith, ℤ, pos, negsuc, ◌+ℤ◌, ◌*ℤ◌, ints, Window, IsWindowOrZone, clipped, InWindow, Point, Stroke, bit, IsShown, Counters, counters_after, LitDraw, IsBetween, moved, twelve_bits, IsDrawnAs}
 use Rattle.dvg_circuit.specs.Showing.{IsDrawInWindow, ShownInWindow, LitInWindow, LitOnScreen, ScreenIsShown}
 use Rattle.dvg_circuit.proofs.Moves.{drawn_on_stroke}
 

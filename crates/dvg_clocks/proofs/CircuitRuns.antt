@@ -1,11 +1,7 @@
 -- What a run takes on the circuit is what it takes on the generator.
-use Rattle.dvg_clocks.proofs.Common.{◌≡◌, ℕ, ◌+◌, ◌≤◌, ◌<◌, zero, suc, Option, Some, None, refl, sym, ◌∙◌, ap, subst, arith, true,
-    nat_le, nat_tests, Memory, State, Status, Running, Halted, Fault, Reached, start, IsMemory, word_at, next_status, cell_at, Cell,
-    Holds, Format, Short, Long, Instr, format_of, instruction_of, Machine, Board, Point, Measure, IsInRange, taken_at, taken_by,
-    taken_next, taken_after, frame_taken, CircuitTakes}
+use Rattle.dvg_clocks.proofs.Common.{◌≡◌, ℕ, ◌+◌, ◌≤◌, ◌<◌, zero, suc, Option, Some, None, refl, sym, ◌∙◌, ap, subst, arith, true, nat_le, nat_tests, Memory, State, Status, Running, Halted, Fault, Reached, start, IsMemory, word_at, next_status, cell_at, Cell, Holds, Format, Short, Long, Instr, format_of, instruction_of, Machine, Board, Point, Measure, IsInRange, taken_at, taken_by, taken_next, taken_after, frame_taken, CircuitTakes}
 use Rattle.std.specs.Prelude.{◌*ℤ◌, pos}
-use Rattle.dvg_circuit.proofs.Common.{AllByRecursion, cases_eq, fetched_at, cell_holding, long_cell, cell_of_words, Run, Reads, past,
-    places, decoded, run_after, begin, IsRead, ReadsNow, ReadsAs, IsSamePlace, AgreesWith, after_cell}
+use Rattle.dvg_circuit.proofs.Common.{AllByRecursion, cases_eq, fetched_at, cell_holding, long_cell, cell_of_words, Run, Reads, past, places, decoded, run_after, begin, IsRead, ReadsNow, ReadsAs, IsSamePlace, AgreesWith, after_cell}
 use Rattle.dvg_circuit.specs.Circuit.{second_word}
 use Rattle.dvg_circuit.specs.declared.counters.Counters.{Counters}
 use Rattle.dvg_circuit.specs.Premises.{IsStart}

@@ -1,10 +1,5 @@
 -- What is said of entries: that it is little for each word, and that words are said so, too.
-use Rattle.dvg_clocks.proofs.Common.{◌≡◌, ℕ, ◌+◌, ◌≤◌, ◌<◌, zero, suc, List, [], ◌∷◌, length, length-append, Option, None, Some, refl,
-    sym, ◌∙◌, ap, arith, Contains, Rom, rom_word, cell_at, Holds, Format, Instr, Draws, word_count, Entry, Key, At, Any, Item, Shape,
-    LeadsTo, next_address, Context, shape_context, target, callee, scale_before, words_before, named_listed, word_count-some,
-    callee_words, Window, Mode, Good, Forecast, ClockRange, plus, just, callee_taken, taken_before, IsSumOfItems, words_known,
-    words_of_instr, taken_after, taken_next, States, states_of, clocks_known, counts_known, FewTaken, IsFew, FewClocks, WordsAreTaken,
-    TightForecast, effective_scale}
+use Rattle.dvg_clocks.proofs.Common.{◌≡◌, ℕ, ◌+◌, ◌≤◌, ◌<◌, zero, suc, List, [], ◌∷◌, length, length-append, Option, None, Some, refl, sym, ◌∙◌, ap, arith, Contains, Rom, rom_word, cell_at, Holds, Format, Instr, Draws, word_count, Entry, Key, At, Any, Item, Shape, LeadsTo, next_address, Context, shape_context, target, callee, scale_before, words_before, named_listed, word_count-some, callee_words, Window, Mode, Good, Forecast, ClockRange, plus, just, callee_taken, taken_before, IsSumOfItems, words_known, words_of_instr, taken_after, taken_next, States, states_of, clocks_known, counts_known, FewTaken, IsFew, FewClocks, WordsAreTaken, TightForecast, effective_scale}
 use Rattle.std.specs.Prelude.{◌*◌, ◌-◌}
 use Rattle.std.proofs.Math.Nat.{mul-add, mul-le-mul_left}
 use Rattle.dvg_check.specs.declared.fault.Mode.TheVariants.{Exact}

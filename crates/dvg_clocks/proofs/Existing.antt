@@ -1,8 +1,5 @@
 -- The sums are those of the items.
-use Rattle.dvg_clocks.proofs.Common.{◌≡◌, ℕ, ◌<◌, zero, suc, List, [], ◌∷◌, length, refl, sym, ◌∙◌, ap, subst, arith, Contains, Rom,
-    rom_word, frame_word, Halt, Item, Shape, Frame, shape_context, frame_context, word_count-some, Entry, Window, Mode, Good, GoodFrame,
-    Memory, Forecast, taken_before, frame_taken, IsSumOfItems, SumsAreSums, ClocksOnCircuit, items_from, sum_to, sum_of, frame_sum,
-    TakenOnCircuit, clocks_of_instr, clocks_known}
+use Rattle.dvg_clocks.proofs.Common.{◌≡◌, ℕ, ◌<◌, zero, suc, List, [], ◌∷◌, length, refl, sym, ◌∙◌, ap, subst, arith, Contains, Rom, rom_word, frame_word, Halt, Item, Shape, Frame, shape_context, frame_context, word_count-some, Entry, Window, Mode, Good, GoodFrame, Memory, Forecast, taken_before, frame_taken, IsSumOfItems, SumsAreSums, ClocksOnCircuit, items_from, sum_to, sum_of, frame_sum, TakenOnCircuit, clocks_of_instr, clocks_known}
 use Rattle.dvg_clocks.proofs.Entries.{same_taken, up_to, Walk, walk}
 use Rattle.dvg_clocks.proofs.Walks.{few_items, same_walk, all_items}
 use Rattle.dvg_clocks.proofs.CircuitRuns.{circuit_takes}

@@ -1,9 +1,5 @@
 -- A frame from any start to its halt.
-use Rattle.dvg_clocks.proofs.Common.{◌≡◌, ℕ, ◌+◌, ◌≤◌, zero, suc, List, [], ◌∷◌, ◌++◌, Option, Some, None, refl, sym, ◌∙◌, ap, subst,
-    arith, Contains, Memory, State, Status, Running, Halted, Reached, start, IsMemory, frame_word, word_at, cell_at, next_status, places,
-    Holds, Format, Instr, Halt, Point, origin, Entry, Item, Frame, LeadsTo, Context, frame_context, callee, scale_before, depth_before,
-    depth_under, named_listed, Window, Machine, Mode, Good, GoodFrame, CellKeeps, FrameKeeps, FrameWhy, seen_at, Stands, Measure,
-    Forecast, ClockRange, IsInRange, IsRight, plus, taken_before, frame_taken, taken_at, taken_by, Took, IsSumOfItems, FrameTakes}
+use Rattle.dvg_clocks.proofs.Common.{◌≡◌, ℕ, ◌+◌, ◌≤◌, zero, suc, List, [], ◌∷◌, ◌++◌, Option, Some, None, refl, sym, ◌∙◌, ap, subst, arith, Contains, Memory, State, Status, Running, Halted, Reached, start, IsMemory, frame_word, word_at, cell_at, next_status, places, Holds, Format, Instr, Halt, Point, origin, Entry, Item, Frame, LeadsTo, Context, frame_context, callee, scale_before, depth_before, depth_under, named_listed, Window, Machine, Mode, Good, GoodFrame, CellKeeps, FrameKeeps, FrameWhy, seen_at, Stands, Measure, Forecast, ClockRange, IsInRange, IsRight, plus, taken_before, frame_taken, taken_at, taken_by, Took, IsSumOfItems, FrameTakes}
 use Rattle.dvg_check.specs.declared.fault.FrameWhy.TheVariants as frame
 use Rattle.dvg_check.proofs.Runs.{reached_on, rest_of}
 use Rattle.dvg_check.proofs.Steps.{next_there, stands}

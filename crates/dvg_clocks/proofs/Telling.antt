@@ -1,8 +1,5 @@
 -- What the loop over the entries of a certificate keeps: those with fewer words come first.
-use Rattle.dvg_clocks.proofs.Common.{◌≡◌, ℕ, ◌+◌, ◌*◌, ◌≤◌, ◌<◌, Bool, true, List, [], ◌∷◌, length, Option, Some, None, refl, sym, ◌∙◌,
-    ap, subst, arith, inl, inr, ◌⊎◌, ⊎_elim, Contains, Entry, Key, Rom, rom_word, Shape, shape_context, words_before, ClockRange, States,
-    just, clocks_known, sum_of, AreGood, WORD_CLOCKS, Kept, found_at, clocks_in, IsKeptToo, IsFewFor, AreAllFew, IsToldOf, AreTold,
-    IsTaken, IsWalkable}
+use Rattle.dvg_clocks.proofs.Common.{◌≡◌, ℕ, ◌+◌, ◌*◌, ◌≤◌, ◌<◌, Bool, true, List, [], ◌∷◌, length, Option, Some, None, refl, sym, ◌∙◌, ap, subst, arith, inl, inr, ◌⊎◌, ⊎_elim, Contains, Entry, Key, Rom, rom_word, Shape, shape_context, words_before, ClockRange, States, just, clocks_known, sum_of, AreGood, WORD_CLOCKS, Kept, found_at, clocks_in, IsKeptToo, IsFewFor, AreAllFew, IsToldOf, AreTold, IsTaken, IsWalkable}
 use Rattle.std.specs.Prelude.{◌==◌, ◌&&◌, cond, false, get_or, unwrap_or, IfSome, IfNone, IsPermutation}
 use Rattle.std.specs.List.Sorted.{IsNonDecreasingBy}
 use Rattle.std.proofs.lemmas.List.{get_or_default}

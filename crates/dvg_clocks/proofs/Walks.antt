@@ -1,7 +1,5 @@
 -- The items that are gone over are those that lead to the last one.
-use Rattle.dvg_clocks.proofs.Common.{◌≡◌, ℕ, ◌+◌, ◌≤◌, ◌<◌, zero, suc, List, [], ◌∷◌, length, None, Some, refl, sym, ◌∙◌, ap, arith,
-    cell_at, Cell, Holds, Format, Instr, Item, Kind, LeadsTo, next_address, Context, words_before, word_count-some, item_in, items_on,
-    items_past, items_from, IsWhole}
+use Rattle.dvg_clocks.proofs.Common.{◌≡◌, ℕ, ◌+◌, ◌≤◌, ◌<◌, zero, suc, List, [], ◌∷◌, length, None, Some, refl, sym, ◌∙◌, ap, arith, cell_at, Cell, Holds, Format, Instr, Item, Kind, LeadsTo, next_address, Context, words_before, word_count-some, item_in, items_on, items_past, items_from, IsWhole}
 use Rattle.dvg_words.specs.Values.{Source}
 use Rattle.dvg_items.specs.Items.{AtEachOf}
 use Rattle.dvg_items.proofs.Leading.{too_long, same_lead, item_same, everywhere}

@@ -1,6 +1,5 @@
 -- Judges that say the same.
-use Rattle.dvg_cmd.proofs.Common.{ℕ, List, Option, None, Some, IfSome, refl, ◌∙◌, FrameAnswer, Judged, Judging, AnswersFrame, Line,
-    WritesLineOf, WritesLineOfPrefix}
+use Rattle.dvg_cmd.proofs.Common.{ℕ, List, Option, None, Some, IfSome, refl, ◌∙◌, FrameAnswer, Judged, Judging, AnswersFrame, Line, WritesLineOf, WritesLineOfPrefix}
 use Rattle.dvg_cmd.specs.Frames.{AnswerMeans, JudgesAlike, Slow, Timed, Unread, refusal_in}
 use Rattle.dvg_cmd.specs.SeveralFrames.{AnswersOpened, IsLineOf}
 use Rattle.dvg_cmd.specs.declared.listing.Listing.{Listing}

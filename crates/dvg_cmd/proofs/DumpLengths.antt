@@ -1,6 +1,5 @@
 -- What was read of dumps, what all of it is, and what is told of it.
-use Rattle.dvg_cmd.proofs.Common.{arith, common_steps, sym, subst, inl, inr, ◌≡◌, ◌<◌, ◌++◌, ◌↔◌, ℕ, List, [], Option, None, Some,
-    length, IfSome, IsPrefix}
+use Rattle.dvg_cmd.proofs.Common.{arith, common_steps, sym, subst, inl, inr, ◌≡◌, ◌<◌, ◌++◌, ◌↔◌, ℕ, List, [], Option, None, Some, length, IfSome, IsPrefix}
 use Rattle.dvg_dumps.specs.Differences.{counted}
 use Rattle.dvg_dumps.specs.declared.differences.Differences.{Differences}
 use Rattle.dvg_spelling.specs.Dumps.{dump_line}

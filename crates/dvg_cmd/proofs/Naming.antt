@@ -1,6 +1,5 @@
 -- The bytes of a name that were read so far.
-use Rattle.dvg_cmd.proofs.Common.{◌≡◌, ◌≢◌, ◌≤◌, ℕ, cases_lt, common_steps, suc, List, [], ◌∷◌, ◌++◌, length, length-append, get_or,
-    take, ap, subst, ◌∙◌, Option, inl, arith, Consumes-trans, Consumes, MOST_NAME_READ, Lacks, ReadsName}
+use Rattle.dvg_cmd.proofs.Common.{◌≡◌, ◌≢◌, ◌≤◌, ℕ, cases_lt, common_steps, suc, List, [], ◌∷◌, ◌++◌, length, length-append, get_or, take, ap, subst, ◌∙◌, Option, inl, arith, Consumes-trans, Consumes, MOST_NAME_READ, Lacks, ReadsName}
 
 pub record NameSoFar (end : ℕ) (old now : Option (List ℕ)) (len : ℕ) (name : List ℕ) : Type 0 where
   pub bytes : List ℕ

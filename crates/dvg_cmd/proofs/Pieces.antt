@@ -1,6 +1,5 @@
 -- Reading one piece after another, of known bytes.
-use Rattle.dvg_cmd.proofs.Common.{◌≡◌, ℕ, ◌+◌, ◌-◌, ◌<◌, ◌≤◌, List, Option, ◌++◌, length, length-append, take, arith, common_steps,
-    take-append-le, Consumes, Ok, Err, CertFault, ReadsText, rules, take-append-add, IsAtEnd, ShortText, Stream, Open, FeedsTo}
+use Rattle.dvg_cmd.proofs.Common.{◌≡◌, ℕ, ◌+◌, ◌-◌, ◌<◌, ◌≤◌, List, Option, ◌++◌, length, length-append, take, arith, common_steps, take-append-le, Consumes, Ok, Err, CertFault, ReadsText, rules, take-append-add, IsAtEnd, ShortText, Stream, Open, FeedsTo}
 use borrow.Rule.Slice.PartMut.{put_mid, post_of}
 
 pub take_filled : (filled n k : ℕ) (buf sub : List ℕ) → filled ≤ length buf → n ≤ length sub

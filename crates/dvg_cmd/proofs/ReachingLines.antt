@@ -1,6 +1,5 @@
 -- The lines of the frames that reach a touched shape, over plain values.
-use Rattle.dvg_cmd.proofs.Common.{◌≡◌, ℕ, zero, suc, ◌+◌, ◌<◌, ◌≤◌, List, [], ◌∷◌, length, drop, get_or, true, string_bytes, refl, sym,
-    ap, ◌∙◌, arith, of_each, rules, common_steps, Bool, false, String, Global, min, drop-cons, cases_lt, drop_all, reaching_lines}
+use Rattle.dvg_cmd.proofs.Common.{◌≡◌, ℕ, zero, suc, ◌+◌, ◌<◌, ◌≤◌, List, [], ◌∷◌, length, drop, get_or, true, string_bytes, refl, sym, ap, ◌∙◌, arith, of_each, rules, common_steps, Bool, false, String, Global, min, drop-cons, cases_lt, drop_all, reaching_lines}
 use Rattle.dvg_spelling.specs.Touched.{frame_touched_line}
 
 -- the lines of the frames from this one on

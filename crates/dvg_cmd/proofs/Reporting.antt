@@ -1,12 +1,8 @@
 -- The verdict on what was read is the one on all, and what is reported of it, over plain values.
-use Rattle.dvg_cmd.proofs.Common.{Option, List, [], None, Some, subst, ◌≡◌, ℕ, Result, IfOk, IfSome, Ok, Err, Machine, words_of, rom_on,
-    Window, Certificate, CertFault, Means, InRange, RomVerdict, Mode, Refusal, Yes, IsPrefix, Judges, ReadsText, arith, Memory, Spells,
-    PrefixRefusal, RangeRefusal, JudgesRom, MeansRead, ◌++◌, OnOk, Appends, TakesOneWrite, Detail, Behind, IsBehind, RunFault,
-    behind_text, outcome_behind, Outcome, Accepted, IsReadFor, outcome_of, Reports, ReportsAccepted}
+use Rattle.dvg_cmd.proofs.Common.{Option, List, [], None, Some, subst, ◌≡◌, ℕ, Result, IfOk, IfSome, Ok, Err, Machine, words_of, rom_on, Window, Certificate, CertFault, Means, InRange, RomVerdict, Mode, Refusal, Yes, IsPrefix, Judges, ReadsText, arith, Memory, Spells, PrefixRefusal, RangeRefusal, JudgesRom, MeansRead, ◌++◌, OnOk, Appends, TakesOneWrite, Detail, Behind, IsBehind, RunFault, behind_text, outcome_behind, Outcome, Accepted, IsReadFor, outcome_of, Reports, ReportsAccepted}
 use Rattle.dvg_verdict.proofs.OneVerdict.{out_of_range}
 use Rattle.dvg_verdict.specs.Verdict.{CertVerdict, VerdictOn}
-use Rattle.dvg_cmd.proofs.Whole.{held_bytes, held_told, text_of_held, in_range, range_whole, frame_same, rom_same, rom_back, rom_whole,
-    refused_whole}
+use Rattle.dvg_cmd.proofs.Whole.{held_bytes, held_told, text_of_held, in_range, range_whole, frame_same, rom_same, rom_back, rom_whole, refused_whole}
 use Rattle.dvg_spelling.specs.Report.{report_text}
 use Rattle.dvg_check.specs.declared.verdict.Refusal.TheVariants as refusal
 

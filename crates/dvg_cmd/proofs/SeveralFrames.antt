@@ -1,7 +1,5 @@
 -- What was read of several frames, one after another.
-use Rattle.dvg_cmd.proofs.Common.{true, ◌≡◌, ℕ, suc, zero, ◌<◌, ◌≤◌, List, [], ◌∷◌, ◌++◌, length, take, get_or, Option, refl, sym, ap,
-    ◌∙◌, subst, arith, take-suc, IsFrameLength, IsReadTo, of_each, AreFrames, IsPrefix, ArePrefixes, set, count_after, MOST_FRAME_READ,
-    EachRead, EachHeld, FirstWrong, OneFailed}
+use Rattle.dvg_cmd.proofs.Common.{true, ◌≡◌, ℕ, suc, zero, ◌<◌, ◌≤◌, List, [], ◌∷◌, ◌++◌, length, take, get_or, Option, refl, sym, ap, ◌∙◌, subst, arith, take-suc, IsFrameLength, IsReadTo, of_each, AreFrames, IsPrefix, ArePrefixes, set, count_after, MOST_FRAME_READ, EachRead, EachHeld, FirstWrong, OneFailed}
 use Rattle.dvg_cmd.proofs.Whole.{held_bytes, held_told, frame_same, frame_back}
 
 pub of_each_append : {A B : Type 0} (f : A → B) (xs ys : List A) → of_each f (xs ++ ys) ≡ of_each f xs ++ of_each f ys

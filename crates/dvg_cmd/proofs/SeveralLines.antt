@@ -1,7 +1,5 @@
 -- The lines of several frames, one after another, over plain values.
-use Rattle.dvg_cmd.proofs.Common.{◌≡◌, refl, sym, ap, ◌∙◌, subst, ℕ, List, [], ◌∷◌, ◌++◌, Option, append-nil, append_assoc,
-    AppendsPrefix, joined, FrameDetail, Judging, Line, line_texts, texts_of, gone_on, gone_with, begun, summary_of, listing_texts,
-    IsLineOf, AreLinesOf, ReportsFrames, ReportsFramesPrefix, WritesLineOf, WritesLineOfPrefix, WritesLinesOf}
+use Rattle.dvg_cmd.proofs.Common.{◌≡◌, refl, sym, ap, ◌∙◌, subst, ℕ, List, [], ◌∷◌, ◌++◌, Option, append-nil, append_assoc, AppendsPrefix, joined, FrameDetail, Judging, Line, line_texts, texts_of, gone_on, gone_with, begun, summary_of, listing_texts, IsLineOf, AreLinesOf, ReportsFrames, ReportsFramesPrefix, WritesLineOf, WritesLineOfPrefix, WritesLinesOf}
 use Rattle.dvg_cmd.proofs.LineByLine.{both_sent, both_cut, first_cut}
 use Rattle.dvg_cmd.proofs.Writing.{none_sent}
 use Rattle.dvg_cmd.specs.Private.Sent.{Sent}

@@ -1,9 +1,6 @@
 -- The verdict on the first bytes of inputs is the verdict on all of them.
-use Rattle.dvg_cmd.proofs.Common.{inl, inr, ◌⊎◌, ◌∙◌, ap, Rom, Key, MakeFaultMeans, limited, append-nil, List, length, Option, None,
-    Some, arith, subst, sym, ◌≡◌, ◌+◌, ◌≤◌, ◌++◌, ℕ, IfSome, Result}
-use Rattle.dvg_cmd.proofs.Common.{Err, Machine, IsRomLength, IsFrameLength, rom_on, MemoryMap, IsMap, Window, Certificate, CertFault,
-    CertWhy, InRange, RomVerdict, Mode, Refusal, Yes, IsPrefix, ReadsText, rules, common_steps, PrefixRefusal, IsRefusal, ReadAnswer,
-    RangeRefusal, PartsVerdict, NeedsEnd}
+use Rattle.dvg_cmd.proofs.Common.{inl, inr, ◌⊎◌, ◌∙◌, ap, Rom, Key, MakeFaultMeans, limited, append-nil, List, length, Option, None, Some, arith, subst, sym, ◌≡◌, ◌+◌, ◌≤◌, ◌++◌, ℕ, IfSome, Result}
+use Rattle.dvg_cmd.proofs.Common.{Err, Machine, IsRomLength, IsFrameLength, rom_on, MemoryMap, IsMap, Window, Certificate, CertFault, CertWhy, InRange, RomVerdict, Mode, Refusal, Yes, IsPrefix, ReadsText, rules, common_steps, PrefixRefusal, IsRefusal, ReadAnswer, RangeRefusal, PartsVerdict, NeedsEnd}
 use Rattle.dvg_cert.specs.declared.fault.CertWhy.TheVariants.{Unended}
 use Rattle.dvg_spelling.specs.declared.fault.MakeRunFault.TheVariants as fault
 

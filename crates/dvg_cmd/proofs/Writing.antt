@@ -1,10 +1,8 @@
 -- Lines that are written one after another, where each write may fail.
-use Rattle.dvg_cmd.proofs.Common.{◌≡◌, ◌∙◌, sym, subst, append-nil, ℕ, List, [], ◌∷◌, Option, Result, OnErr, OnOk, Ok, Err, Appends,
-    AppendsPrefix, TakesOneWrite, joined, refl}
+use Rattle.dvg_cmd.proofs.Common.{◌≡◌, ◌∙◌, sym, subst, append-nil, ℕ, List, [], ◌∷◌, Option, Result, OnErr, OnOk, Ok, Err, Appends, AppendsPrefix, TakesOneWrite, joined, refl}
 use Rattle.std.specs.Prelude.{if◌then◌else◌}
 use Rattle.std.proofs.KnownBytes.{Appends-nil}
-use Rattle.dvg_cmd.proofs.Common.{◌⊎◌, ◌++◌, ap, Bool, true, false, arith, Line, line_outcome, texts_of, summary_of, FrameDetail,
-    has_account}
+use Rattle.dvg_cmd.proofs.Common.{◌⊎◌, ◌++◌, ap, Bool, true, false, arith, Line, line_outcome, texts_of, summary_of, FrameDetail, has_account}
 use Rattle.dvg_cmd.specs.SeveralFrames.{blank_line, is_written, line_text, summary_texts}
 use Rattle.dvg_cmd.specs.declared.listing.Listing.{Listing}
 use Rattle.dvg_cmd.specs.declared.progress.Progress.{Progress}

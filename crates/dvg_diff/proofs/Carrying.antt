@@ -1,8 +1,5 @@
 -- What is made and judged over one ROM, over another whose shapes read the same.
-use Rattle.dvg_diff.proofs.Common.{◌≡◌, ℕ, ◌∙◌, List, [], ◌∷◌, Result, Contains, refl, sym, ap, subst, inl, inr, ⊎_elim, arith,
-    Contains-append_left, Contains-append_right, Window, Rom, rom_word, cell_at, Cell, Entry, Key, Item, Shape, LeadsTo, shape_context,
-    seen_at, CellKeeps, ShapeKeeps, ShapePlaceKeeps, GoodShape, Good, Exact, AllBefore, EachItem, MadeEntry, Needs, FramesMade,
-    IsTouched, ReachesTouched, SameList}
+use Rattle.dvg_diff.proofs.Common.{◌≡◌, ℕ, ◌∙◌, List, [], ◌∷◌, Result, Contains, refl, sym, ap, subst, inl, inr, ⊎_elim, arith, Contains-append_left, Contains-append_right, Window, Rom, rom_word, cell_at, Cell, Entry, Key, Item, Shape, LeadsTo, shape_context, seen_at, CellKeeps, ShapeKeeps, ShapePlaceKeeps, GoodShape, Good, Exact, AllBefore, EachItem, MadeEntry, Needs, FramesMade, IsTouched, ReachesTouched, SameList}
 use Rattle.dvg_diff.specs.Laws.{IsUntouched, SameVerdict}
 use Rattle.dvg_items.proofs.Lists.{all_listed, at_place}
 use Rattle.dvg_check.specs.declared.fault.Mode.{Mode}

@@ -1,14 +1,8 @@
 -- The names that these proofs share, passed on from one place, the most cited first. Declares nothing.
 pub use Rattle.std.proofs.Common.{Result, Contains, IfSome, IfNone}
 pub use Rattle.std.proofs.Math.Seq.{take-suc}
-pub use Rattle.dvg_make.proofs.Common.{◌≡◌, ℕ, ◌∙◌, List, [], ◌∷◌, refl, sym, subst, inl, inr, ⊎_elim, arith, AllByRecursion,
-    Contains-append_left, Contains-append_right, Window, Rom, rom_word, later, LeadsTo, shape_context, seen_at, CellKeeps, ShapeKeeps,
-    ShapePlaceKeeps, GoodShape, Good, AllBefore, EachItem, MadeEntry, Needs, IsAskedFor, FramesMade, FrameMade, FrameRefused, suc, ◌+◌,
-    ◌<◌, ◌++◌, length, take, get_or, None, rules, common_steps, FramesRefuse, HasCause, zero, ◌⊎◌, Some, nat_tests, Source, frame_word,
-    word_count, target, scale_before, frame_context, listed_at, GoodFrame, FrameKeeps, HasEntry, FrameAsksFor, ◌≢◌, Option,
-    cell_of_words, word_of_rom, ap, cases_lt, AtEachOf, next_address, everywhere, same_lead, shorter, ◌-◌}
-pub use Rattle.dvg_check.proofs.Common.{Bool, nat_lt, IsMemory, word_at, State, Status, Running, Halted, Fault, Reached, after_call,
-    after_return, after_instruction, places, address_after, format_of, fetches}
+pub use Rattle.dvg_make.proofs.Common.{◌≡◌, ℕ, ◌∙◌, List, [], ◌∷◌, refl, sym, subst, inl, inr, ⊎_elim, arith, AllByRecursion, Contains-append_left, Contains-append_right, Window, Rom, rom_word, later, LeadsTo, shape_context, seen_at, CellKeeps, ShapeKeeps, ShapePlaceKeeps, GoodShape, Good, AllBefore, EachItem, MadeEntry, Needs, IsAskedFor, FramesMade, FrameMade, FrameRefused, suc, ◌+◌, ◌<◌, ◌++◌, length, take, get_or, None, rules, common_steps, FramesRefuse, HasCause, zero, ◌⊎◌, Some, nat_tests, Source, frame_word, word_count, target, scale_before, frame_context, listed_at, GoodFrame, FrameKeeps, HasEntry, FrameAsksFor, ◌≢◌, Option, cell_of_words, word_of_rom, ap, cases_lt, AtEachOf, next_address, everywhere, same_lead, shorter, ◌-◌}
+pub use Rattle.dvg_check.proofs.Common.{Bool, nat_lt, IsMemory, word_at, State, Status, Running, Halted, Fault, Reached, after_call, after_return, after_instruction, places, address_after, format_of, fetches}
 unfoldable pub use Rattle.dvg_make.proofs.Common.{cell_at}
 pub use Rattle.dvg_words.proofs.Common.{◌↔◌}
 unfoldable pub use Rattle.dvg_check.proofs.Common.{next_status}

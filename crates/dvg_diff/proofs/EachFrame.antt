@@ -1,6 +1,5 @@
 -- Frame after frame, and a want of memory.
-use Rattle.dvg_diff.proofs.Common.{◌≡◌, ℕ, ◌+◌, ◌<◌, ◌++◌, List, [], ◌∷◌, length, take, get_or, Bool, None, refl, sym, subst, arith,
-    rules, common_steps, take-suc, Rom, Key, start, Shape, HasCause, Memory, FrameReaches, EachReaches}
+use Rattle.dvg_diff.proofs.Common.{◌≡◌, ℕ, ◌+◌, ◌<◌, ◌++◌, List, [], ◌∷◌, length, take, get_or, Bool, None, refl, sym, subst, arith, rules, common_steps, take-suc, Rom, Key, start, Shape, HasCause, Memory, FrameReaches, EachReaches}
 use Rattle.dvg_cert.specs.declared.entry.Key.TheVariants.{Any}
 use Rattle.dvg_make.specs.declared.account.EntryCause.TheVariants as cause
 use Rattle.dvg_make.specs.declared.fault.FramesFault.{FramesFault}

@@ -1,9 +1,5 @@
 -- The runs of a good frame over two ROMs whose shapes read the same.
-use Rattle.dvg_diff.proofs.Common.{◌≡◌, ℕ, zero, suc, ◌+◌, ◌<◌, ◌∙◌, ◌++◌, List, [], ◌∷◌, nat_lt, Some, Contains, refl, sym, subst, inr,
-    arith, nat_tests, AllByRecursion, Rom, IsMemory, word_count, cell_at, State, Status, Running, Reached, after_instruction, places,
-    Cell, Holds, Format, Short, Long, Instr, Entry, Key, Item, Shape, Frame, LeadsTo, address_after, target, scale_before, shape_context,
-    frame_context, seen_at, listed_at, GoodFrame, CellKeeps, ShapeKeeps, FrameKeeps, Exact, HasEntry, FrameMade, FrameAsksFor,
-    ReachesTouched, Window}
+use Rattle.dvg_diff.proofs.Common.{◌≡◌, ℕ, zero, suc, ◌+◌, ◌<◌, ◌∙◌, ◌++◌, List, [], ◌∷◌, nat_lt, Some, Contains, refl, sym, subst, inr, arith, nat_tests, AllByRecursion, Rom, IsMemory, word_count, cell_at, State, Status, Running, Reached, after_instruction, places, Cell, Holds, Format, Short, Long, Instr, Entry, Key, Item, Shape, Frame, LeadsTo, address_after, target, scale_before, shape_context, frame_context, seen_at, listed_at, GoodFrame, CellKeeps, ShapeKeeps, FrameKeeps, Exact, HasEntry, FrameMade, FrameAsksFor, ReachesTouched, Window}
 use Rattle.dvg_words.specs.declared.beam.Point.{Point}
 use Rattle.dvg_words.specs.Memory.{Memory}
 use Rattle.dvg_words.specs.Generator.{start}

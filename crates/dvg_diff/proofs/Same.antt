@@ -1,7 +1,5 @@
 -- A shape that reads no word in which two ROMs differ has the same items over both.
-use Rattle.dvg_diff.proofs.Common.{◌≡◌, ◌≢◌, ℕ, ◌+◌, ◌∙◌, List, [], ◌∷◌, Option, Some, Contains, refl, sym, subst, arith, nat_tests,
-    Format, Long, format_of, cell_of_words, cell_at, places, fetches, Rom, word_of_rom, rom_word, Item, Shape, LeadsTo, AreAlike,
-    taken_at, IsTouched}
+use Rattle.dvg_diff.proofs.Common.{◌≡◌, ◌≢◌, ℕ, ◌+◌, ◌∙◌, List, [], ◌∷◌, Option, Some, Contains, refl, sym, subst, arith, nat_tests, Format, Long, format_of, cell_of_words, cell_at, places, fetches, Rom, word_of_rom, rom_word, Item, Shape, LeadsTo, AreAlike, taken_at, IsTouched}
 use Rattle.dvg_words.specs.declared.machine.Machine.{Machine}
 
 -- words that don't differ are the same

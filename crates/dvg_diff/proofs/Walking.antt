@@ -1,8 +1,5 @@
 -- A walk over a shape up to the first word that differs.
-use Rattle.dvg_diff.proofs.Common.{◌≡◌, ℕ, ◌+◌, ◌<◌, ◌∙◌, ◌++◌, length, List, [], ◌∷◌, Option, Some, None, Contains, IfNone, take,
-    get_or, sym, ap, subst, inl, inr, ⊎_elim, arith, rules, common_steps, cases_lt, take-suc, Rom, rom_word, cell_at, Holds, Format,
-    Instr, Entry, Item, Shape, LeadsTo, AtEachOf, next_address, everywhere, same_lead, shorter, DiffersAt, taken_at, ReadsDiffering,
-    IsTouched, TouchedEntry, AreTouched}
+use Rattle.dvg_diff.proofs.Common.{◌≡◌, ℕ, ◌+◌, ◌<◌, ◌∙◌, ◌++◌, length, List, [], ◌∷◌, Option, Some, None, Contains, IfNone, take, get_or, sym, ap, subst, inl, inr, ⊎_elim, arith, rules, common_steps, cases_lt, take-suc, Rom, rom_word, cell_at, Holds, Format, Instr, Entry, Item, Shape, LeadsTo, AtEachOf, next_address, everywhere, same_lead, shorter, DiffersAt, taken_at, ReadsDiffering, IsTouched, TouchedEntry, AreTouched}
 use Rattle.std.proofs.Common.{◌≤◌, append-nil, refl}
 use Rattle.dvg_items.proofs.Leading.{here_same}
 

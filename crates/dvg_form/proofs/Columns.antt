@@ -1,6 +1,5 @@
 -- How the columns follow from what a line has in common with one that the form allows.
-use Rattle.dvg_form.proofs.Common.{◌≡◌, ◌+◌, ◌-◌, ◌≤◌, ◌<◌, ℕ, List, [], ◌∷◌, ◌++◌, false, take, drop, length, refl, arith, append_assoc,
-    flat_map, second_version_line, rom_line, heading, entry_line, done_line, ended, begun_with, text_of}
+use Rattle.dvg_form.proofs.Common.{◌≡◌, ◌+◌, ◌-◌, ◌≤◌, ◌<◌, ℕ, List, [], ◌∷◌, ◌++◌, false, take, drop, length, refl, arith, append_assoc, flat_map, second_version_line, rom_line, heading, entry_line, done_line, ended, begun_with, text_of}
 use Rattle.std.proofs.lemmas.List.{take-append-drop, length-append, append-nil}
 use Rattle.std.proofs.lemmas.Fmt.{decimal_digit}
 use Rattle.dvg_words.specs.Values.{MemoryMap, is_asteroids}

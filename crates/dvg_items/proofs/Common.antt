@@ -3,8 +3,7 @@ pub use Rattle.std.specs.Prelude.{ℤ, ◌&&◌, if◌then◌else◌, ◌+ℤ◌
 pub use Rattle.std.proofs.Common.{⊎_elim, w64, to_z, of_z}
 pub use Rattle.std.proofs.lemmas.Int.{clamps}
 pub use mir.Val.{SFits}
-pub use Rattle.dvg_cert.proofs.Common.{List, length, refl, sym, arith, ap, Some, None, subst, ◌≡◌, ◌<◌, ◌∷◌, ◌∙◌, ℕ, [], Option, Bool,
-    false, true, suc, rules, common_steps, nat_tests, Contains, IfSome, ◌==◌, same_key, entry_at, zero, ◌++◌, AllByRecursion, ◌+◌, ◌≤◌}
+pub use Rattle.dvg_cert.proofs.Common.{List, length, refl, sym, arith, ap, Some, None, subst, ◌≡◌, ◌<◌, ◌∷◌, ◌∙◌, ℕ, [], Option, Bool, false, true, suc, rules, common_steps, nat_tests, Contains, IfSome, ◌==◌, same_key, entry_at, zero, ◌++◌, AllByRecursion, ◌+◌, ◌≤◌}
 pub use Rattle.dvg_words.proofs.Common.{◌≤ℤ◌, ints, to_z-of_z}
 unfoldable pub use Rattle.dvg_words.proofs.Common.{cell_at}
 pub use Rattle.dvg_items.specs.Items.{Item, Kind, LeadsTo, next_address, AtEveryPlace, AtEachOf, address_after}

@@ -1,6 +1,5 @@
 -- The items of a shape or of a frame are determined, so a walk to the last one has met them all.
-use Rattle.dvg_items.proofs.Common.{List, length, refl, sym, arith, None, subst, ◌≡◌, ◌<◌, ◌∷◌, ◌∙◌, ℕ, [], cell_at, Item, Kind, LeadsTo,
-    next_address, AtEveryPlace, AtEachOf}
+use Rattle.dvg_items.proofs.Common.{List, length, refl, sym, arith, None, subst, ◌≡◌, ◌<◌, ◌∷◌, ◌∙◌, ℕ, [], cell_at, Item, Kind, LeadsTo, next_address, AtEveryPlace, AtEachOf}
 use Rattle.dvg_words.specs.Values.{Source}
 use Rattle.dvg_words.specs.declared.instruction.Cell.TheVariants.{Holds}
 

@@ -1,6 +1,5 @@
 -- Entries that are found stand in the list, within the limits of a certificate.
-use Rattle.dvg_items.proofs.Common.{Option, Some, arith, List, ◌≡◌, ◌∷◌, ℕ, [], rules, common_steps, nat_tests, Contains, IfSome,
-    entry_at, callee_at, IsClaim, IsSomeCertificate}
+use Rattle.dvg_items.proofs.Common.{Option, Some, arith, List, ◌≡◌, ◌∷◌, ℕ, [], rules, common_steps, nat_tests, Contains, IfSome, entry_at, callee_at, IsClaim, IsSomeCertificate}
 use Rattle.dvg_cert.specs.declared.entry.Entry.{Entry}
 use Rattle.dvg_cert.specs.declared.entry.Key.{Key}
 use Rattle.dvg_cert.proofs.OnlyEntries.{later}

@@ -1,6 +1,5 @@
 -- Numbers stay small from one item to the next.
-use Rattle.dvg_items.proofs.Common.{arith, Some, ◌≡◌, ◌+◌, ◌<◌, ◌≤◌, ℕ, nat_tests, word_count, InstrFits, Item, Kind, address_after,
-    next_address}
+use Rattle.dvg_items.proofs.Common.{arith, Some, ◌≡◌, ◌+◌, ◌<◌, ◌≤◌, ℕ, nat_tests, word_count, InstrFits, Item, Kind, address_after, next_address}
 use Rattle.dvg_words.specs.declared.map.TheConstants.{ADDRESS_END}
 use Rattle.dvg_words.specs.declared.instruction.Format.{Format}
 use Rattle.dvg_words.specs.declared.instruction.Instr.{Instr}

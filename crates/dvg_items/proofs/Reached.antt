@@ -1,6 +1,5 @@
 -- What so many steps of one length reach, more steps reach; and of what is reached, places, boxes and corners are made.
-use Rattle.dvg_items.proofs.Common.{arith, rules, ints, ap, ◌≡◌, ◌∙◌, ◌+◌, ◌≤◌, ℕ, shift, AllByRecursion, Point, End, Rel, Abs, Lost,
-    Effect, place_past, Span}
+use Rattle.dvg_items.proofs.Common.{arith, rules, ints, ap, ◌≡◌, ◌∙◌, ◌+◌, ◌≤◌, ℕ, shift, AllByRecursion, Point, End, Rel, Abs, Lost, Effect, place_past, Span}
 use Rattle.std.proofs.Common.{◌*◌, neg_ℤ, pos}
 use Rattle.std.proofs.Math.Nat.{mul-le-mul_left}
 use Rattle.dvg_cert.specs.declared.entry.LitBox.{LitBox}

@@ -8,8 +8,7 @@ use Rattle.dvg_cert.specs.Entry.{IsKey}
 use Rattle.dvg_items.specs.Known.{scale_set}
 use Rattle.dvg_items.proofs.Leading.{everywhere}
 use Rattle.dvg_items.proofs.Listed.{listed_at}
-use Rattle.dvg_make.proofs.Common.{arith, sym, ap, subst, ◌∙◌, ⊎_elim, Entry, Key, Item, LeadsTo, Holds, cell_at, target, callee_at,
-    scale_before, known_before, known_past, next_address, entry_at, Context, AtEachOf}
+use Rattle.dvg_make.proofs.Common.{arith, sym, ap, subst, ◌∙◌, ⊎_elim, Entry, Key, Item, LeadsTo, Holds, cell_at, target, callee_at, scale_before, known_before, known_past, next_address, entry_at, Context, AtEachOf}
 use Rattle.dvg_make.proofs.Matching.{exact_named}
 use Rattle.dvg_kept.specs.Private.Marks.{AllAskedMarked, Asks, IsCalledAt, IsMarked, Marks, MarksMore, MarksOne, Place, context_of}
 

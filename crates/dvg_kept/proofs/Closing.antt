@@ -5,8 +5,7 @@ use Rattle.dvg_words.specs.Memory.{Rom, frame_word, rom_word}
 use Rattle.dvg_words.specs.Values.{Source}
 use Rattle.dvg_items.specs.Known.{frame_context, shape_context}
 use Rattle.dvg_make.proofs.Common.{arith, sym, ap, subst, ◌∙◌, ⊎_elim, Entry, entry_at, Contains-append_cases}
-use Rattle.dvg_kept.specs.Private.Marks.{AllAskedMarked, Asks, IsCalled, IsMarked, IsMarking, IsNothing, Marks, MarksMore, Place, Takes,
-    Waits, context_of, frame_start, shape_start}
+use Rattle.dvg_kept.specs.Private.Marks.{AllAskedMarked, Asks, IsCalled, IsMarked, IsMarking, IsNothing, Marks, MarksMore, Place, Takes, Waits, context_of, frame_start, shape_start}
 use Rattle.dvg_kept.specs.Private.Leaves.{AreLeaves}
 use Rattle.dvg_kept.proofs.LeafItems.{leaf_asked}
 use Rattle.dvg_kept.proofs.Picking.{none_there}

@@ -7,8 +7,7 @@ use Rattle.dvg_words.specs.declared.instruction.Cell.{Cell}
 use Rattle.dvg_words.specs.declared.instruction.Cell.TheVariants.{Missing, Odd}
 use Rattle.dvg_check.specs.Rules.{Good, GoodShape, ShapeKeeps}
 use Rattle.dvg_check.specs.declared.fault.Mode.TheVariants.{Exact}
-use Rattle.dvg_make.proofs.Common.{arith, sym, ap, subst, ◌∙◌, Entry, Item, Shape, LeadsTo, Holds, cell_at, target, MadeEntry, Extends,
-    entry_at, MOST_ENTRIES, all_listed}
+use Rattle.dvg_make.proofs.Common.{arith, sym, ap, subst, ◌∙◌, Entry, Item, Shape, LeadsTo, Holds, cell_at, target, MadeEntry, Extends, entry_at, MOST_ENTRIES, all_listed}
 use Rattle.dvg_make.proofs.Matching.{Matched, seen_matched, found_listed}
 use Rattle.dvg_make.proofs.Merging.{made_grows}
 use Rattle.dvg_make.proofs.Agreeing.{agree}

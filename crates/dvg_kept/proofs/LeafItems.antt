@@ -4,8 +4,7 @@ use Rattle.dvg_words.specs.Memory.{Rom, rom_word}
 use Rattle.dvg_words.specs.declared.instruction.Format.{Format}
 use Rattle.dvg_words.specs.declared.instruction.Instr.{Instr}
 use Rattle.dvg_items.proofs.Leading.{everywhere}
-use Rattle.dvg_make.proofs.Common.{arith, sym, subst, ◌∙◌, ⊎_elim, Entry, Item, Shape, LeadsTo, Holds, cell_at, target, next_address,
-    AtEachOf}
+use Rattle.dvg_make.proofs.Common.{arith, sym, subst, ◌∙◌, ⊎_elim, Entry, Item, Shape, LeadsTo, Holds, cell_at, target, next_address, AtEachOf}
 use Rattle.dvg_kept.specs.Private.Leaves.{AreLeaves, IsLeaf}
 use Rattle.dvg_kept.specs.Private.Marks.{AllAskedMarked, Marks, shape_start}
 use Rattle.dvg_kept.proofs.Marking.{set_others}

@@ -1,9 +1,7 @@
 -- One mark more, and what follows where the loop over items goes on or ends.
-use Rattle.std.specs.Prelude.{◌≡◌, ◌⊎◌, ℕ, zero, suc, ◌+◌, ◌<◌, ◌≤◌, List, [], ◌∷◌, ◌++◌, length, Some, Bool, true, false, Contains,
-    slice_get, slice_set, replicate, refl}
+use Rattle.std.specs.Prelude.{◌≡◌, ◌⊎◌, ℕ, zero, suc, ◌+◌, ◌<◌, ◌≤◌, List, [], ◌∷◌, ◌++◌, length, Some, Bool, true, false, Contains, slice_get, slice_set, replicate, refl}
 use Rattle.std.proofs.Common.{inl, inr}
-use Rattle.dvg_make.proofs.Common.{arith, sym, ap, subst, ◌∙◌, ⊎_elim, Contains-append_cases, Contains-append_left,
-    Contains-append_right, length-append}
+use Rattle.dvg_make.proofs.Common.{arith, sym, ap, subst, ◌∙◌, ⊎_elim, Contains-append_cases, Contains-append_left, Contains-append_right, length-append}
 use Rattle.dvg_kept.specs.Private.Marks.{IsCounted, Marks, MarksOne, trues}
 use Rattle.std.proofs.lemmas.Option.{slice_get_within}
 use Rattle.dvg_kept.proofs.Picking.{none_there}

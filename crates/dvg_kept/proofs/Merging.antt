@@ -1,6 +1,5 @@
 -- What is merged so far.
-use Rattle.std.specs.Prelude.{◌≡◌, ℕ, suc, ◌+◌, ◌<◌, ◌≤◌, List, [], ◌∷◌, ◌++◌, length, Option, Some, None, take, get_or, Bool, true,
-    false, is_some, not, refl}
+use Rattle.std.specs.Prelude.{◌≡◌, ℕ, suc, ◌+◌, ◌<◌, ◌≤◌, List, [], ◌∷◌, ◌++◌, length, Option, Some, None, take, get_or, Bool, true, false, is_some, not, refl}
 use Rattle.std.specs.Option.{option_or}
 use Rattle.dvg_make.proofs.Common.{arith, sym, ap, subst, ◌∙◌, Entry, Key, entry_at, is_at, at_means, take-suc, take_all, length-append}
 use Rattle.dvg_make.proofs.Matching.{entry_at-append}

@@ -1,9 +1,7 @@
 -- The list that is made for a frame is that of the kept entries that are marked.
 use Rattle.std.specs.Prelude.{◌≡◌, ℕ, zero, List, [], ◌∷◌, Option, Some, None, Contains, refl}
 use Rattle.std.proofs.Common.{inl, inr}
-use Rattle.dvg_make.proofs.Common.{arith, sym, ap, subst, ◌∙◌, ⊎_elim, Machine, rom_word, frame_word, Entry, Key, Item, Shape, Frame,
-    LeadsTo, Holds, cell_at, target, callee_at, scale_before, known_before, known_past, keyed_context, shape_context, frame_context,
-    seen_at, HasEntry, MadeEntry, AllFine, Extends, IsLeast, Known, AllKeyed, FrameAsksFor, HasCalls, Needs, IsStraight, entry_at}
+use Rattle.dvg_make.proofs.Common.{arith, sym, ap, subst, ◌∙◌, ⊎_elim, Machine, rom_word, frame_word, Entry, Key, Item, Shape, Frame, LeadsTo, Holds, cell_at, target, callee_at, scale_before, known_before, known_past, keyed_context, shape_context, frame_context, seen_at, HasEntry, MadeEntry, AllFine, Extends, IsLeast, Known, AllKeyed, FrameAsksFor, HasCalls, Needs, IsStraight, entry_at}
 use Rattle.dvg_make.specs.Frames.{IsKeyed}
 use Rattle.dvg_make.proofs.Matching.{SameAt, Matched, Gathered, gathered_same, seen_matched, exact_named, found_listed}
 use Rattle.dvg_make.proofs.Ends.{made_ends, ends_made}

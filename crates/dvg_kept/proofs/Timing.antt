@@ -10,9 +10,7 @@ use Rattle.dvg_check.specs.declared.fault.Mode.TheVariants.{Exact}
 use Rattle.dvg_check.specs.declared.verdict.Yes.{Yes}
 use Rattle.dvg_items.specs.Known.{Context}
 use Rattle.dvg_items.proofs.Listed.{listed_at}
-use Rattle.dvg_make.proofs.Common.{arith, sym, ap, ◌∙◌, Rom, rom_word, frame_word, Entry, Key, Item, Shape, Frame, LeadsTo, Holds,
-    cell_at, subst, target, callee_at, scale_before, known_before, known_past, shape_context, frame_context, Known, HasCalls, MadeEntry,
-    Extends}
+use Rattle.dvg_make.proofs.Common.{arith, sym, ap, ◌∙◌, Rom, rom_word, frame_word, Entry, Key, Item, Shape, Frame, LeadsTo, Holds, cell_at, subst, target, callee_at, scale_before, known_before, known_past, shape_context, frame_context, Known, HasCalls, MadeEntry, Extends}
 use Rattle.dvg_make.proofs.Matching.{SameAt, exact_named, found_listed}
 use Rattle.dvg_make.proofs.Merging.{keyed_item}
 use Rattle.dvg_make.proofs.Onward.{same_if}

@@ -13,8 +13,7 @@ use Rattle.dvg_check.specs.Rules.{GoodFrame, FramePlaceKeeps, FrameKeeps, CellKe
 use Rattle.dvg_check.specs.declared.fault.FrameWhy.{FrameWhy}
 use Rattle.dvg_check.specs.declared.fault.FrameWhy.TheVariants as frame
 use Rattle.dvg_check.specs.declared.fault.Mode.TheVariants.{Exact}
-use Rattle.dvg_make.proofs.Common.{arith, sym, ap, subst, ◌∙◌, Machine, Entry, Key, Item, Frame, LeadsTo, Holds, cell_at, target,
-    callee_at, scale_before, known_before, frame_context, seen_at, seen_with, Extends, HasCalls, Known, HasEntry, word_count}
+use Rattle.dvg_make.proofs.Common.{arith, sym, ap, subst, ◌∙◌, Machine, Entry, Key, Item, Frame, LeadsTo, Holds, cell_at, target, callee_at, scale_before, known_before, frame_context, seen_at, seen_with, Extends, HasCalls, Known, HasEntry, word_count}
 use Rattle.dvg_make.proofs.Merging.{keyed_all, keyed_item}
 use Rattle.dvg_make.proofs.Matching.{exact_named}
 use Rattle.dvg_make.proofs.OwnCertificate.{judged_by}

@@ -1,7 +1,5 @@
 -- What is known of labels when one more is looked at.
-use Rattle.dvg_labels.proofs.Common.{◌≡◌, ◌≢◌, ℕ, ◌+◌, ◌<◌, ◌≤◌, List, [], ◌∷◌, ◌++◌, length, map, take, drop, get_or, Option, Some,
-    None, true, false, refl, sym, subst, append_assoc, arith, rules, common_steps, Contains, All, take-append-drop, Named, named_of,
-    Label, may_name, Names, IsNearest, StandsAt, StandsAtTwo, IsFound, IsAddress}
+use Rattle.dvg_labels.proofs.Common.{◌≡◌, ◌≢◌, ℕ, ◌+◌, ◌<◌, ◌≤◌, List, [], ◌∷◌, ◌++◌, length, map, take, drop, get_or, Option, Some, None, true, false, refl, sym, subst, append_assoc, arith, rules, common_steps, Contains, All, take-append-drop, Named, named_of, Label, may_name, Names, IsNearest, StandsAt, StandsAtTwo, IsFound, IsAddress}
 use Rattle.std.proofs.lemmas.List.Elements.{All-push, All-append, All-cons, Contains-append_right}
 use Rattle.std.proofs.lemmas.List.{map-append}
 use Rattle.std.proofs.Math.Seq.{take-suc}

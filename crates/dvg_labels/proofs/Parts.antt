@@ -1,7 +1,6 @@
 -- How lists are cut at the first element that passes a test.
 use Rattle.std.proofs.lemmas.List.Splits.{slice_split_first}
-use Rattle.dvg_labels.proofs.Common.{◌≡◌, ℕ, suc, ◌+◌, ◌<◌, Bool, true, false, not, cond, List, [], ◌∷◌, length, take, drop, refl, ap,
-    sym, arith, one-add, slice_split, position_or_len, onto_first, filter, words, is_blank, has_bytes, first_of}
+use Rattle.dvg_labels.proofs.Common.{◌≡◌, ℕ, suc, ◌+◌, ◌<◌, Bool, true, false, not, cond, List, [], ◌∷◌, length, take, drop, refl, ap, sym, arith, one-add, slice_split, position_or_len, onto_first, filter, words, is_blank, has_bytes, first_of}
 
 -- the parts behind the first one, by what is left behind it
 abbrev pub parts_behind : {X : Type 0} → (X → Bool) → List X → List (List X)

@@ -1,6 +1,5 @@
 -- How far a label file was read.
-use Rattle.dvg_labels.proofs.Common.{◌≡◌, ℕ, ◌+◌, List, [], ◌∷◌, ◌++◌, length, length-append, Option, Some, None, append_assoc, arith,
-    lines, lines_behind, Labelling, no_labels, with_line, with_lines}
+use Rattle.dvg_labels.proofs.Common.{◌≡◌, ℕ, ◌+◌, List, [], ◌∷◌, ◌++◌, length, length-append, Option, Some, None, append_assoc, arith, lines, lines_behind, Labelling, no_labels, with_line, with_lines}
 use Rattle.std.proofs.lemmas.Option.{same_Some}
 use Rattle.std.specs.Borrow.{Bor}
 

@@ -1,6 +1,5 @@
 -- Two made lists agree at each address and key that both have.
-use Rattle.dvg_make.proofs.Common.{◌≡◌, ℕ, zero, suc, ◌+◌, ◌<◌, List, [], ◌∷◌, Option, Some, refl, sym, ◌∙◌, subst, arith, Contains,
-    cell_at, Rom, rom_word, Holds, entry_at, Entry, Key, LeadsTo, target, scale_before, Item, Shape, MadeEntry, keyed_context, listed_at}
+use Rattle.dvg_make.proofs.Common.{◌≡◌, ℕ, zero, suc, ◌+◌, ◌<◌, List, [], ◌∷◌, Option, Some, refl, sym, ◌∙◌, subst, arith, Contains, cell_at, Rom, rom_word, Holds, entry_at, Entry, Key, LeadsTo, target, scale_before, Item, Shape, MadeEntry, keyed_context, listed_at}
 use Rattle.dvg_make.proofs.Matching.{SameAt, Matched, gathered_same}
 use Rattle.dvg_make.proofs.Ends.{callee_less, same_sums, made_ends, sums_of}
 

@@ -1,18 +1,12 @@
 -- For what an entry of any list claims of a shape there is a made entry that claims all of it, and counts and lights no more.
-use Rattle.dvg_make.proofs.Common.{◌≡◌, ◌≢◌, ℕ, zero, suc, ◌<◌, ◌≤◌, List, [], ◌∷◌, ◌++◌, Option, Some, None, refl, sym, ap, ◌∙◌, subst,
-    arith, ⊎_elim, ints, Contains, option_or, screen, cell_at, Rom, rom_word, Point, Holds, entry_at, Entry, Key, LitBox, Empty, Span,
-    at_holds, LeadsTo, Context, shape_context, target, callee_at, callee, callee_words, scale_before, place_before, depth_before,
-    known_before, InBox, IsInside, relative_corners, extent, seen_at, HasCallee, Item, Shape, listed_at, all_append, word_count-some,
-    ShapeKeeps, Bound, ShapeWhy, lit_points, HoldsAll, IsLeast, HasEntry, MadeEntry, IsMade, AllMade, keyed_context, entry_of, AllFine,
-    Extends, KnowsMore, Contains-append_cases, clamps, named_entry, in_wider, all_map, Loosens, Refines, Covers, Upholds}
+use Rattle.dvg_make.proofs.Common.{◌≡◌, ◌≢◌, ℕ, zero, suc, ◌<◌, ◌≤◌, List, [], ◌∷◌, ◌++◌, Option, Some, None, refl, sym, ap, ◌∙◌, subst, arith, ⊎_elim, ints, Contains, option_or, screen, cell_at, Rom, rom_word, Point, Holds, entry_at, Entry, Key, LitBox, Empty, Span, at_holds, LeadsTo, Context, shape_context, target, callee_at, callee, callee_words, scale_before, place_before, depth_before, known_before, InBox, IsInside, relative_corners, extent, seen_at, HasCallee, Item, Shape, listed_at, all_append, word_count-some, ShapeKeeps, Bound, ShapeWhy, lit_points, HoldsAll, IsLeast, HasEntry, MadeEntry, IsMade, AllMade, keyed_context, entry_of, AllFine, Extends, KnowsMore, Contains-append_cases, clamps, named_entry, in_wider, all_map, Loosens, Refines, Covers, Upholds}
 use Rattle.std.specs.Int.{int_min, int_max}
 use Rattle.dvg_check.specs.declared.fault.ShapeWhy.TheVariants as shape
 use Rattle.dvg_make.proofs.Matching.{Gathered, gathered_same, exact_named, entry_at-append, none_or_some}
 use Rattle.dvg_make.proofs.Ends.{known_of, rule_at, stands_at, made_ends, ends_made, Stops, stops}
 use Rattle.dvg_make.proofs.Onward.{matched_fine}
 use Rattle.dvg_make.proofs.Knowing.{IsOrdered, CalleeRefines, more_after, LightsLess, lights_less}
-use Rattle.dvg_make.proofs.Merging.{scale_grows, fine_grows, same_made, only_listed, extends_more, is_made_grows, same_found,
-    extends_second, all_merged}
+use Rattle.dvg_make.proofs.Merging.{scale_grows, fine_grows, same_made, only_listed, extends_more, is_made_grows, same_found, extends_second, all_merged}
 
 -- ---- least boxes
 

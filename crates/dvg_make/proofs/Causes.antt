@@ -1,7 +1,5 @@
 -- The cause of a refusal, told of roots and frames.
-use Rattle.dvg_make.proofs.Common.{◌≡◌, ℕ, List, [], ◌∷◌, Option, Some, refl, subst, Rom, Key, HasCause, HasCallCause, EntryFault,
-    FrameCall, shapes, arith, Blocked, MakeAccount, IsAccount, IsTold, HasRootCause, entry_fault, refusal_at, FramesFault, make_fault_of,
-    blocked_fault, IsRefused}
+use Rattle.dvg_make.proofs.Common.{◌≡◌, ℕ, List, [], ◌∷◌, Option, Some, refl, subst, Rom, Key, HasCause, HasCallCause, EntryFault, FrameCall, shapes, arith, Blocked, MakeAccount, IsAccount, IsTold, HasRootCause, entry_fault, refusal_at, FramesFault, make_fault_of, blocked_fault, IsRefused}
 
 module _ (rom : Rom) (roots : List (ℕ × Key)) (frames : List (List ℕ)) where
   -- where the making stopped

@@ -1,9 +1,5 @@
 -- The shapes in the making, and the entries that every made list has for them.
-use Rattle.dvg_make.proofs.Common.{◌≡◌, ℕ, ◌+◌, ◌<◌, ◌≤◌, List, [], ◌∷◌, ◌++◌, length, Some, None, refl, sym, ap, ◌∙◌, subst, arith, ◌⊎◌,
-    inl, inr, ⊎_elim, length-append, Rom, rom_word, IsEntry, option_or, is_at, entry_at, Entry, Key, at_holds, LeadsTo, shape_context,
-    scale_before, Item, Shape, Known, MOST_ENTRIES, MOST_WORDS, PartialEntry, MadeEntry, keyed_context, start, IsPartial, Extends,
-    IsFinished, IsWaiting, IsMaking, ArePartial, Chain, Apart, IsPresent, IsCalled, IsAim, NoAim, IsDone, InProgress, listed_at,
-    Contains-append_cases, NeverAt, IsTail, IsUnique, IsGiven}
+use Rattle.dvg_make.proofs.Common.{◌≡◌, ℕ, ◌+◌, ◌<◌, ◌≤◌, List, [], ◌∷◌, ◌++◌, length, Some, None, refl, sym, ap, ◌∙◌, subst, arith, ◌⊎◌, inl, inr, ⊎_elim, length-append, Rom, rom_word, IsEntry, option_or, is_at, entry_at, Entry, Key, at_holds, LeadsTo, shape_context, scale_before, Item, Shape, Known, MOST_ENTRIES, MOST_WORDS, PartialEntry, MadeEntry, keyed_context, start, IsPartial, Extends, IsFinished, IsWaiting, IsMaking, ArePartial, Chain, Apart, IsPresent, IsCalled, IsAim, NoAim, IsDone, InProgress, listed_at, Contains-append_cases, NeverAt, IsTail, IsUnique, IsGiven}
 use Rattle.dvg_make.proofs.Matching.{entry_at-append}
 use Rattle.dvg_make.proofs.Ends.{callee_less, made_some}
 use Rattle.dvg_make.proofs.Linking.{are_grown, are_popped}

@@ -1,12 +1,5 @@
 -- Root after root, and frame after frame.
-use Rattle.dvg_make.proofs.Common.{Machine, ◌≡◌, ℕ, zero, suc, ◌+◌, ◌<◌, ◌≤◌, List, [], ◌∷◌, ◌++◌, length, Option, Some, None, refl, sym,
-    subst, arith, ◌⊎◌, inl, inr, ⊎_elim, Contains, slice_get, Bool, false, Rom, IsKey, Entry, Key, MOST_ENTRIES, listed_at, HasEntry,
-    AllMade, IsAskedFor, EntryFault, TooManyEntries, Memory, FramesRefuse, Extends, IsAim, NoAim, InProgress, Bars, obstacle_fault,
-    Collected, HasCalls, IsFramed, BarsHere, AllFramed, PartialEntry, Obstacle, shapes, IsMaking, IsCalled, IsToldOf, TellsHere,
-    keyed_context, start, FrameCall, known_before, rules, Contains-append_left, Contains-append_right, Contains-append_cases,
-    Contains-get_or, take, drop, get_or, common_steps, take-suc, take-append-drop, IsTrue, ◌↔◌, InRom, HasAsked, make_fault_of, Refuses,
-    BarsList, NoFramesMade, HasAll, IsBlocked, IsRefused, BarsCalls, NoneHasCalls, BlocksHere, Blocked, asked_shape, IsToldFrom,
-    KeyedCall, IsGivenHere, RootOutside, IsNamedBy, IsNeededBy, EntryCause, UnlessMemory}
+use Rattle.dvg_make.proofs.Common.{Machine, ◌≡◌, ℕ, zero, suc, ◌+◌, ◌<◌, ◌≤◌, List, [], ◌∷◌, ◌++◌, length, Option, Some, None, refl, sym, subst, arith, ◌⊎◌, inl, inr, ⊎_elim, Contains, slice_get, Bool, false, Rom, IsKey, Entry, Key, MOST_ENTRIES, listed_at, HasEntry, AllMade, IsAskedFor, EntryFault, TooManyEntries, Memory, FramesRefuse, Extends, IsAim, NoAim, InProgress, Bars, obstacle_fault, Collected, HasCalls, IsFramed, BarsHere, AllFramed, PartialEntry, Obstacle, shapes, IsMaking, IsCalled, IsToldOf, TellsHere, keyed_context, start, FrameCall, known_before, rules, Contains-append_left, Contains-append_right, Contains-append_cases, Contains-get_or, take, drop, get_or, common_steps, take-suc, take-append-drop, IsTrue, ◌↔◌, InRom, HasAsked, make_fault_of, Refuses, BarsList, NoFramesMade, HasAll, IsBlocked, IsRefused, BarsCalls, NoneHasCalls, BlocksHere, Blocked, asked_shape, IsToldFrom, KeyedCall, IsGivenHere, RootOutside, IsNamedBy, IsNeededBy, EntryCause, UnlessMemory}
 use Rattle.std.proofs.lemmas.Option.{slice_get-get_or, slice_get_read}
 use Rattle.dvg_make.proofs.Onward.{listed_entry}
 use Rattle.dvg_make.proofs.Framing.{done_made, collected_more, call_grows, keyed_call, called_told, calls_grow, has_calls_grow}

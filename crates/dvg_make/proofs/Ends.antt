@@ -1,11 +1,5 @@
 -- What a made entry says of its shape: at each item, and at the end.
-use Rattle.dvg_make.proofs.Common.{Machine, ◌≡◌, ◌≢◌, ℕ, zero, suc, ◌+◌, ◌<◌, ◌≤◌, List, [], ◌∷◌, Option, Some, None, refl, sym, ap,
-    subst, arith, ⊎_elim, cell_at, Rom, rom_word, screen, Window, Cell, Missing, Odd, Holds, Format, Instr, entry_at, Entry, Key,
-    next_address, LeadsTo, Context, shape_context, target, callee_at, callee, callee_words, scale_before, place_before, words_before,
-    depth_before, depth_under, known_before, extent, seen_at, HasCallee, InBox, relative_corners, ShapeKeeps, CellKeeps, Exact, Mode,
-    ShapeWhy, Item, Shape, Known, Seen, word_count-some, lit_points, HoldsAll, IsLeast, HasEntry, EachItem, AtEachOf, AtEveryPlace,
-    everywhere, AllKeep, ShapePlaceKeeps, MadeEntry, keyed_context, IsStraight, AllFine, rules, all_left, all_right, AtLast, MadeKeeps,
-    IsFine, Point, LitBox, IsInside, Contains, Good, GoodShape, AllInWindow, ItemInWindow}
+use Rattle.dvg_make.proofs.Common.{Machine, ◌≡◌, ◌≢◌, ℕ, zero, suc, ◌+◌, ◌<◌, ◌≤◌, List, [], ◌∷◌, Option, Some, None, refl, sym, ap, subst, arith, ⊎_elim, cell_at, Rom, rom_word, screen, Window, Cell, Missing, Odd, Holds, Format, Instr, entry_at, Entry, Key, next_address, LeadsTo, Context, shape_context, target, callee_at, callee, callee_words, scale_before, place_before, words_before, depth_before, depth_under, known_before, extent, seen_at, HasCallee, InBox, relative_corners, ShapeKeeps, CellKeeps, Exact, Mode, ShapeWhy, Item, Shape, Known, Seen, word_count-some, lit_points, HoldsAll, IsLeast, HasEntry, EachItem, AtEachOf, AtEveryPlace, everywhere, AllKeep, ShapePlaceKeeps, MadeEntry, keyed_context, IsStraight, AllFine, rules, all_left, all_right, AtLast, MadeKeeps, IsFine, Point, LitBox, IsInside, Contains, Good, GoodShape, AllInWindow, ItemInWindow}
 use Rattle.dvg_check.specs.declared.fault.ShapeWhy.TheVariants as shape
 pub use Rattle.dvg_make.specs.Private.Covering.{known_of}
 use Rattle.dvg_make.proofs.Matching.{gathered, Matched, gathered_same, exact_named, none_or_some}

@@ -1,7 +1,5 @@
 -- The list that is made, in the order of a certificate.
-use Rattle.dvg_make.proofs.Common.{◌≡◌, ℕ, List, [], length, Some, sym, ◌∙◌, arith, inl, inr, ⊎_elim, Contains, Rom, rom_word, IsEntry,
-    IsRising, IsCertificate, entry_at, Entry, Key, shape_context, callee_at, scale_before, HasEntry, Needs, IsAskedFor, FramesMade,
-    keyed_context, Extends, IsCalled, AllFramed, listed_at, IsMap, Made, all_listed}
+use Rattle.dvg_make.proofs.Common.{◌≡◌, ℕ, List, [], length, Some, sym, ◌∙◌, arith, inl, inr, ⊎_elim, Contains, Rom, rom_word, IsEntry, IsRising, IsCertificate, entry_at, Entry, Key, shape_context, callee_at, scale_before, HasEntry, Needs, IsAskedFor, FramesMade, keyed_context, Extends, IsCalled, AllFramed, listed_at, IsMap, Made, all_listed}
 use Rattle.dvg_make.proofs.Onward.{fine_taken}
 use Rattle.dvg_make.proofs.Matching.{exact_named, found_listed}
 use Rattle.dvg_make.proofs.Merging.{scale_grows, made_grows}

@@ -1,9 +1,5 @@
 -- No certificate does better for a frame than the list that is made for it.
-use Rattle.dvg_make.proofs.Common.{◌≡◌, ℕ, ◌+◌, List, [], ◌∷◌, refl, sym, subst, arith, inr, ⊎_elim, Contains, cell_at, Rom, rom_word,
-    frame_word, Window, Holds, IsCertificate, Entry, Key, LeadsTo, Context, shape_context, frame_context, target, callee_at, callee,
-    scale_before, place_before, words_before, depth_before, known_before, extent, seen_at, Item, Shape, CellKeeps, Good, GoodFrame,
-    Bound, in_bound, MadeFor, AllMade, IsAskedFor, KnowsMore, rules, word_count, Frame, FrameKeeps, FramePlaceKeeps, AllKeep, FrameWhy,
-    AllInWindow, NoneBetter, AllKeyed, FrameAsksFor, Loosens, HasCover, Upholds, HasCalls, KeyedCall, Format, Instr}
+use Rattle.dvg_make.proofs.Common.{◌≡◌, ℕ, ◌+◌, List, [], ◌∷◌, refl, sym, subst, arith, inr, ⊎_elim, Contains, cell_at, Rom, rom_word, frame_word, Window, Holds, IsCertificate, Entry, Key, LeadsTo, Context, shape_context, frame_context, target, callee_at, callee, scale_before, place_before, words_before, depth_before, known_before, extent, seen_at, Item, Shape, CellKeeps, Good, GoodFrame, Bound, in_bound, MadeFor, AllMade, IsAskedFor, KnowsMore, rules, word_count, Frame, FrameKeeps, FramePlaceKeeps, AllKeep, FrameWhy, AllInWindow, NoneBetter, AllKeyed, FrameAsksFor, Loosens, HasCover, Upholds, HasCalls, KeyedCall, Format, Instr}
 use Rattle.dvg_make.specs.Frames.{IsKeyed}
 use Rattle.dvg_check.specs.declared.fault.FrameWhy.TheVariants as frame
 use Rattle.dvg_make.proofs.Ends.{has_callee, other_window, in_window, in_exact}

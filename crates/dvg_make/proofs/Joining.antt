@@ -1,11 +1,5 @@
 -- A shape so far and the tail behind it are a made entry.
-use Rattle.dvg_make.proofs.Common.{Machine, ◌≡◌, ℕ, ◌+◌, ◌-◌, List, [], ◌∷◌, ◌++◌, Option, Some, sym, ap, ◌∙◌, subst, arith, ⊎_elim,
-    IfSome, ints, Rom, rom_word, Point, Jmpl, IsKey, entry_at, End, Rel, Abs, Lost, Entry, Key, LitBox, LeadsTo, Context, place_before,
-    known_before, InBox, IsInside, box_extent, relative_corners, step_past, seen_at, seen_with, extent, Last, Item, Shape, Known,
-    LitExtent, Between, Seen, all_append, listed_at, PartialEntry, lit_points, HoldsAll, IsLeast, IsDone, keyed_context, entry_of,
-    AllFine, IsPartial, Passes, Extends, AreTails, IsFinished, rules, Contains-append_cases, ℤ, neg_ℤ, Short, PlaceKnown, all_left,
-    all_right, seen_by, moved, known_over, place_over, IsFine, KnowsAt, shift, append_assoc, ◌↔◌, all_map, in_wider, IsTail, EndsBy,
-    EndsByOne}
+use Rattle.dvg_make.proofs.Common.{Machine, ◌≡◌, ℕ, ◌+◌, ◌-◌, List, [], ◌∷◌, ◌++◌, Option, Some, sym, ap, ◌∙◌, subst, arith, ⊎_elim, IfSome, ints, Rom, rom_word, Point, Jmpl, IsKey, entry_at, End, Rel, Abs, Lost, Entry, Key, LitBox, LeadsTo, Context, place_before, known_before, InBox, IsInside, box_extent, relative_corners, step_past, seen_at, seen_with, extent, Last, Item, Shape, Known, LitExtent, Between, Seen, all_append, listed_at, PartialEntry, lit_points, HoldsAll, IsLeast, IsDone, keyed_context, entry_of, AllFine, IsPartial, Passes, Extends, AreTails, IsFinished, rules, Contains-append_cases, ℤ, neg_ℤ, Short, PlaceKnown, all_left, all_right, seen_by, moved, known_over, place_over, IsFine, KnowsAt, shift, append_assoc, ◌↔◌, all_map, in_wider, IsTail, EndsBy, EndsByOne}
 use Rattle.dvg_check.proofs.TailLaws.{seen_over, seen_by_over, over_none}
 use Rattle.std.specs.Prelude.{map}
 use Rattle.dvg_items.proofs.Points.{shift_shift}

@@ -1,8 +1,5 @@
 -- Who knows more before an item knows more after it, and lights no more.
-use Rattle.dvg_make.proofs.Common.{Machine, ◌≡◌, ℕ, Option, Some, None, refl, arith, ints, Window, Instr, Jsrl, Jmpl, End, Rel, Abs,
-    Lost, Entry, Key, LitBox, Empty, Span, Item, Effect, Sets, Loses, Moves, scale_set, place_past, known_past, LitExtent, Nothing,
-    Between, box_extent, extent_of, LitInWindow, IsInside, Known, KnowsMore, ◌≤ℤ◌, DrawFields, Draws, effect_of, draw_extent, PlaceKnown,
-    ScaleKnown, LitInBox, Loosens, LoosensPlace, Refines, callee_extent, ℤ}
+use Rattle.dvg_make.proofs.Common.{Machine, ◌≡◌, ℕ, Option, Some, None, refl, arith, ints, Window, Instr, Jsrl, Jmpl, End, Rel, Abs, Lost, Entry, Key, LitBox, Empty, Span, Item, Effect, Sets, Loses, Moves, scale_set, place_past, known_past, LitExtent, Nothing, Between, box_extent, extent_of, LitInWindow, IsInside, Known, KnowsMore, ◌≤ℤ◌, DrawFields, Draws, effect_of, draw_extent, PlaceKnown, ScaleKnown, LitInBox, Loosens, LoosensPlace, Refines, callee_extent, ℤ}
 
 -- ---- the entries that an item calls by the two lists
 

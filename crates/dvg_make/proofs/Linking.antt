@@ -1,6 +1,5 @@
 -- The shapes in the making, each of which calls or tail jumps to the next.
-use Rattle.dvg_make.proofs.Common.{◌≡◌, ℕ, List, [], ◌∷◌, ◌++◌, refl, sym, ap, ◌∙◌, Rom, Entry, Key, PartialEntry, ShapeAt,
-    keyed_context, shape_of, Extends, shapes, arith, Precedes, IsLinked, last_shape, AreLinked, ◌↔◌}
+use Rattle.dvg_make.proofs.Common.{◌≡◌, ℕ, List, [], ◌∷◌, ◌++◌, refl, sym, ap, ◌∙◌, Rom, Entry, Key, PartialEntry, ShapeAt, keyed_context, shape_of, Extends, shapes, arith, Precedes, IsLinked, last_shape, AreLinked, ◌↔◌}
 use Rattle.dvg_make.proofs.Onward.{fine_taken}
 use Rattle.dvg_make.proofs.Merging.{known_grows, taken_grows}
 

@@ -1,8 +1,5 @@
 -- Two lists that have the same entries for what items call know the same after them.
-use Rattle.dvg_make.proofs.Common.{Machine, ◌≡◌, ℕ, List, [], ◌∷◌, ◌++◌, Option, Some, None, refl, sym, ap, Contains, IfSome, IfNone,
-    Point, option_or, is_at, entry_at, IsRising, Entry, Key, Any, Context, target, callee_at, scale_before, known_before, known_past,
-    relative_corners, seen_at, seen_with, Item, Shape, Known, lit_points, keyed_context, arith, named_entry, IsOnlyAt, HasNoneAt, found,
-    ◌⊎◌, inl, inr}
+use Rattle.dvg_make.proofs.Common.{Machine, ◌≡◌, ℕ, List, [], ◌∷◌, ◌++◌, Option, Some, None, refl, sym, ap, Contains, IfSome, IfNone, Point, option_or, is_at, entry_at, IsRising, Entry, Key, Any, Context, target, callee_at, scale_before, known_before, known_past, relative_corners, seen_at, seen_with, Item, Shape, Known, lit_points, keyed_context, arith, named_entry, IsOnlyAt, HasNoneAt, found, ◌⊎◌, inl, inr}
 
 pub none_or_some : {A : Type 0} (o : Option A) → (o ≡ None) ⊎ ((x : A) × (o ≡ Some x))
 none_or_some None = inl refl

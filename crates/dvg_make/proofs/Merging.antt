@@ -1,8 +1,5 @@
 -- What is known by a list is known by each that has more entries, and two lists of made entries are one such list.
-use Rattle.dvg_make.proofs.Common.{Machine, ◌≡◌, List, [], ◌∷◌, sym, ap, ◌∙◌, subst, Rom, rom_word, LeadsTo, entry_at, Entry, Key,
-    target, scale_before, known_before, Item, Shape, LitBox, Known, PartialEntry, MadeEntry, keyed_context, AllFine, IsPartial, Extends,
-    arith, AllTaken, KnowsAt, ℕ, ◌++◌, Some, refl, cell_at, Holds, Frame, frame_word, frame_context, callee_at, known_past, AllKeyed,
-    KeyedCall, HasCalls, FrameAsksFor, ⊎_elim, Contains, option_or, IsMade, AllMade, Contains-append_cases}
+use Rattle.dvg_make.proofs.Common.{Machine, ◌≡◌, List, [], ◌∷◌, sym, ap, ◌∙◌, subst, Rom, rom_word, LeadsTo, entry_at, Entry, Key, target, scale_before, known_before, Item, Shape, LitBox, Known, PartialEntry, MadeEntry, keyed_context, AllFine, IsPartial, Extends, arith, AllTaken, KnowsAt, ℕ, ◌++◌, Some, refl, cell_at, Holds, Frame, frame_word, frame_context, callee_at, known_past, AllKeyed, KeyedCall, HasCalls, FrameAsksFor, ⊎_elim, Contains, option_or, IsMade, AllMade, Contains-append_cases}
 use Rattle.dvg_make.specs.Frames.{IsKeyed}
 use Rattle.dvg_make.proofs.Matching.{Gathered, gathered_same, seen_matched, exact_named, entry_at-append}
 use Rattle.dvg_make.proofs.Ends.{known_of, made_ends, ends_made, same_sums, sums_of}

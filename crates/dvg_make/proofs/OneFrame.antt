@@ -1,8 +1,5 @@
 -- A ROM, roots and frames have one made list at most.
-use Rattle.dvg_make.proofs.Common.{◌≡◌, ℕ, zero, suc, ◌+◌, ◌<◌, ◌≤◌, List, [], ◌∷◌, Some, refl, sym, ap, ◌∙◌, subst, arith, ⊎_elim,
-    Contains, Rom, IsRising, entry_at, Entry, Key, MOST_WORDS, shape_context, target, scale_before, Shape, HasEntry, Needs, MadeFor,
-    listed_at, not_before, before_next, before_later, rising_tail, first_or_later, later, AllMade, ◌++◌, inl, inr, IsAskedFor,
-    FramesMade, OneFramesMade}
+use Rattle.dvg_make.proofs.Common.{◌≡◌, ℕ, zero, suc, ◌+◌, ◌<◌, ◌≤◌, List, [], ◌∷◌, Some, refl, sym, ap, ◌∙◌, subst, arith, ⊎_elim, Contains, Rom, IsRising, entry_at, Entry, Key, MOST_WORDS, shape_context, target, scale_before, Shape, HasEntry, Needs, MadeFor, listed_at, not_before, before_next, before_later, rising_tail, first_or_later, later, AllMade, ◌++◌, inl, inr, IsAskedFor, FramesMade, OneFramesMade}
 use Rattle.dvg_make.proofs.Matching.{Gathered, gathered_same, exact_named, found_listed}
 use Rattle.dvg_make.proofs.Ends.{callee_less}
 use Rattle.dvg_make.proofs.Agreeing.{agree, matched_made}

@@ -1,8 +1,5 @@
 -- A frame judged by the certificate that is made for it.
-use Rattle.dvg_make.proofs.Common.{Machine, ◌≡◌, ℕ, ◌≤◌, List, [], ◌∷◌, Option, None, Some, subst, arith, Result, Ok, Err, Rom,
-    frame_word, Window, Entry, frame_context, seen_at, GoodFrame, Exact, EntryFault, Memory, FrameCall, FramesRefuse, FrameRefused, max,
-    IfOk, IfErr, Frame, AllKeep, FramePlaceKeeps, Means, no_fault, no_shape_fault, one_count, FrameMade, BarsFrame, CallBarredAt,
-    VerdictByMade, AreLeast, CheckMeans, checked, refusal_at, IsJudged}
+use Rattle.dvg_make.proofs.Common.{Machine, ◌≡◌, ℕ, ◌≤◌, List, [], ◌∷◌, Option, None, Some, subst, arith, Result, Ok, Err, Rom, frame_word, Window, Entry, frame_context, seen_at, GoodFrame, Exact, EntryFault, Memory, FrameCall, FramesRefuse, FrameRefused, max, IfOk, IfErr, Frame, AllKeep, FramePlaceKeeps, Means, no_fault, no_shape_fault, one_count, FrameMade, BarsFrame, CallBarredAt, VerdictByMade, AreLeast, CheckMeans, checked, refusal_at, IsJudged}
 use Rattle.dvg_check.specs.Verdict.{PartsVerdict}
 use Rattle.dvg_check.specs.Causes.{verdict_of, refusal_of}
 use Rattle.dvg_check.specs.declared.finding.RomFinding.{RomFinding}

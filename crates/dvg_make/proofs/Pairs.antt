@@ -1,7 +1,5 @@
 -- The made entries, as pairs of an address and key with an entry. Sorted by address and key, they rise.
-use Rattle.dvg_make.proofs.Common.{◌≡◌, ℕ, suc, ◌+◌, List, ◌∷◌, false, arith, entry_at, values_of, keys_of, Entry, Key, IsOwn, IsKeyed,
-    IsRising, same_key, KeyBefore, Before, lookup_is, pair_test, pair_eq, key_test, values_of-append, keyed_push, length-values_of,
-    insert_entry-new, cases_lt, nat_tests, All-tail}
+use Rattle.dvg_make.proofs.Common.{◌≡◌, ℕ, suc, ◌+◌, List, ◌∷◌, false, arith, entry_at, values_of, keys_of, Entry, Key, IsOwn, IsKeyed, IsRising, same_key, KeyBefore, Before, lookup_is, pair_test, pair_eq, key_test, values_of-append, keyed_push, length-values_of, insert_entry-new, cases_lt, nat_tests, All-tail}
 use Rattle.std.specs.Ordering.{nat_cmp, is_lt, ordering_then}
 use Rattle.std.specs.List.{IsDistinct}
 use Rattle.std.specs.List.Sorted.{IsSorted}

@@ -1,12 +1,5 @@
 -- What the maker makes has only small numbers: on either machine a word moves the beam by 1024 screen places at most.
-use Rattle.dvg_make.proofs.Common.{Source, rules, Machine, Board, ◌≡◌, ℕ, zero, suc, ◌+◌, ◌<◌, ◌≤◌, List, [], ◌∷◌, Option, Some, None,
-    ap, subst, arith, ints, AllByRecursion, Contains, IfSome, if◌then◌else◌, slice_get, cell_at, Rom, rom_word, Point, Cell, Holds,
-    Format, Instr, Labs, Halt, Jsrl, Rtsl, Jmpl, IsKey, IsEntry, entry_at, End, Entry, Key, LitBox, Empty, MOST_DEPTH, MOST_WORDS,
-    LeadsTo, Context, shape_context, target, callee, callee_words, scale_before, place_before, words_before, depth_before, known_before,
-    InBox, extent_of, relative_corners, extent, Item, Shape, Known, listed_at, all_append, word_count-some, lit_points, IsLeast,
-    MadeEntry, keyed_context, entry_of, AllFine, Profile, ℤ, pos, negsuc, neg_ℤ, ◌*◌, ◌/◌, ◌%◌, nat_le, nat_tests, ◌≤ℤ◌, ◌*ℤ◌, ◌==◌,
-    origin, effective_scale, factor, rounded, axis_move, displacement, labs_place, opcode, labs_field, magnitude_and_sign,
-    instruction_of, word_count, DrawFields, Short, Long, Draws, IsEnd, IsBox, callee_effect, effect_of, callee_extent, all_map, Bool, true}
+use Rattle.dvg_make.proofs.Common.{Source, rules, Machine, Board, ◌≡◌, ℕ, zero, suc, ◌+◌, ◌<◌, ◌≤◌, List, [], ◌∷◌, Option, Some, None, ap, subst, arith, ints, AllByRecursion, Contains, IfSome, if◌then◌else◌, slice_get, cell_at, Rom, rom_word, Point, Cell, Holds, Format, Instr, Labs, Halt, Jsrl, Rtsl, Jmpl, IsKey, IsEntry, entry_at, End, Entry, Key, LitBox, Empty, MOST_DEPTH, MOST_WORDS, LeadsTo, Context, shape_context, target, callee, callee_words, scale_before, place_before, words_before, depth_before, known_before, InBox, extent_of, relative_corners, extent, Item, Shape, Known, listed_at, all_append, word_count-some, lit_points, IsLeast, MadeEntry, keyed_context, entry_of, AllFine, Profile, ℤ, pos, negsuc, neg_ℤ, ◌*◌, ◌/◌, ◌%◌, nat_le, nat_tests, ◌≤ℤ◌, ◌*ℤ◌, ◌==◌, origin, effective_scale, factor, rounded, axis_move, displacement, labs_place, opcode, labs_field, magnitude_and_sign, instruction_of, word_count, DrawFields, Short, Long, Draws, IsEnd, IsBox, callee_effect, effect_of, callee_extent, all_map, Bool, true}
 use Rattle.std.proofs.Math.Pow.{pow_mono}
 use Rattle.std.proofs.lemmas.Nat.{mul-le}
 use Rattle.dvg_items.specs.Bounds.{IsReached, IsReachedPlace, IsReachedBox, IsReachedEffect, IsReachedExtent}

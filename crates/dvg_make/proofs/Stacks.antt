@@ -1,7 +1,5 @@
 -- The stack of shapes in the making, as pairs of an address and key with a shape.
-use Rattle.dvg_make.proofs.Common.{◌≡◌, ℕ, zero, suc, ◌+◌, ◌-◌, ◌<◌, List, [], ◌∷◌, ◌++◌, length, Some, None, refl, ap, ◌∙◌, arith,
-    values_of, Key, at_holds, pair_test, PartialEntry, All, IsOwnPartial, IsMaking, rules, common_steps, cond, is_some, lookup, All-nil,
-    All-cons, All-head, All-tail, slice_range, at_means, pair_eq, Bool, true, slice_get}
+use Rattle.dvg_make.proofs.Common.{◌≡◌, ℕ, zero, suc, ◌+◌, ◌-◌, ◌<◌, List, [], ◌∷◌, ◌++◌, length, Some, None, refl, ap, ◌∙◌, arith, values_of, Key, at_holds, pair_test, PartialEntry, All, IsOwnPartial, IsMaking, rules, common_steps, cond, is_some, lookup, All-nil, All-cons, All-head, All-tail, slice_range, at_means, pair_eq, Bool, true, slice_get}
 use Rattle.indexmap.specs.IndexMap.{set_value_at}
 use Rattle.indexmap.proofs.MapLemmas.{split_last}
 

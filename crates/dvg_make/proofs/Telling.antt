@@ -1,12 +1,7 @@
 -- What is told where the making stops.
-use Rattle.dvg_make.proofs.Common.{◌≡◌, ℕ, zero, suc, ◌+◌, ◌<◌, ◌≤◌, List, [], ◌∷◌, ◌++◌, length, slice_get, Some, None, sym, ap, ◌∙◌,
-    subst, arith, inl, inr, length-append, Contains, Rom, entry_at, Entry, Key, MOST_ENTRIES, Known, PartialEntry, Obstacle, ShapeAt,
-    EntryCause, Reaches, start, shape_of, IsWaiting, IsStopped, shapes, IsMaking, Apart, InProgress, NotBegun, Cursor, AreUnmade,
-    CauseAt, Tells, asked_shape, AreLinked, TellsObstacle, IsNoRoot, IsUnique, common_steps}
+use Rattle.dvg_make.proofs.Common.{◌≡◌, ℕ, zero, suc, ◌+◌, ◌<◌, ◌≤◌, List, [], ◌∷◌, ◌++◌, length, slice_get, Some, None, sym, ap, ◌∙◌, subst, arith, inl, inr, length-append, Contains, Rom, entry_at, Entry, Key, MOST_ENTRIES, Known, PartialEntry, Obstacle, ShapeAt, EntryCause, Reaches, start, shape_of, IsWaiting, IsStopped, shapes, IsMaking, Apart, InProgress, NotBegun, Cursor, AreUnmade, CauseAt, Tells, asked_shape, AreLinked, TellsObstacle, IsNoRoot, IsUnique, common_steps}
 use Rattle.dvg_make.specs.declared.account.EntryCause.TheVariants as cause
-pub use Rattle.dvg_make.proofs.Turns.{calls_it, apart_moved, reached, links_push, last_push, are_moved, begun_ok, begun_present,
-    called_moved, refused, as_bar, not_err, if_err_same, walks_last, none_here, finished_new, making_finished, present_finished,
-    first_fault, first_ok, first_present, called_none}
+pub use Rattle.dvg_make.proofs.Turns.{calls_it, apart_moved, reached, links_push, last_push, are_moved, begun_ok, begun_present, called_moved, refused, as_bar, not_err, if_err_same, walks_last, none_here, finished_new, making_finished, present_finished, first_fault, first_ok, first_present, called_none}
 
 slice_links : (stack : List PartialEntry) (i : ℕ) (w : PartialEntry) → slice_get stack i ≡ Some w
     → slice_get (shapes stack) i ≡ Some (shape_of w)

@@ -1,9 +1,5 @@
 -- What begins, and what each turn gives.
-use Rattle.dvg_make.proofs.Common.{◌≡◌, ℕ, zero, suc, Some, ◌+◌, ◌<◌, ◌≤◌, List, [], ◌∷◌, ◌++◌, length, None, refl, sym, ap, ◌∙◌, subst,
-    arith, inl, inr, length-append, Result, false, Rom, rom_word, IsKey, entry_at, Entry, Key, ADDRESS_END, MOST_ENTRIES, MOST_WORDS,
-    PartialEntry, start, IsPartial, IsWaiting, IsMaking, Apart, IsPresent, IsCalled, Chain, IsAim, NoAim, Bars, IsDone, NotBegun,
-    InProgress, EntryCause, shape_of, listed_at, OnOk, IfErr, IsErrAnd, EntryFault, TooManyEntries, Memory, AllCalled, IsBegun, CallsAt,
-    Precedes, entry_fault, slice_get, Bool, is_at, is_some, entry_of, at_holds, at_means, AllByRecursion, Extends, HasEntry, IsUnique}
+use Rattle.dvg_make.proofs.Common.{◌≡◌, ℕ, zero, suc, Some, ◌+◌, ◌<◌, ◌≤◌, List, [], ◌∷◌, ◌++◌, length, None, refl, sym, ap, ◌∙◌, subst, arith, inl, inr, length-append, Result, false, Rom, rom_word, IsKey, entry_at, Entry, Key, ADDRESS_END, MOST_ENTRIES, MOST_WORDS, PartialEntry, start, IsPartial, IsWaiting, IsMaking, Apart, IsPresent, IsCalled, Chain, IsAim, NoAim, Bars, IsDone, NotBegun, InProgress, EntryCause, shape_of, listed_at, OnOk, IfErr, IsErrAnd, EntryFault, TooManyEntries, Memory, AllCalled, IsBegun, CallsAt, Precedes, entry_fault, slice_get, Bool, is_at, is_some, entry_of, at_holds, at_means, AllByRecursion, Extends, HasEntry, IsUnique}
 use Rattle.std.specs.Set.{is_member}
 use Rattle.std.specs.Cmp.{IsEquivalence}
 use Rattle.std.specs.List.{IsDistinct}
@@ -13,8 +9,7 @@ use Rattle.dvg_make.specs.declared.account.EntryCause.TheVariants as cause
 pub use Rattle.dvg_make.proofs.Linking.{are_moved, are_pushed, links_push, last_push}
 pub use Rattle.dvg_make.proofs.Onward.{reached}
 use Rattle.dvg_make.proofs.Ends.{made_some}
-pub use Rattle.dvg_make.proofs.Chains.{none_deep, forced_begun, apart_pop, apart_push, walks_pop, walks_push, making_append, making_left,
-    making_last, IsNeeded, needed_grows, walks_last, none_here, finished_new, making_finished, present_finished}
+pub use Rattle.dvg_make.proofs.Chains.{none_deep, forced_begun, apart_pop, apart_push, walks_pop, walks_push, making_append, making_left, making_last, IsNeeded, needed_grows, walks_last, none_here, finished_new, making_finished, present_finished}
 
 -- ---- a list that has so many different entries has at least that length
 

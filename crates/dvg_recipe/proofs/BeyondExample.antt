@@ -1,8 +1,6 @@
 -- The frame of the worked recipe that is refused: its made certificate has the stroke alone, and by that its call leaves the screen.
 use Rattle.dvg_recipe.proofs.Common.{◌≡◌, ◌∙◌, ℕ, zero, List, [], ◌∷◌, Some, None, refl, sym, subst, inl, inr, arith, LeadsTo, next_address}
-use Rattle.dvg_check.proofs.Common.{ints, pos, Board, Short, Long, Holds, Halt, Labs, Jsrl, Item, Frame, Shape, Source, Entry, At, Rom,
-    screen, rom_word, frame_word, shape_context, scale_before, target, FirstFrameFault, LitBox, Empty, Span, Point, rom_for,
-    example_entry, example_list}
+use Rattle.dvg_check.proofs.Common.{ints, pos, Board, Short, Long, Holds, Halt, Labs, Jsrl, Item, Frame, Shape, Source, Entry, At, Rom, screen, rom_word, frame_word, shape_context, scale_before, target, FirstFrameFault, LitBox, Empty, Span, Point, rom_for, example_entry, example_list}
 unfoldable use Rattle.dvg_check.proofs.Common.{cell_at, instruction_of, displacement}
 use Rattle.dvg_check.specs.declared.fault.Mode.TheVariants.{Exact}
 use Rattle.dvg_check.specs.declared.fault.FrameWhy.TheVariants as rule

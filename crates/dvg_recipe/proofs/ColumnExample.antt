@@ -1,10 +1,7 @@
 -- The worked recipe with places up to the last one from which the stroke stays on the screen: the two shapes, and each frame of it.
-use Rattle.dvg_recipe.proofs.Common.{◌≡◌, ◌≤◌, ◌+◌, ◌∙◌, ℕ, zero, suc, List, [], ◌∷◌, Some, false, get_or, refl, sym, ap, subst, inl,
-    arith, Contains, LeadsTo, next_address}
+use Rattle.dvg_recipe.proofs.Common.{◌≡◌, ◌≤◌, ◌+◌, ◌∙◌, ℕ, zero, suc, List, [], ◌∷◌, Some, false, get_or, refl, sym, ap, subst, inl, arith, Contains, LeadsTo, next_address}
 use Rattle.std.specs.Prelude.{true, replicate}
-use Rattle.dvg_check.proofs.Common.{ints, ℤ, pos, ◌≤ℤ◌, ◌*ℤ◌, Board, Short, Long, Format, Holds, Halt, Labs, Jsrl, Instr, Cell, Item,
-    Frame, Shape, Source, Entry, At, Rel, Empty, shift, InWindow, screen, rom_word, frame_word, frame_context, seen_at, FrameKeeps,
-    CellKeeps, FramePlaceKeeps, ShapePlaceKeeps, GoodShape, Good, GoodFrame, IsJudged, rom_for, example_entry, words_before, depth_before}
+use Rattle.dvg_check.proofs.Common.{ints, ℤ, pos, ◌≤ℤ◌, ◌*ℤ◌, Board, Short, Long, Format, Holds, Halt, Labs, Jsrl, Instr, Cell, Item, Frame, Shape, Source, Entry, At, Rel, Empty, shift, InWindow, screen, rom_word, frame_word, frame_context, seen_at, FrameKeeps, CellKeeps, FramePlaceKeeps, ShapePlaceKeeps, GoodShape, Good, GoodFrame, IsJudged, rom_for, example_entry, words_before, depth_before}
 unfoldable use Rattle.dvg_check.proofs.Common.{cell_at, instruction_of, displacement}
 use Rattle.dvg_check.specs.declared.fault.Mode.TheVariants.{Exact}
 use Rattle.dvg_check.specs.declared.fault.ShapeWhy.{ShapeWhy}

@@ -1,6 +1,5 @@
 -- The limits of recipes.
-use Rattle.dvg_recipe.proofs.Common.{◌≡◌, ◌<◌, ◌≤◌, ◌∙◌, ◌↔◌, ℕ, suc, List, [], ◌∷◌, Contains, length, take, drop, get_or, refl, sym, ap,
-    subst, ⊎_elim, arith, take-suc, take_all, Contains-push_cases, Contains-get_or, Bool, false, IsTrue, nat_tests}
+use Rattle.dvg_recipe.proofs.Common.{◌≡◌, ◌<◌, ◌≤◌, ◌∙◌, ◌↔◌, ℕ, suc, List, [], ◌∷◌, Contains, length, take, drop, get_or, refl, sym, ap, subst, ⊎_elim, arith, take-suc, take_all, Contains-push_cases, Contains-get_or, Bool, false, IsTrue, nat_tests}
 use Rattle.std.proofs.Common.{drop-cons}
 use Rattle.dvg_recipe.specs.Recipes.{Area, Piece, Part, Jump, Row, Then', Either', Repeat'}
 use Rattle.dvg_recipe.specs.Limits.{RowNumbered, Numbered, AreasFit, JumpFits, JumpsFit}

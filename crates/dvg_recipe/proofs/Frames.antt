@@ -1,6 +1,5 @@
 -- Frames of a recipe, by their items.
-use Rattle.dvg_recipe.proofs.Common.{◌≡◌, ◌≤◌, ◌∙◌, ℕ, List, [], ◌∷◌, IsTrue, length, reverse, take_all, refl, sym, ap, subst, ⊎_elim,
-    arith, cases_lt, LeadsTo, cell_at}
+use Rattle.dvg_recipe.proofs.Common.{◌≡◌, ◌≤◌, ◌∙◌, ℕ, List, [], ◌∷◌, IsTrue, length, reverse, take_all, refl, sym, ap, subst, ⊎_elim, arith, cases_lt, LeadsTo, cell_at}
 use Rattle.dvg_words.specs.declared.machine.Machine.TheVariants.{Board}
 use Rattle.dvg_words.specs.declared.instruction.Instr.TheVariants.{Halt}
 use Rattle.dvg_words.specs.declared.instruction.Cell.TheVariants.{Holds}

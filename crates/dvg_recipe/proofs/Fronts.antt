@@ -1,12 +1,9 @@
 -- Indices and the items before them.
-use Rattle.dvg_recipe.proofs.Common.{◌≡◌, ◌<◌, ◌≤◌, ◌∙◌, ℕ, zero, suc, List, [], ◌∷◌, length, take, get_or, reverse, reverse-append,
-    take-suc, refl, sym, ap, subst, inl, inr, arith, common_steps}
+use Rattle.dvg_recipe.proofs.Common.{◌≡◌, ◌<◌, ◌≤◌, ◌∙◌, ℕ, zero, suc, List, [], ◌∷◌, length, take, get_or, reverse, reverse-append, take-suc, refl, sym, ap, subst, inl, inr, arith, common_steps}
 use Rattle.dvg_items.specs.declared.item.Item.{Item}
 use Rattle.dvg_recipe.specs.Private.KnownPlaces.{ItemsOver}
-use Rattle.dvg_recipe.specs.Recipes.{Piece, Part, Jump, Recipe, Row, Then', Either', Repeat', Arrives, AddsPiece, AddsRow, AddsJump,
-    Times, Spells, SpellsJumps, BeginsAt, SpellsList}
-use Rattle.dvg_recipe.specs.Private.Indices.{Leads, PieceLeads, RowLeads, PartLeads, TimesOver, JumpLeads, JumpsLead, ListStarts,
-    RecipeLeads}
+use Rattle.dvg_recipe.specs.Recipes.{Piece, Part, Jump, Recipe, Row, Then', Either', Repeat', Arrives, AddsPiece, AddsRow, AddsJump, Times, Spells, SpellsJumps, BeginsAt, SpellsList}
+use Rattle.dvg_recipe.specs.Private.Indices.{Leads, PieceLeads, RowLeads, PartLeads, TimesOver, JumpLeads, JumpsLead, ListStarts, RecipeLeads}
 
 cons_same : (x y : Item) (xs ys : List Item) → x ∷ xs ≡ y ∷ ys → (x ≡ y) × (xs ≡ ys)
 cons_same x y xs ys is = grind (arith)

@@ -1,8 +1,6 @@
 -- What leads from good fronts of frames to good fronts.
-use Rattle.dvg_recipe.proofs.Common.{◌≡◌, ◌⊎◌, ◌≤◌, ◌<◌, ℕ, zero, suc, List, [], ◌∷◌, ◌++◌, length, take, get_or, take-suc, take_all,
-    Option, None, Some, IfSome, refl, sym, ap, ◌∙◌, subst, ⊎_elim, arith, nat_tests, cases_lt, next_address}
-use Rattle.dvg_check.proofs.Common.{Window, Entry, Item, Known, Instr, Draws, Labs, Halt, Jsrl, Jmpl, Any, target, Rtsl, Cell,
-    FrameKeeps, CellKeeps, IsForward, frame_word, frame_context, seen_at, Frame, ◌≢◌}
+use Rattle.dvg_recipe.proofs.Common.{◌≡◌, ◌⊎◌, ◌≤◌, ◌<◌, ℕ, zero, suc, List, [], ◌∷◌, ◌++◌, length, take, get_or, take-suc, take_all, Option, None, Some, IfSome, refl, sym, ap, ◌∙◌, subst, ⊎_elim, arith, nat_tests, cases_lt, next_address}
+use Rattle.dvg_check.proofs.Common.{Window, Entry, Item, Known, Instr, Draws, Labs, Halt, Jsrl, Jmpl, Any, target, Rtsl, Cell, FrameKeeps, CellKeeps, IsForward, frame_word, frame_context, seen_at, Frame, ◌≢◌}
 unfoldable use Rattle.dvg_check.proofs.Common.{cell_at}
 use Rattle.std.specs.Option.{option_or}
 use Rattle.dvg_words.specs.Memory.{Rom}
@@ -13,11 +11,9 @@ use Rattle.dvg_check.specs.declared.fault.FrameWhy.TheVariants as frame
 use Rattle.dvg_check.specs.declared.fault.FrameWhy.{FrameWhy}
 use Rattle.dvg_items.specs.declared.seen.Seen.{Seen}
 use Rattle.dvg_words.specs.declared.machine.Machine.TheVariants.{Board}
-use Rattle.dvg_recipe.specs.Recipes.{PieceKind, PlaceSpan, Place, Call, Draw, Fixed, Takes, TakesDraw, NamesMade, Names, ComesTo,
-    IsEndIn, Arrives, Part, Row, Then', Either', Repeat', Piece, Jump, AddsPiece, AddsRow, Spells, SpellsJumps, Times}
+use Rattle.dvg_recipe.specs.Recipes.{PieceKind, PlaceSpan, Place, Call, Draw, Fixed, Takes, TakesDraw, NamesMade, Names, ComesTo, IsEndIn, Arrives, Part, Row, Then', Either', Repeat', Piece, Jump, AddsPiece, AddsRow, Spells, SpellsJumps, Times}
 use Rattle.dvg_recipe.specs.Private.Hulls.{Hull, AreUnder, KeepsOthers, IsKeyed, LeadOn}
-use Rattle.dvg_recipe.specs.Private.Judging.{Adds, AddsJumpTo, Both, TimesOver, Turns, LeadsIn, IsTaken, IsJump, IsFront, Extends,
-    IsGoodFront, Carries}
+use Rattle.dvg_recipe.specs.Private.Judging.{Adds, AddsJumpTo, Both, TimesOver, Turns, LeadsIn, IsTaken, IsJump, IsFront, Extends, IsGoodFront, Carries}
 use Rattle.dvg_recipe.proofs.Past.{format_there}
 use Rattle.dvg_recipe.proofs.Knowing.{known_once}
 

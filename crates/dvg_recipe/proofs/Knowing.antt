@@ -1,7 +1,5 @@
 -- By made entries just one thing is known behind the items of a frame.
-use Rattle.dvg_recipe.proofs.Common.{◌≡◌, ◌<◌, ◌≤◌, ◌+◌, ◌++◌, ◌∙◌, ℕ, zero, suc, List, [], ◌∷◌, Option, Some, None, length, take,
-    get_or, reverse, reverse-append, take-suc, take_all, refl, sym, ap, subst, ⊎_elim, cases_lt, arith, nat_tests, Contains,
-    Contains-append_cases}
+use Rattle.dvg_recipe.proofs.Common.{◌≡◌, ◌<◌, ◌≤◌, ◌+◌, ◌++◌, ◌∙◌, ℕ, zero, suc, List, [], ◌∷◌, Option, Some, None, length, take, get_or, reverse, reverse-append, take-suc, take_all, refl, sym, ap, subst, ⊎_elim, cases_lt, arith, nat_tests, Contains, Contains-append_cases}
 use Rattle.dvg_check.proofs.Common.{Entry, Key, Item, Known, Frame, target}
 use Rattle.dvg_words.specs.Memory.{Rom}
 use Rattle.dvg_words.specs.declared.machine.Machine.TheVariants.{Board}

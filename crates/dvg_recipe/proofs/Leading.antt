@@ -1,13 +1,10 @@
 -- What leads from one set of indices to another.
-use Rattle.dvg_recipe.proofs.Common.{◌≡◌, ◌<◌, ◌≤◌, ◌⊎◌, ◌++◌, ℕ, zero, suc, List, [], ◌∷◌, Contains, length, take, get_or, refl, sym,
-    subst, inl, inr, ⊎_elim, arith, take-suc, take_all, Contains-append_cases, Contains-append_left, Contains-append_right,
-    Contains-push_cases}
+use Rattle.dvg_recipe.proofs.Common.{◌≡◌, ◌<◌, ◌≤◌, ◌⊎◌, ◌++◌, ℕ, zero, suc, List, [], ◌∷◌, Contains, length, take, get_or, refl, sym, subst, inl, inr, ⊎_elim, arith, take-suc, take_all, Contains-append_cases, Contains-append_left, Contains-append_right, Contains-push_cases}
 use Rattle.std.proofs.Common.{Result, Ok, Err}
 use Rattle.dvg_recipe.proofs.Common.{IfOk}
 use Rattle.dvg_recipe.specs.Private.KnownPlaces.{ItemsOver}
 use Rattle.dvg_recipe.specs.Recipes.{Area, Piece, Part, Jump, Recipe}
-use Rattle.dvg_recipe.specs.Private.Indices.{Leads, Both, IsPast, IsJoined, PieceLeads, RowLeads, PartLeads, JumpLeads, JumpsLead,
-    ListStarts, SomeStarts, AreThose, RecipeLeads}
+use Rattle.dvg_recipe.specs.Private.Indices.{Leads, Both, IsPast, IsJoined, PieceLeads, RowLeads, PartLeads, JumpLeads, JumpsLead, ListStarts, SomeStarts, AreThose, RecipeLeads}
 use Rattle.dvg_recipe.proofs.Sets.{is_alone, alone, none_listed}
 
 -- ---- sets

@@ -1,12 +1,10 @@
 -- What leads on from one hull after another.
 use Rattle.std.specs.Prelude.{true}
-use Rattle.dvg_recipe.proofs.Common.{◌≡◌, ◌<◌, ◌≤◌, ℕ, suc, zero, Bool, false, Option, Some, None, IfSome, ap, ◌∙◌, List, [], ◌∷◌,
-    length, take, get_or, take-suc, take_all, cases_lt, refl, sym, subst, ⊎_elim, arith, Contains, Contains-append_cases}
+use Rattle.dvg_recipe.proofs.Common.{◌≡◌, ◌<◌, ◌≤◌, ℕ, suc, zero, Bool, false, Option, Some, None, IfSome, ap, ◌∙◌, List, [], ◌∷◌, length, take, get_or, take-suc, take_all, cases_lt, refl, sym, subst, ⊎_elim, arith, Contains, Contains-append_cases}
 use Rattle.dvg_check.proofs.Common.{Window, Entry, Known, Item, Instr, Draws, Labs, Halt, Jsrl, Rtsl, Jmpl, Format, Key, Any, Frame, target}
 use Rattle.dvg_cert.specs.declared.limits.TheConstants.{MOST_WORDS}
 use Rattle.dvg_items.specs.Known.{callee_at}
-use Rattle.dvg_recipe.specs.Private.Hulls.{Hull, Change, PlaceAct, CallAct, IsAct, places_of, Covers, AreUnder, IsInHull, IsChange,
-    HasFormat, HullKeeps, GoesOn, IsKeyed, IsInto, LeadOn, hull_past, IsSoundHull, AreNearPlaces}
+use Rattle.dvg_recipe.specs.Private.Hulls.{Hull, Change, PlaceAct, CallAct, IsAct, places_of, Covers, AreUnder, IsInHull, IsChange, HasFormat, HullKeeps, GoesOn, IsKeyed, IsInto, LeadOn, hull_past, IsSoundHull, AreNearPlaces}
 use Rattle.dvg_recipe.specs.Recipes.{PlaceRange, Place, TakesPlace, TakesCall}
 use Rattle.dvg_recipe.specs.Private.Judging.{IsTaken}
 use Rattle.dvg_recipe.proofs.Doing.{place_is, call_is, call_into}

@@ -1,6 +1,5 @@
 -- The worked recipe of all kinds of pieces: the frame that belongs, item by item, and why the others don't.
-use Rattle.dvg_recipe.proofs.Common.{◌≡◌, ◌≤◌, ◌+◌, ◌∙◌, ℕ, zero, suc, List, [], ◌∷◌, length, refl, sym, ap, subst, inl, inr, ⊎_elim,
-    arith, cases_lt, Contains, LeadsTo}
+use Rattle.dvg_recipe.proofs.Common.{◌≡◌, ◌≤◌, ◌+◌, ◌∙◌, ℕ, zero, suc, List, [], ◌∷◌, length, refl, sym, ap, subst, inl, inr, ⊎_elim, arith, cases_lt, Contains, LeadsTo}
 use Rattle.dvg_check.proofs.Common.{ints, pos, negsuc, Item, Board, Short, Long, Holds, Halt, Labs, Jsrl, Draws, Frame, frame_word, Source}
 unfoldable use Rattle.dvg_check.proofs.Common.{cell_at, instruction_of}
 use Rattle.dvg_items.proofs.Leading.{same_lead, too_long}
@@ -8,8 +7,7 @@ use Rattle.dvg_recipe.specs.Recipes.{Recipe, Area, Piece, Row, Either', AddsRow,
 use Rattle.dvg_words.specs.Memory.{Rom}
 use Rattle.dvg_recipe.specs.Private.KnownPlaces.{ItemsOver}
 use Rattle.dvg_recipe.specs.Private.Indices.{Leads, PieceLeads, RowLeads, PartLeads, TimesOver, ListStarts, RecipeLeads}
-use Rattle.dvg_recipe.specs.Examples.{VecOf, call_piece, place_piece, stroke_piece, dot_piece, ExampleParts, example_recipe,
-    member_words, member_items, past_place_words, third_turn_words, WorkedMembers}
+use Rattle.dvg_recipe.specs.Examples.{VecOf, call_piece, place_piece, stroke_piece, dot_piece, ExampleParts, example_recipe, member_words, member_items, past_place_words, third_turn_words, WorkedMembers}
 use Rattle.dvg_recipe.proofs.Fronts.{recipe_back}
 
 -- ---- the items of a frame

@@ -1,7 +1,6 @@
 -- Every frame of a recipe is good where its items lead to good fronts.
 use Rattle.dvg_recipe.proofs.Common.{◌≡◌, ◌≤◌, ◌+◌, ◌∙◌, ℕ, List, Contains, refl, sym, subst, ap, arith}
-use Rattle.dvg_check.proofs.Common.{Window, Entry, Item, Halt, Holds, Cell, Format, Short, FrameKeeps, CellKeeps, GoodFrame, Frame,
-    frame_word, frame_context, Context, seen_at, Source}
+use Rattle.dvg_check.proofs.Common.{Window, Entry, Item, Halt, Holds, Cell, Format, Short, FrameKeeps, CellKeeps, GoodFrame, Frame, frame_word, frame_context, Context, seen_at, Source}
 unfoldable use Rattle.dvg_check.proofs.Common.{cell_at}
 use Rattle.std.proofs.Common.{Result, Ok}
 use Rattle.dvg_items.specs.Known.{known_before}

@@ -1,16 +1,12 @@
 -- What leads on over the parts, the jumps and the lists of a recipe.
 use Rattle.std.proofs.Common.{Box, Global, Vec, ◌-◌}
-use Rattle.dvg_recipe.proofs.Common.{◌≡◌, ◌⊎◌, ◌≤◌, ◌<◌, ℕ, zero, suc, List, [], ◌∷◌, length, take, get_or, take-suc, take_all, refl,
-    sym, subst, ⊎_elim, arith, Contains, Contains-append_cases}
+use Rattle.dvg_recipe.proofs.Common.{◌≡◌, ◌⊎◌, ◌≤◌, ◌<◌, ℕ, zero, suc, List, [], ◌∷◌, length, take, get_or, take-suc, take_all, refl, sym, subst, ⊎_elim, arith, Contains, Contains-append_cases}
 use Rattle.dvg_check.proofs.Common.{Window, Entry, Item, ◌≢◌}
 use Rattle.dvg_recipe.specs.Limits.{PartFits, RowFits, JumpsFit, MOST_LEVELS, MOST_NESTED}
-use Rattle.dvg_recipe.specs.Recipes.{Part, Row, Then', Either', Repeat', Piece, Jump, Area, AddsRow, AddsJump, Spells, SpellsJumps,
-    Times, BeginsAt}
+use Rattle.dvg_recipe.specs.Recipes.{Part, Row, Then', Either', Repeat', Piece, Jump, Area, AddsRow, AddsJump, Spells, SpellsJumps, Times, BeginsAt}
 use Rattle.dvg_recipe.specs.Private.Hulls.{Hull, AreUnder, LeadOn}
-use Rattle.dvg_recipe.specs.Private.Judging.{Adds, Both, TimesOver, Turns, IsTaken, IsJump, IsFront, IsGoodFront, Carries, IsWithin,
-    IsFirst, AreListStarts, IsCounted}
-use Rattle.dvg_recipe.proofs.Judging.{extends_part, good_under, carries_same, carries_row_whole, carries_both, carries_under,
-    carries_either, good_item, carries_piece, carries_jump, carries_row_next, turn_next, turns_more, carries_jumps_next}
+use Rattle.dvg_recipe.specs.Private.Judging.{Adds, Both, TimesOver, Turns, IsTaken, IsJump, IsFront, IsGoodFront, Carries, IsWithin, IsFirst, AreListStarts, IsCounted}
+use Rattle.dvg_recipe.proofs.Judging.{extends_part, good_under, carries_same, carries_row_whole, carries_both, carries_under, carries_either, good_item, carries_piece, carries_jump, carries_row_next, turn_next, turns_more, carries_jumps_next}
 
 -- ---- hulls behind hulls
 

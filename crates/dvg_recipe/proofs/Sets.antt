@@ -1,6 +1,5 @@
 -- Sets of indices, as lists.
-use Rattle.dvg_recipe.proofs.Common.{◌≡◌, ◌<◌, ◌++◌, ℕ, zero, suc, List, [], ◌∷◌, Contains, insert, length, take, drop, get_or, sym,
-    subst, inl, inr, ⊎_elim, arith, take-append-drop, take-suc, Contains-append_cases, Contains-append_left, Contains-append_right}
+use Rattle.dvg_recipe.proofs.Common.{◌≡◌, ◌<◌, ◌++◌, ℕ, zero, suc, List, [], ◌∷◌, Contains, insert, length, take, drop, get_or, sym, subst, inl, inr, ⊎_elim, arith, take-append-drop, take-suc, Contains-append_cases, Contains-append_left, Contains-append_right}
 use Rattle.dvg_recipe.specs.Private.Indices.{IsJoined}
 
 pub is_alone : (x j : ℕ) → Contains (x ∷ []) j → x ≡ j

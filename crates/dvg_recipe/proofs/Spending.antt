@@ -1,19 +1,15 @@
 -- What items take that lead over the parts, the jumps and the lists of a recipe.
-use Rattle.dvg_recipe.proofs.Common.{◌≡◌, ◌⊎◌, ◌≤◌, ◌<◌, ℕ, suc, List, [], ◌∷◌, ◌++◌, length, take, get_or, take-suc, take_all, refl,
-    sym, ap, subst, ⊎_elim, arith, cases_lt, Option, None, Some, Contains, Contains-append_cases}
+use Rattle.dvg_recipe.proofs.Common.{◌≡◌, ◌⊎◌, ◌≤◌, ◌<◌, ℕ, suc, List, [], ◌∷◌, ◌++◌, length, take, get_or, take-suc, take_all, refl, sym, ap, subst, ⊎_elim, arith, cases_lt, Option, None, Some, Contains, Contains-append_cases}
 use Rattle.std.specs.Prelude.{true, false, OnOk, Result, Ok, Err}
-use Rattle.dvg_check.proofs.Common.{Entry, Item, Instr, Draws, Labs, Halt, Jsrl, Rtsl, Jmpl, Key, At, Any, Format, Short, Frame, ◌≢◌,
-    target, frame_context, Holds}
+use Rattle.dvg_check.proofs.Common.{Entry, Item, Instr, Draws, Labs, Halt, Jsrl, Rtsl, Jmpl, Key, At, Any, Format, Short, Frame, ◌≢◌, target, frame_context, Holds}
 use Rattle.dvg_words.specs.declared.machine.Machine.TheVariants.{Board}
 use Rattle.dvg_items.specs.Known.{scale_before, scale_set}
 use Rattle.dvg_clocks.specs.declared.clocks.States.{States}
 use Rattle.dvg_clocks.specs.declared.clocks.ClockRange.{ClockRange}
 use Rattle.dvg_clocks.specs.Forecasts.{plus, just, clocks_known, taken_before}
-use Rattle.dvg_recipe.specs.Recipes.{PieceKind, Place, Takes, TakesPlace, TakesCall, PlaceRange, Part, Piece, Jump, Area, Recipe,
-    AddsPiece, AddsRow, Spells, SpellsJumps, Times, BeginsAt}
+use Rattle.dvg_recipe.specs.Recipes.{PieceKind, Place, Takes, TakesPlace, TakesCall, PlaceRange, Part, Piece, Jump, Area, Recipe, AddsPiece, AddsRow, Spells, SpellsJumps, Times, BeginsAt}
 use Rattle.dvg_recipe.specs.Private.Judging.{Adds, AddsJumpTo, Both, TimesOver, Turns}
-use Rattle.dvg_recipe.specs.Private.Clocks.{MostClocks, most_at, IsUnder, AreNoMore, AreAlike, IsLabsAt, TakeOn, Spend, StartWith,
-    EndWith, AreUnderMost, AreListsUnder, scale_past, taken_past}
+use Rattle.dvg_recipe.specs.Private.Clocks.{MostClocks, most_at, IsUnder, AreNoMore, AreAlike, IsLabsAt, TakeOn, Spend, StartWith, EndWith, AreUnderMost, AreListsUnder, scale_past, taken_past}
 use Rattle.dvg_recipe.proofs.Judging.{row_split, jumps_split, times_last, JumpPart}
 use Rattle.dvg_recipe.proofs.Onward.{begins_here, begins_there, only_area}
 

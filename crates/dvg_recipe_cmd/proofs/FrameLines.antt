@@ -1,6 +1,5 @@
 -- The lines of frames, one after another.
-use Rattle.dvg_recipe_cmd.proofs.Common.{◌≡◌, refl, sym, ap, ◌∙◌, ℕ, List, [], ◌∷◌, ◌++◌, Option, Appends, AppendsPrefix, joined,
-    TakeOneWriteEach, FrameOutcome, worse}
+use Rattle.dvg_recipe_cmd.proofs.Common.{◌≡◌, refl, sym, ap, ◌∙◌, ℕ, List, [], ◌∷◌, ◌++◌, Option, Appends, AppendsPrefix, joined, TakeOneWriteEach, FrameOutcome, worse}
 use Rattle.dvg_cmd.specs.declared.detail.Behind.{Behind}
 use Rattle.dvg_cmd.specs.declared.detail.Detail.{Detail}
 use Rattle.dvg_cmd.specs.declared.listing.Listing.{Listing}

@@ -1,6 +1,5 @@
 -- Lines of things, one after another, over plain values.
-use Rattle.dvg_recipe_cmd.proofs.Common.{◌≡◌, refl, sym, ap, ◌∙◌, subst, ℕ, List, [], ◌∷◌, ◌++◌, Option, arith, Appends, AppendsPrefix,
-    Appends-nil, joined, TakeOneWriteEach, FrameOutcome, worse, Result, Ok, Err, IfOk, OnErr}
+use Rattle.dvg_recipe_cmd.proofs.Common.{◌≡◌, refl, sym, ap, ◌∙◌, subst, ℕ, List, [], ◌∷◌, ◌++◌, Option, arith, Appends, AppendsPrefix, Appends-nil, joined, TakeOneWriteEach, FrameOutcome, worse, Result, Ok, Err, IfOk, OnErr}
 use Rattle.dvg_spelling.specs.declared.outcome.FrameOutcome.TheVariants as outcome
 use Rattle.dvg_cmd.proofs.LineByLine.{both_sent, both_cut, first_cut}
 use Rattle.dvg_cmd.specs.Private.Sent.{Sent}

@@ -1,6 +1,5 @@
 -- The lines of a table, one after another.
-use Rattle.dvg_spelling.proofs.Common.{◌≡◌, ℕ, ◌+◌, ◌<◌, List, [], ◌∷◌, ◌++◌, length, take, get_or, refl, arith, row_text, rows_text,
-    append_assoc, append-nil, take_more}
+use Rattle.dvg_spelling.proofs.Common.{◌≡◌, ℕ, ◌+◌, ◌<◌, List, [], ◌∷◌, ◌++◌, length, take, get_or, refl, arith, row_text, rows_text, append_assoc, append-nil, take_more}
 use Rattle.dvg_spelling.specs.declared.rules.Rule.{Rule}
 
 rows_then : (rules : List Rule) (rule : Rule) → rows_text (rules ++ rule ∷ []) ≡ rows_text rules ++ row_text rule

@@ -1,6 +1,5 @@
 -- How many were refused by each number, one after another.
-use Rattle.dvg_spelling.proofs.Common.{◌≡◌, ℕ, ◌+◌, ◌<◌, List, [], ◌∷◌, ◌++◌, length, take, get_or, refl, ap, ◌∙◌, arith, refused_text,
-    refused_texts, append_assoc, append-nil, length-take, take_more}
+use Rattle.dvg_spelling.proofs.Common.{◌≡◌, ℕ, ◌+◌, ◌<◌, List, [], ◌∷◌, ◌++◌, length, take, get_or, refl, ap, ◌∙◌, arith, refused_text, refused_texts, append_assoc, append-nil, length-take, take_more}
 
 refused_then : (number : ℕ) (counts : List ℕ) (count : ℕ)
     → refused_texts number (counts ++ count ∷ []) ≡ refused_texts number counts ++ refused_text (number + length counts) count

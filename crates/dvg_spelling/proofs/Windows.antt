@@ -1,6 +1,5 @@
 -- How the text of a window is cut at its commas.
-use Rattle.dvg_spelling.proofs.Common.{◌≡◌, ◌≢◌, ℕ, ◌<◌, ◌≤◌, List, [], ◌∷◌, ◌++◌, length, get_or, Option, Bor, refl, sym, arith, ◌∙◌, ℤ,
-    pos, negsuc, rules, decimal, ◌≤ℤ◌, IfNone, signed_decimal, ints, join_with_byte, Window, IsWindow}
+use Rattle.dvg_spelling.proofs.Common.{◌≡◌, ◌≢◌, ℕ, ◌<◌, ◌≤◌, List, [], ◌∷◌, ◌++◌, length, get_or, Option, Bor, refl, sym, arith, ◌∙◌, ℤ, pos, negsuc, rules, decimal, ◌≤ℤ◌, IfNone, signed_decimal, ints, join_with_byte, Window, IsWindow}
 use Rattle.std.specs.Prelude.{nat_abs, MatchOption}
 use Rattle.std.proofs.lemmas.Str.Parse.{not_in_digits}
 use Rattle.std.proofs.lemmas.Str.Pattern.{split_after, IsSplitOnceResult}

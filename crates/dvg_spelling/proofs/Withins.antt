@@ -1,6 +1,5 @@
 -- How the text of milliseconds is cut at its point, and that it spells one number.
-use Rattle.dvg_spelling.proofs.Common.{◌≡◌, ◌≢◌, ℕ, ◌<◌, ◌≤◌, List, [], ◌∷◌, ◌++◌, length, get_or, Option, None, Some, Bor, refl, sym,
-    ap, arith, ◌∙◌, decimal}
+use Rattle.dvg_spelling.proofs.Common.{◌≡◌, ◌≢◌, ℕ, ◌<◌, ◌≤◌, List, [], ◌∷◌, ◌++◌, length, get_or, Option, None, Some, Bor, refl, sym, ap, arith, ◌∙◌, decimal}
 use Rattle.std.specs.Prelude.{◌⊎◌, ◌*◌, ◌+◌, MatchOption}
 use Rattle.std.proofs.Common.{inl, inr, length-append, subst}
 use Rattle.std.proofs.Math.Seq.{get_or-append_seam}

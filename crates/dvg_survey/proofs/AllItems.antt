@@ -1,6 +1,5 @@
 -- All items from a place on are determined, and so are the calls among them.
-use Rattle.dvg_survey.proofs.Common.{Source, ◌≡◌, ℕ, ◌<◌, ◌≤◌, List, [], ◌∷◌, length, sym, subst, arith, ⊎_elim, cases_lt, cell_at, Item,
-    LeadsTo, Stand, AreAll, Kind, item_same, same_lead}
+use Rattle.dvg_survey.proofs.Common.{Source, ◌≡◌, ℕ, ◌<◌, ◌≤◌, List, [], ◌∷◌, length, sym, subst, arith, ⊎_elim, cases_lt, cell_at, Item, LeadsTo, Stand, AreAll, Kind, item_same, same_lead}
 
 module _ (kind : Kind) (word : Source) (first : ℕ) where
   pub stand_before : (items : List Item) (p : ℕ) → LeadsTo kind word first items p → Stand kind word first items

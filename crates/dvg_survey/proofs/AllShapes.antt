@@ -1,7 +1,5 @@
 -- What the shapes of a list light at absolute places, entry after entry.
-use Rattle.dvg_survey.proofs.Common.{◌≡◌, ℕ, ◌+◌, ◌<◌, ◌≤◌, List, length, get_or, ◌∙◌, subst, arith, ⊎_elim, cases_lt, Rom, rom_word,
-    Entry, LitBox, Empty, Shape, shape_context, HoldsAll, absolute_points, AreJoined, ap, get_or_default, IsInside, IsExtent, HoldsShape,
-    HoldsShapes}
+use Rattle.dvg_survey.proofs.Common.{◌≡◌, ℕ, ◌+◌, ◌<◌, ◌≤◌, List, length, get_or, ◌∙◌, subst, arith, ⊎_elim, cases_lt, Rom, rom_word, Entry, LitBox, Empty, Shape, shape_context, HoldsAll, absolute_points, AreJoined, ap, get_or_default, IsInside, IsExtent, HoldsShape, HoldsShapes}
 use Rattle.dvg_survey.proofs.TailPoints.{wider}
 use Rattle.dvg_survey.proofs.AllItems.{one_all}
 

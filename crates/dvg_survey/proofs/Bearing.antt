@@ -1,8 +1,5 @@
 -- Which call of a shape bears out its entry's depth, and calls that do one below another.
-use Rattle.dvg_survey.proofs.Common.{◌≡◌, ℕ, suc, ◌+◌, ◌-◌, ◌<◌, ◌≤◌, List, [], ◌∷◌, ◌++◌, Some, refl, sym, ap, ◌∙◌, subst, arith,
-    AllByRecursion, Rom, rom_word, cell_at, Entry, Cursor, Item, Shape, Seen, IsClaim, IsCertificate, MemoryMap, Contains, Context,
-    callee, scale_before, shape_context, target, listed_claim, all_append, Call, call_of, calls_among, IsShapeCall, IsSeenAt,
-    append_assoc, append-nil, depth_under, named_listed, IsSoundStep, Step, step_past}
+use Rattle.dvg_survey.proofs.Common.{◌≡◌, ℕ, suc, ◌+◌, ◌-◌, ◌<◌, ◌≤◌, List, [], ◌∷◌, ◌++◌, Some, refl, sym, ap, ◌∙◌, subst, arith, AllByRecursion, Rom, rom_word, cell_at, Entry, Cursor, Item, Shape, Seen, IsClaim, IsCertificate, MemoryMap, Contains, Context, callee, scale_before, shape_context, target, listed_claim, all_append, Call, call_of, calls_among, IsShapeCall, IsSeenAt, append_assoc, append-nil, depth_under, named_listed, IsSoundStep, Step, step_past}
 use Rattle.dvg_survey.specs.Deepest.{BearsNot, FirstBears, GoDeepest}
 use Rattle.dvg_survey.proofs.Coming.{is_among}
 use Rattle.dvg_survey.proofs.Walking.{Walked, HoldsOfAll, Past, past, seen_is, here_leads, here_stands}

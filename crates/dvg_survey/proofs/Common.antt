@@ -5,31 +5,18 @@ pub use Rattle.std.proofs.lemmas.Bool.Decides.{Decides-int_eq}
 pub use Rattle.std.proofs.lemmas.List.{append-nil, get_or-set_other, reverse-append, length-map}
 pub use Rattle.std.specs.Int.{int_div_euclid}
 pub use Rattle.std.proofs.lemmas.Option.{slice_get_within}
-pub use Rattle.dvg_check.proofs.Common.{Source, ◌≡◌, ℕ, ◌<◌, List, [], ◌∷◌, length, sym, subst, arith, ⊎_elim, cases_lt, LeadsTo,
-    item_same, same_lead, ◌+◌, ◌≤◌, get_or, ◌∙◌, Contains, Rom, rom_word, shape_context, InBox, all_map, get_or_default, IsInside, suc,
-    ◌-◌, ◌++◌, Some, refl, ap, AllByRecursion, IsClaim, IsSomeCertificate, Context, callee, scale_before, target, listed_claim,
-    all_append, append_assoc, depth_under, named_listed, Option, IfSome, entry_at, listed_at, rules, common_steps, all_right, zero, Bool,
-    true, false, None, frame_word, frame_context, take, ◌⊎◌, inl, inr, nat_tests, next_address, shorter, everywhere, ◌≢◌, replicate,
-    get_or-set_same, pos, ℤ, ◌+ℤ◌, ◌*ℤ◌, ints, Window, LitInWindow, box_extent, seen_at, place_before, extent, ShapeKeeps, CellKeeps,
-    ShapePlaceKeeps, IsNearPlace, known_before, next_further, seen_by, IsNearBox, first_seen, known_over, origin, shift, origin_shift,
-    shift_shift, moved, place_over, reverse, scale_set, IsSoundCursor, IsSoundStep, w16, w64, to_z-of_z, SFits, IsNearExtent, set_number,
-    next_near, box_more, ITEM_REACH, IsCertificate, unwrap_or, Entry, Item, ADDRESS_END, Rel, Abs, Lost, Empty, Span, Holds, Missing,
-    Odd, Key, LitBox, Seen, Shape, End, Known, Point, Format, Instr, Kind, LitExtent, Machine, length-append}
-pub use Rattle.dvg_cert.proofs.Common.{is_some, slice_get, ◌||◌, is_at, IfNone, IsOnlyAt, HasNoneAt, IsRising, Contains-get_or,
-    MemoryMap, cond, ◌↔◌}
+pub use Rattle.dvg_check.proofs.Common.{Source, ◌≡◌, ℕ, ◌<◌, List, [], ◌∷◌, length, sym, subst, arith, ⊎_elim, cases_lt, LeadsTo, item_same, same_lead, ◌+◌, ◌≤◌, get_or, ◌∙◌, Contains, Rom, rom_word, shape_context, InBox, all_map, get_or_default, IsInside, suc, ◌-◌, ◌++◌, Some, refl, ap, AllByRecursion, IsClaim, IsSomeCertificate, Context, callee, scale_before, target, listed_claim, all_append, append_assoc, depth_under, named_listed, Option, IfSome, entry_at, listed_at, rules, common_steps, all_right, zero, Bool, true, false, None, frame_word, frame_context, take, ◌⊎◌, inl, inr, nat_tests, next_address, shorter, everywhere, ◌≢◌, replicate, get_or-set_same, pos, ℤ, ◌+ℤ◌, ◌*ℤ◌, ints, Window, LitInWindow, box_extent, seen_at, place_before, extent, ShapeKeeps, CellKeeps, ShapePlaceKeeps, IsNearPlace, known_before, next_further, seen_by, IsNearBox, first_seen, known_over, origin, shift, origin_shift, shift_shift, moved, place_over, reverse, scale_set, IsSoundCursor, IsSoundStep, w16, w64, to_z-of_z, SFits, IsNearExtent, set_number, next_near, box_more, ITEM_REACH, IsCertificate, unwrap_or, Entry, Item, ADDRESS_END, Rel, Abs, Lost, Empty, Span, Holds, Missing, Odd, Key, LitBox, Seen, Shape, End, Known, Point, Format, Instr, Kind, LitExtent, Machine, length-append}
+pub use Rattle.dvg_cert.proofs.Common.{is_some, slice_get, ◌||◌, is_at, IfNone, IsOnlyAt, HasNoneAt, IsRising, Contains-get_or, MemoryMap, cond, ◌↔◌}
 pub use Rattle.dvg_items.proofs.Common.{callee_at, AtEachOf}
 unfoldable pub use Rattle.dvg_check.proofs.Common.{cell_at}
 pub use Rattle.dvg_survey.specs.Calls.{Stand, AreAll, IsExtent, HoldsShape, HoldsShapes, Call, call_of, calls_among, AreCalls}
-pub use Rattle.dvg_survey.specs.Private.Reaching.{Link, AllSteps, IsBackward, IsStep, reach, reach_all, entries_of, IsReachedByFrame,
-    IsReachedByShape, AreNames, name_of, IsTrace}
+pub use Rattle.dvg_survey.specs.Private.Reaching.{Link, AllSteps, IsBackward, IsStep, reach, reach_all, entries_of, IsReachedByFrame, IsReachedByShape, AreNames, name_of, IsTrace}
 pub use Rattle.dvg_survey.specs.Private.KeyedWords.{KeyedWord, AreNone, HasWord, word_number, is_marked, with_word}
 pub use Rattle.dvg_survey.specs.Private.Lighting.{Lit, IsLitFrom, keyed, relative_part, absolute_part, AreTails, AreJoined}
 pub use Rattle.dvg_items.specs.Least.{HoldsAll, absolute_points, IsLeast, lit_points}
 pub use Rattle.dvg_survey.specs.Chains.{IsShapeCall, Calls, LeadsOn, IsChain, IsFrameCall}
-pub use Rattle.dvg_survey.specs.Private.Sweeping.{is_broken, IsUnbroken, IsCleanItem, IsClean, IsFaulty, Breaks, AllBreak, IsSwept,
-    TellsBroken}
-pub use Rattle.dvg_survey.specs.Places.{CallPlaces, HasPlace, IsCallAt, whole_place, EntryPlaces, ArePlaces, AreAllPlaces, IsNotEmpty,
-    ShapeKeepsWindow}
+pub use Rattle.dvg_survey.specs.Private.Sweeping.{is_broken, IsUnbroken, IsCleanItem, IsClean, IsFaulty, Breaks, AllBreak, IsSwept, TellsBroken}
+pub use Rattle.dvg_survey.specs.Places.{CallPlaces, HasPlace, IsCallAt, whole_place, EntryPlaces, ArePlaces, AreAllPlaces, IsNotEmpty, ShapeKeepsWindow}
 pub use Rattle.dvg_items.specs.Lit.{absolute_corners, relative_corners, corners}
 pub use Rattle.dvg_survey.specs.Private.Visiting.{CallsFrom, IsMet, AllMet, AreNewCalls}
 pub use Rattle.dvg_survey.specs.Private.Walking.{IsSeenAt, context_of}

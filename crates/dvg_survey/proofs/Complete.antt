@@ -1,10 +1,5 @@
 -- No entry that a frame comes to is left out.
-use Rattle.dvg_survey.proofs.Common.{add-one, Source, ◌≡◌, ℕ, ◌+◌, ◌≤◌, length-append, length-map, cond, zero, suc, Bool, true, false,
-    List, [], ◌∷◌, ◌++◌, length, take, Option, Some, None, is_some, refl, sym, ◌∙◌, subst, arith, ⊎_elim, All, AllByRecursion, slice_get,
-    Rom, rom_word, Entry, entry_at, Context, all_map, append_assoc, append-nil, shape_context, IsClaim, IsSomeCertificate, listed_at,
-    listed_claim, Call, IsShapeCall, LeadsOn, IsChain, Link, AllSteps, IsBackward, IsStep, entries_of, reach_all, KeyedWord, AreNone,
-    HasWord, frame_word, frame_context, Calls, IsFrameCall, IsReachedByFrame, IsReachedByShape, CallsFrom, IsMet, named_listed, target,
-    scale_before}
+use Rattle.dvg_survey.proofs.Common.{add-one, Source, ◌≡◌, ℕ, ◌+◌, ◌≤◌, length-append, length-map, cond, zero, suc, Bool, true, false, List, [], ◌∷◌, ◌++◌, length, take, Option, Some, None, is_some, refl, sym, ◌∙◌, subst, arith, ⊎_elim, All, AllByRecursion, slice_get, Rom, rom_word, Entry, entry_at, Context, all_map, append_assoc, append-nil, shape_context, IsClaim, IsSomeCertificate, listed_at, listed_claim, Call, IsShapeCall, LeadsOn, IsChain, Link, AllSteps, IsBackward, IsStep, entries_of, reach_all, KeyedWord, AreNone, HasWord, frame_word, frame_context, Calls, IsFrameCall, IsReachedByFrame, IsReachedByShape, CallsFrom, IsMet, named_listed, target, scale_before}
 use Rattle.std.proofs.lemmas.List.{take_all}
 use Rattle.std.proofs.lemmas.List.Elements.{All-from_recursion}
 use Rattle.dvg_items.proofs.Lists.{at_place}

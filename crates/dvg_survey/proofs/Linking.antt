@@ -1,7 +1,5 @@
 -- The names of links, and one link more.
-use Rattle.dvg_survey.proofs.Common.{◌≡◌, ℕ, zero, suc, ◌+◌, refl, sym, ◌<◌, Bool, true, false, List, [], ◌∷◌, ◌++◌, take, get_or,
-    get_or-set_same, length, Option, Some, is_some, ap, ◌∙◌, arith, ◌⊎◌, inl, inr, ⊎_elim, slice_get, IsKey, Key, entry_at, Call,
-    word_number, with_word, Link, entries_of, reach, reach_all, ◌||◌, AreNames, name_of, AreNone}
+use Rattle.dvg_survey.proofs.Common.{◌≡◌, ℕ, zero, suc, ◌+◌, refl, sym, ◌<◌, Bool, true, false, List, [], ◌∷◌, ◌++◌, take, get_or, get_or-set_same, length, Option, Some, is_some, ap, ◌∙◌, arith, ◌⊎◌, inl, inr, ⊎_elim, slice_get, IsKey, Key, entry_at, Call, word_number, with_word, Link, entries_of, reach, reach_all, ◌||◌, AreNames, name_of, AreNone}
 use Rattle.std.proofs.lemmas.List.{take_more}
 use Rattle.dvg_cert.proofs.OnlyEntries.{at_holds, at_means}
 use Rattle.dvg_survey.proofs.Marks.{others_among, here_or_other}

@@ -1,6 +1,5 @@
 -- KeyedWords and their numbers, and sets of them.
-use Rattle.dvg_survey.proofs.Common.{◌≡◌, ◌≢◌, ℕ, zero, suc, List, Bool, true, false, get_or, refl, sym, ◌∙◌, arith, ◌⊎◌, inl, inr,
-    ⊎_elim, cases_lt, IsKey, KeyedWord, word_number, is_marked, with_word, HasWord, replicate, get_or-set_other}
+use Rattle.dvg_survey.proofs.Common.{◌≡◌, ◌≢◌, ℕ, zero, suc, List, Bool, true, false, get_or, refl, sym, ◌∙◌, arith, ◌⊎◌, inl, inr, ⊎_elim, cases_lt, IsKey, KeyedWord, word_number, is_marked, with_word, HasWord, replicate, get_or-set_other}
 
 -- at first there is none
 pub false_at : (n k : ℕ) → get_or (replicate n false) k false ≡ false

@@ -1,6 +1,5 @@
 -- Whole places from which a distance leads no further than to a screen place, and those at which a box lies in the window.
-use Rattle.dvg_survey.proofs.Common.{◌≡◌, pos, arith, int_div_euclid, Entry, LitBox, Span, Seen, ℤ, ◌+ℤ◌, ◌*ℤ◌, ◌≤ℤ◌, ◌↔◌, ints, Window,
-    IsBox, LitInWindow, box_extent, CallPlaces, HasPlace, IsCallAt, whole_place}
+use Rattle.dvg_survey.proofs.Common.{◌≡◌, pos, arith, int_div_euclid, Entry, LitBox, Span, Seen, ℤ, ◌+ℤ◌, ◌*ℤ◌, ◌≤ℤ◌, ◌↔◌, ints, Window, IsBox, LitInWindow, box_extent, CallPlaces, HasPlace, IsCallAt, whole_place}
 
 pub quotient : (d : ℤ) → ((pos 1024 *ℤ int_div_euclid d (pos 1024)) ≤ℤ d) × (d ≤ℤ ((pos 1024 *ℤ int_div_euclid d (pos 1024)) +ℤ pos 1023))
 quotient d = grind (arith, ints)

@@ -1,11 +1,5 @@
 -- The entries from which calls lead to a shape that lights outside the window, found sweep by sweep.
-use Rattle.dvg_survey.proofs.Common.{get_or-set_other, Format, Instr, ◌≡◌, ℕ, ◌+◌, ◌<◌, Bool, true, false, List, [], ◌∷◌, ◌++◌, length,
-    get_or, take, Option, Some, None, refl, sym, ap, ◌∙◌, subst, arith, ◌⊎◌, inl, inr, ⊎_elim, Contains, IfSome, Rom, rom_word, cell_at,
-    Holds, Entry, entry_at, Item, Shape, Cursor, Context, shape_context, callee, scale_before, target, seen_at, IsSomeCertificate,
-    listed_claim, Seen, Call, LeadsOn, KeyedWord, with_word, AreNone, IsSeenAt, get_or_default, Contains-append_left, Contains-push,
-    Contains-push_cases, IfNone, IsPermutation, Window, IsOnlyAt, HasNoneAt, IsRising, place_before, extent, LitInWindow, named_listed,
-    EntryPlaces, ArePlaces, AreAllPlaces, IsNotEmpty, ShapeKeepsWindow, IsSoundStep, Step, length-append, step_past, is_broken,
-    IsUnbroken, IsCleanItem, IsClean, IsFaulty, Breaks, AllBreak, IsSwept, TellsBroken}
+use Rattle.dvg_survey.proofs.Common.{get_or-set_other, Format, Instr, ◌≡◌, ℕ, ◌+◌, ◌<◌, Bool, true, false, List, [], ◌∷◌, ◌++◌, length, get_or, take, Option, Some, None, refl, sym, ap, ◌∙◌, subst, arith, ◌⊎◌, inl, inr, ⊎_elim, Contains, IfSome, Rom, rom_word, cell_at, Holds, Entry, entry_at, Item, Shape, Cursor, Context, shape_context, callee, scale_before, target, seen_at, IsSomeCertificate, listed_claim, Seen, Call, LeadsOn, KeyedWord, with_word, AreNone, IsSeenAt, get_or_default, Contains-append_left, Contains-push, Contains-push_cases, IfNone, IsPermutation, Window, IsOnlyAt, HasNoneAt, IsRising, place_before, extent, LitInWindow, named_listed, EntryPlaces, ArePlaces, AreAllPlaces, IsNotEmpty, ShapeKeepsWindow, IsSoundStep, Step, length-append, step_past, is_broken, IsUnbroken, IsCleanItem, IsClean, IsFaulty, Breaks, AllBreak, IsSwept, TellsBroken}
 use Rattle.std.proofs.lemmas.List.{take_more}
 use Rattle.std.proofs.Math.ListN.{get_or-eq_default}
 use Rattle.std.proofs.lemmas.Grind.{get_or-set_at}

@@ -1,13 +1,7 @@
 -- An item and what stands behind it light together what the shape from the item on lights.
-use Rattle.dvg_survey.proofs.Common.{append-nil, LitExtent, Machine, ◌≡◌, ℕ, pos, ◌+◌, ◌-◌, ◌<◌, ◌≤◌, List, [], ◌∷◌, ◌++◌, Option, Some,
-    None, refl, sym, ap, ◌∙◌, subst, arith, cell_at, Rom, rom_word, Point, Holds, ADDRESS_END, End, Rel, Entry, Key, LitBox, Empty,
-    LeadsTo, next_address, callee_at, target, HoldsAll, IsLeast, absolute_points, InBox, absolute_corners, relative_corners, seen_at,
-    Cursor, Item, Shape, Known, Seen, AreJoined, all_append, AreAll, Lit, IsLitFrom, keyed, relative_part, absolute_part, Context,
-    IsNearPlace, first_cursor, known_before, lit_points, seen_with, all_left, all_right, next_further, append_assoc, seen_by, IsNearBox,
-    first_seen, known_over, IsNearBox-joined, box_more, ITEM_REACH, IsNearBox-moved}
+use Rattle.dvg_survey.proofs.Common.{append-nil, LitExtent, Machine, ◌≡◌, ℕ, pos, ◌+◌, ◌-◌, ◌<◌, ◌≤◌, List, [], ◌∷◌, ◌++◌, Option, Some, None, refl, sym, ap, ◌∙◌, subst, arith, cell_at, Rom, rom_word, Point, Holds, ADDRESS_END, End, Rel, Entry, Key, LitBox, Empty, LeadsTo, next_address, callee_at, target, HoldsAll, IsLeast, absolute_points, InBox, absolute_corners, relative_corners, seen_at, Cursor, Item, Shape, Known, Seen, AreJoined, all_append, AreAll, Lit, IsLitFrom, keyed, relative_part, absolute_part, Context, IsNearPlace, first_cursor, known_before, lit_points, seen_with, all_left, all_right, next_further, append_assoc, seen_by, IsNearBox, first_seen, known_over, IsNearBox-joined, box_more, ITEM_REACH, IsNearBox-moved}
 use Rattle.dvg_check.proofs.TailLaws.{seen_over, seen_by_over, over_none}
-use Rattle.dvg_survey.proofs.TailPoints.{relative_from, absolute_from, relative_from_both, absolute_from_both, relative_over,
-    absolute_over, relative_least, absolute_least, both_least}
+use Rattle.dvg_survey.proofs.TailPoints.{relative_from, absolute_from, relative_from_both, absolute_from_both, relative_over, absolute_over, relative_least, absolute_least, both_least}
 use Rattle.dvg_survey.proofs.Walking.{least_none}
 
 -- what is seen of the first item doesn't depend on where it stands

@@ -1,7 +1,5 @@
 -- What is lit behind an item, from the points that a tail lights.
-use Rattle.dvg_survey.proofs.Common.{◌≡◌, sym, List, [], ◌∷◌, ◌++◌, refl, arith, Point, End, Rel, Abs, Lost, LitBox, Empty, Span,
-    HoldsAll, IsLeast, LitExtent, InBox, absolute_corners, relative_corners, AreJoined, append-nil, all_map, relative_part,
-    absolute_part, rules, common_steps, ints, map, origin, shift, IsInside, corners, in_wider, origin_shift, shift_shift, moved, place_over}
+use Rattle.dvg_survey.proofs.Common.{◌≡◌, sym, List, [], ◌∷◌, ◌++◌, refl, arith, Point, End, Rel, Abs, Lost, LitBox, Empty, Span, HoldsAll, IsLeast, LitExtent, InBox, absolute_corners, relative_corners, AreJoined, append-nil, all_map, relative_part, absolute_part, rules, common_steps, ints, map, origin, shift, IsInside, corners, in_wider, origin_shift, shift_shift, moved, place_over}
 use Rattle.std.specs.Prelude.{◌-ℤ◌}
 use Rattle.std.proofs.lemmas.List.{map-append}
 use Rattle.dvg_items.specs.declared.lit.LitExtent.TheVariants.{Between}

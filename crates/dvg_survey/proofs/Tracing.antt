@@ -1,7 +1,5 @@
 -- A chain followed back from a link to the frame.
-use Rattle.dvg_survey.proofs.Common.{◌≡◌, ℕ, ◌+◌, ◌<◌, List, [], ◌∷◌, ◌++◌, Option, None, Some, refl, sym, ap, ◌∙◌, subst, slice_get,
-    Rom, Entry, Call, LeadsOn, IsChain, Link, AllSteps, IsStep, reverse, reverse-append, IsTrace, IsBackward, IfSome, length, arith,
-    slice_get_within}
+use Rattle.dvg_survey.proofs.Common.{◌≡◌, ℕ, ◌+◌, ◌<◌, List, [], ◌∷◌, ◌++◌, Option, None, Some, refl, sym, ap, ◌∙◌, subst, slice_get, Rom, Entry, Call, LeadsOn, IsChain, Link, AllSteps, IsStep, reverse, reverse-append, IsTrace, IsBackward, IfSome, length, arith, slice_get_within}
 
 -- these calls lead from the link at an index, or where there is none from the frame, to the goal
 abbrev pub Leads : Rom → List ℕ → List Entry → List Link → Option ℕ → List Call → Entry → Type 0

@@ -1,9 +1,5 @@
 -- A walk over a shape that stops where an earlier one came by: what is called from there on was met then.
-use Rattle.dvg_survey.proofs.Common.{◌≡◌, ℕ, ◌+◌, ◌<◌, ◌≤◌, List, [], ◌∷◌, ◌++◌, Option, Some, None, refl, sym, ap, ◌∙◌, subst, arith,
-    ◌⊎◌, inl, inr, ⊎_elim, Bool, true, Contains, AllByRecursion, cell_at, Rom, rom_word, Holds, Entry, Key, IsKey, LeadsTo, next_address,
-    callee_at, scale_before, shape_context, target, Item, Shape, Call, call_of, IsShapeCall, keyed, KeyedWord, is_marked, with_word,
-    HasWord, Contains-append_left, Contains-append_right, unwrap_or, Format, Instr, scale_set, item_same, next_further, all_append,
-    CallsFrom, IsMet, AllMet, AreNewCalls}
+use Rattle.dvg_survey.proofs.Common.{◌≡◌, ℕ, ◌+◌, ◌<◌, ◌≤◌, List, [], ◌∷◌, ◌++◌, Option, Some, None, refl, sym, ap, ◌∙◌, subst, arith, ◌⊎◌, inl, inr, ⊎_elim, Bool, true, Contains, AllByRecursion, cell_at, Rom, rom_word, Holds, Entry, Key, IsKey, LeadsTo, next_address, callee_at, scale_before, shape_context, target, Item, Shape, Call, call_of, IsShapeCall, keyed, KeyedWord, is_marked, with_word, HasWord, Contains-append_left, Contains-append_right, unwrap_or, Format, Instr, scale_set, item_same, next_further, all_append, CallsFrom, IsMet, AllMet, AreNewCalls}
 use Rattle.dvg_survey.proofs.Coming.{one_call}
 use Rattle.dvg_survey.proofs.Marks.{there_or_here}
 

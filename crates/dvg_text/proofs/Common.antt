@@ -1,9 +1,7 @@
 -- The names that these proofs share, passed on from one place, the most cited first. Declares nothing.
-pub use Rattle.std.proofs.Common.{◌≢◌, append_assoc, eqb, ltb, leb, map, replicate, drop-cons, length-drop, lit<, lit≤,
-    drop_of_length-le, w64, Result, Err, Ok}
+pub use Rattle.std.proofs.Common.{◌≢◌, append_assoc, eqb, ltb, leb, map, replicate, drop-cons, length-drop, lit<, lit≤, drop_of_length-le, w64, Result, Err, Ok}
 pub use Rattle.std.specs.Prelude.{decimal, codes, nat_le, pos, neg_ℤ, negsuc, ℤ, OnErr, count_by, int_le}
-pub use Rattle.std.proofs.lemmas.List.{append-nil, length-append, take-append-drop, length-map, take-take, get_or-take, length-replicate,
-    nil_from_length, take-append-le, take_rest}
+pub use Rattle.std.proofs.lemmas.List.{append-nil, length-append, take-append-drop, length-map, take-take, get_or-take, length-replicate, nil_from_length, take-append-le, take_rest}
 pub use Rattle.std.specs.Str.Parse.{AllDigits, digits_value}
 pub use Rattle.std.proofs.lemmas.Option.{none-some, cond_some, some_pair_parts}
 pub use Rattle.std.proofs.lemmas.Fmt.{decimal_is_IsNumeral, decimal-digits_value, length-decimal-le, decimal_digit, decimal-digits_of}
@@ -23,16 +21,10 @@ pub use Rattle.std.proofs.lemmas.Slice.Eq.{bytes_eq-Decides}
 pub use Rattle.std.proofs.lemmas.Str.{digit_value_digit}
 pub use Rattle.std.proofs.lemmas.Result.{on_err_weaker, on_ok_weaker}
 pub use Rattle.std.proofs.lemmas.List.Concat.{flat_map-append}
-pub use Rattle.dvg_cert.proofs.Common.{◌≡◌, ℕ, ◌+◌, ◌-◌, ◌<◌, ◌≤◌, Bool, true, false, List, [], ◌∷◌, ◌++◌, length, Option, Some, None,
-    refl, sym, ap, subst, ◌∙◌, arith, inl, inr, ◌⊎◌, ◌==◌, nat_lt, nat_tests, MemoryMap, Before, StandsAfter, suc, cond, take, drop,
-    position, not, position_or_len, zero, add-one, length-take-le, rules, common_steps, get_or, one-add, ◌&&◌, IfSome, IfNone,
-    if◌then◌else◌, IsMap, IsEntry, AllByRecursion, IsCertificate}
+pub use Rattle.dvg_cert.proofs.Common.{◌≡◌, ℕ, ◌+◌, ◌-◌, ◌<◌, ◌≤◌, Bool, true, false, List, [], ◌∷◌, ◌++◌, length, Option, Some, None, refl, sym, ap, subst, ◌∙◌, arith, inl, inr, ◌⊎◌, ◌==◌, nat_lt, nat_tests, MemoryMap, Before, StandsAfter, suc, cond, take, drop, position, not, position_or_len, zero, add-one, length-take-le, rules, common_steps, get_or, one-add, ◌&&◌, IfSome, IfNone, if◌then◌else◌, IsMap, IsEntry, AllByRecursion, IsCertificate}
 pub use Rattle.dvg_words.proofs.Common.{◌%◌, ◌^◌, ◌*◌, ◌/◌, ints, to_z-of_z}
-pub use Rattle.dvg_text.specs.Reading.{Line, EntryLine, DoneLine, IsLine, Taken, Nothing, Versioned, Begun, Whole, text_taken,
-    line_number, Holds, MayStand, IsUnended, IsWrong, Meets, StopsAt, IsRefusal, Without, IsElsewhere, IsTaken, IsRest, ReadAnswer,
-    HasEntryAt}
-pub use Rattle.dvg_text.specs.Grammar.{first_version_line, second_version_line, done_line, ended, text_of, address_token, key_token,
-    rom_line, heading, entry_line, end_tokens, box_tokens, entry_tokens, Spells}
+pub use Rattle.dvg_text.specs.Reading.{Line, EntryLine, DoneLine, IsLine, Taken, Nothing, Versioned, Begun, Whole, text_taken, line_number, Holds, MayStand, IsUnended, IsWrong, Meets, StopsAt, IsRefusal, Without, IsElsewhere, IsTaken, IsRest, ReadAnswer, HasEntryAt}
+pub use Rattle.dvg_text.specs.Grammar.{first_version_line, second_version_line, done_line, ended, text_of, address_token, key_token, rom_line, heading, entry_line, end_tokens, box_tokens, entry_tokens, Spells}
 pub use Rattle.dvg_cert.specs.declared.fault.CertWhy.TheVariants.{Form, Order, Count, After, TooLong, Memory, Unended}
 pub use Rattle.dvg_text.specs.Limits.{LONGEST_LINE, LINE_FEED, MOST_MAGNITUDE, SPACE}
 unfoldable pub use Rattle.dvg_text.specs.Private.Fields.{natural_in, address_in, rom_at, past, digits_off, natural_at, digit_at,

@@ -1,7 +1,5 @@
 -- Cutting bytes at a byte.
-use Rattle.dvg_text.proofs.Common.{◌≡◌, ℕ, zero, suc, ◌+◌, ◌<◌, ◌≤◌, false, List, [], ◌∷◌, ◌++◌, length, get_or, take, drop, take-length,
-    Option, Some, None, refl, sym, ap, subst, ◌∙◌, arith, ◌==◌, position, position_or_len, add-one, drop-cons, eqb-true,
-    take-append-drop, get_or-take, length-take-le, nat_tests, Without}
+use Rattle.dvg_text.proofs.Common.{◌≡◌, ℕ, zero, suc, ◌+◌, ◌<◌, ◌≤◌, false, List, [], ◌∷◌, ◌++◌, length, get_or, take, drop, take-length, Option, Some, None, refl, sym, ap, subst, ◌∙◌, arith, ◌==◌, position, position_or_len, add-one, drop-cons, eqb-true, take-append-drop, get_or-take, length-take-le, nat_tests, Without}
 use Rattle.std.proofs.lemmas.List.Sums.{fails_before_first, position_or_len_is}
 use Rattle.std.proofs.lemmas.List.Quantifiers.{position-Some}
 use Rattle.memchr.specs.Find.{IsFirstByte, is_byte}

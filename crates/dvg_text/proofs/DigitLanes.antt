@@ -1,7 +1,5 @@
 -- Digits among the lanes of a vector.
-use Rattle.dvg_text.proofs.Common.{◌≡◌, ℕ, suc, ◌+◌, ◌-◌, ◌%◌, ◌^◌, ◌<◌, ◌≤◌, Bool, true, false, not, eqb, ltb, leb, cond, List, [], ◌∷◌,
-    map, length, take, drop, get_or, replicate, refl, ap, ◌∙◌, arith, one-add, agree_below_at, nat_tests, length-map, prefix_len,
-    digit_value, AllDigits, NoDigitFirst}
+use Rattle.dvg_text.proofs.Common.{◌≡◌, ℕ, suc, ◌+◌, ◌-◌, ◌%◌, ◌^◌, ◌<◌, ◌≤◌, Bool, true, false, not, eqb, ltb, leb, cond, List, [], ◌∷◌, map, length, take, drop, get_or, replicate, refl, ap, ◌∙◌, arith, one-add, agree_below_at, nat_tests, length-map, prefix_len, digit_value, AllDigits, NoDigitFirst}
 use Rattle.std.proofs.lemmas.List.Sums.{prefix_len-le-length}
 use Rattle.std.proofs.lemmas.Simd.{mask_l-mod, first_set_mask_l, zip2_splat, zip2_splat_left, map-map}
 use lib.Lanes.{mask_l, zip2, top}

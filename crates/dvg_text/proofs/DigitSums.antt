@@ -1,9 +1,6 @@
 -- The number that digits in the bytes of a word write.
 use Rattle.std.specs.Str.Parse.{digits_value_after}
-use Rattle.dvg_text.proofs.Common.{take-add, ◌≡◌, ℕ, zero, suc, ◌+◌, ◌-◌, ◌*◌, ◌/◌, ◌%◌, ◌^◌, ◌<◌, ◌≤◌, List, [], ◌∷◌, ◌++◌, map,
-    replicate, length, length-append, take, drop, subst, drop-cons, length-drop, refl, sym, ap, ◌∙◌, arith, digit_value, AllDigits,
-    digits_value, take-take, length-take-le, get_or-take, length-replicate, digit_value_digit, digit_from_value, digits_value_short,
-    NoDigitFirst, rules, common_steps, and_block, and_mask}
+use Rattle.dvg_text.proofs.Common.{take-add, ◌≡◌, ℕ, zero, suc, ◌+◌, ◌-◌, ◌*◌, ◌/◌, ◌%◌, ◌^◌, ◌<◌, ◌≤◌, List, [], ◌∷◌, ◌++◌, map, replicate, length, length-append, take, drop, subst, drop-cons, length-drop, refl, sym, ap, ◌∙◌, arith, digit_value, AllDigits, digits_value, take-take, length-take-le, get_or-take, length-replicate, digit_value_digit, digit_from_value, digits_value_short, NoDigitFirst, rules, common_steps, and_block, and_mask}
 use Rattle.std.specs.List.{slice_index}
 use Rattle.std.specs.Int.Bits.{bit_and}
 use Rattle.std.proofs.lemmas.Nat.{mul-mod_first, pow-add}

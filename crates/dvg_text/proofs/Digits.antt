@@ -1,8 +1,5 @@
 -- Tokens of digits, byte by byte.
-use Rattle.dvg_text.proofs.Common.{decimal_digit, ◌≡◌, ℕ, zero, suc, ◌+◌, ◌-◌, ◌*◌, ◌^◌, ◌<◌, ◌≤◌, List, [], ◌∷◌, length, get_or, take,
-    refl, sym, ap, ◌∙◌, arith, add-one, decimal, nat_lt, nat_tests, digit_value, AllDigits, digits_value, digit_value_digit,
-    IsNumeralModel, digits_value_short, digits_value-lt, digits_value_more, decimal_is_IsNumeral, decimal-digits_value,
-    length-decimal-le, MOST_MAGNITUDE, rules, common_steps}
+use Rattle.dvg_text.proofs.Common.{decimal_digit, ◌≡◌, ℕ, zero, suc, ◌+◌, ◌-◌, ◌*◌, ◌^◌, ◌<◌, ◌≤◌, List, [], ◌∷◌, length, get_or, take, refl, sym, ap, ◌∙◌, arith, add-one, decimal, nat_lt, nat_tests, digit_value, AllDigits, digits_value, digit_value_digit, IsNumeralModel, digits_value_short, digits_value-lt, digits_value_more, decimal_is_IsNumeral, decimal-digits_value, length-decimal-le, MOST_MAGNITUDE, rules, common_steps}
 use Rattle.dvg_text.proofs.FieldValues.{first_digit}
 
 pub own : IsNumeralModel (λ ds. AllDigits 10 ds) (digits_value 10)

@@ -1,10 +1,5 @@
 -- A text is read byte by byte, and has one answer.
-use Rattle.dvg_text.proofs.Common.{cases_eq, ne_eqb, ◌≡◌, ◌≢◌, ℕ, ◌+◌, ◌-◌, ◌*◌, ◌<◌, ◌≤◌, List, [], ◌∷◌, ◌++◌, length, inl, inr, true,
-    false, Bool, Result, Ok, Err, if◌then◌else◌, ◌==◌, refl, sym, ap, subst, ◌∙◌, arith, codes, decimal, count_by, cond, flat_map,
-    append_assoc, append-nil, length-append, nat_tests, lit<, each_mid, MemoryMap, asteroids, is_asteroids, LONGEST_LINE, LINE_FEED,
-    Entry, IsCertificate, Certificate, CertWhy, CertFault, After, TooLong, Unended, Memory, first_version_line, second_version_line,
-    rom_line, entry_line, entry_tokens, done_line, ended, begun_with, text_of, Taken, Nothing, Versioned, Begun, Whole, text_taken,
-    line_number, IsTaken, IsUnended, Holds, Meets, StopsAt, IsRefusal, ReadAnswer, Without}
+use Rattle.dvg_text.proofs.Common.{cases_eq, ne_eqb, ◌≡◌, ◌≢◌, ℕ, ◌+◌, ◌-◌, ◌*◌, ◌<◌, ◌≤◌, List, [], ◌∷◌, ◌++◌, length, inl, inr, true, false, Bool, Result, Ok, Err, if◌then◌else◌, ◌==◌, refl, sym, ap, subst, ◌∙◌, arith, codes, decimal, count_by, cond, flat_map, append_assoc, append-nil, length-append, nat_tests, lit<, each_mid, MemoryMap, asteroids, is_asteroids, LONGEST_LINE, LINE_FEED, Entry, IsCertificate, Certificate, CertWhy, CertFault, After, TooLong, Unended, Memory, first_version_line, second_version_line, rom_line, entry_line, entry_tokens, done_line, ended, begun_with, text_of, Taken, Nothing, Versioned, Begun, Whole, text_taken, line_number, IsTaken, IsUnended, Holds, Meets, StopsAt, IsRefusal, ReadAnswer, Without}
 use Rattle.std.proofs.lemmas.List.Sums.{sum_by_push}
 use Rattle.dvg_text.proofs.Leading.{Text}
 use Rattle.dvg_text.proofs.Graphics.{line_free, graphics_entry, graphic_decimal, Without-append}

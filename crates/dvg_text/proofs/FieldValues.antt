@@ -1,8 +1,5 @@
 -- A field that is read is the field that is spelled, and what is spelled is read again.
-use Rattle.dvg_text.proofs.Common.{◌≡◌, ◌⊎◌, inl, inr, ℕ, ◌/◌, ◌%◌, ◌^◌, ◌<◌, ◌≤◌, true, false, List, ◌∷◌, length, Option, Some, None,
-    IfSome, IfNone, refl, sym, subst, arith, codes, decimal, nat_le, nat_lt, pos, neg_ℤ, signed_decimal, digit_glyph, bytes_eq,
-    digits_value, bytes_eq-Decides, nat_tests, cond_some, and_parts, decimal_is_IsNumeral, AllDigits, MOST_MAGNITUDE, ADDRESS_END, Key,
-    IsNumber, IsKey, address_token, key_token, natural_in, hex_value, address_in, rules}
+use Rattle.dvg_text.proofs.Common.{◌≡◌, ◌⊎◌, inl, inr, ℕ, ◌/◌, ◌%◌, ◌^◌, ◌<◌, ◌≤◌, true, false, List, ◌∷◌, length, Option, Some, None, IfSome, IfNone, refl, sym, subst, arith, codes, decimal, nat_le, nat_lt, pos, neg_ℤ, signed_decimal, digit_glyph, bytes_eq, digits_value, bytes_eq-Decides, nat_tests, cond_some, and_parts, decimal_is_IsNumeral, AllDigits, MOST_MAGNITUDE, ADDRESS_END, Key, IsNumber, IsKey, address_token, key_token, natural_in, hex_value, address_in, rules}
 
 pub natural_some : (low high n : ℕ) (token : List ℕ) → n < 2 ^ 64 → low ≤ n → n ≤ high → token ≡ decimal n
     → natural_in low high token ≡ Some n

@@ -1,8 +1,5 @@
 -- The lines before the entries: which map they say, and that they say one.
-use Rattle.dvg_text.proofs.Common.{bytes_eq-Decides, past, ◌≡◌, ◌≢◌, ℕ, ◌≤◌, true, false, List, [], ◌∷◌, ◌++◌, length, Some, None, refl,
-    sym, ap, ◌∙◌, arith, lit<, flat_map, codes, append-nil, and_parts, nat_tests, some_pair_parts, none-some, MemoryMap, IsMap,
-    asteroids, is_asteroids, LINE_FEED, address_token, first_version_line, second_version_line, rom_line, heading, ended, begun_with,
-    Without, IsElsewhere, rom_at, nothing_left, append_assoc, Entry, entry_line, flat_map-append}
+use Rattle.dvg_text.proofs.Common.{bytes_eq-Decides, past, ◌≡◌, ◌≢◌, ℕ, ◌≤◌, true, false, List, [], ◌∷◌, ◌++◌, length, Some, None, refl, sym, ap, ◌∙◌, arith, lit<, flat_map, codes, append-nil, and_parts, nat_tests, some_pair_parts, none-some, MemoryMap, IsMap, asteroids, is_asteroids, LINE_FEED, address_token, first_version_line, second_version_line, rom_line, heading, ended, begun_with, Without, IsElsewhere, rom_at, nothing_left, append_assoc, Entry, entry_line, flat_map-append}
 use Rattle.dvg_text.proofs.Leading.{Text}
 use Rattle.dvg_text.proofs.Graphics.{line_free, graphic_hex}
 use Rattle.dvg_text.proofs.Steps.{past_reads, address_reads, address_spelled}

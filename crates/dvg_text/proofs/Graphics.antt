@@ -1,7 +1,5 @@
 -- Lines: a spelled line has no line end inside.
-use Rattle.dvg_text.proofs.Common.{AllByRecursion, ℕ, ◌/◌, ◌%◌, ◌^◌, ◌<◌, ◌≤◌, List, [], ◌∷◌, ◌++◌, refl, arith, lit≤, codes, decimal,
-    pos, negsuc, true, digit_glyph, AllDigits, join_with_byte, digit_from_value, nat_tests, LINE_FEED, SPACE, Key, End, LitBox, Entry,
-    IsKey, IsEnd, IsBox, IsEntry, address_token, key_token, end_tokens, box_tokens, entry_tokens, Without}
+use Rattle.dvg_text.proofs.Common.{AllByRecursion, ℕ, ◌/◌, ◌%◌, ◌^◌, ◌<◌, ◌≤◌, List, [], ◌∷◌, ◌++◌, refl, arith, lit≤, codes, decimal, pos, negsuc, true, digit_glyph, AllDigits, join_with_byte, digit_from_value, nat_tests, LINE_FEED, SPACE, Key, End, LitBox, Entry, IsKey, IsEnd, IsBox, IsEntry, address_token, key_token, end_tokens, box_tokens, entry_tokens, Without}
 use Rattle.dvg_text.proofs.FieldValues.{first_digit}
 use Rattle.dvg_text.proofs.Leading.{Text}
 

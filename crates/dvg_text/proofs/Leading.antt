@@ -1,7 +1,5 @@
 -- The digits that bytes begin with.
-use Rattle.dvg_text.proofs.Common.{◌≡◌, ℕ, ◌+◌, ◌^◌, ◌<◌, ◌≤◌, List, [], ◌∷◌, ◌++◌, length, take, drop, Some, None, refl, sym, ap, subst,
-    ◌∙◌, arith, decimal, get_or, drop_of_length-le, AllDigits, digits_value, append-nil, nil_from_length, take-append-drop,
-    length-take-le, MOST_MAGNITUDE, natural_in, NoDigitFirst}
+use Rattle.dvg_text.proofs.Common.{◌≡◌, ℕ, ◌+◌, ◌^◌, ◌<◌, ◌≤◌, List, [], ◌∷◌, ◌++◌, length, take, drop, Some, None, refl, sym, ap, subst, ◌∙◌, arith, decimal, get_or, drop_of_length-le, AllDigits, digits_value, append-nil, nil_from_length, take-append-drop, length-take-le, MOST_MAGNITUDE, natural_in, NoDigitFirst}
 use Rattle.dvg_text.proofs.FieldValues.{natural_some, natural_none, first_digit}
 use Rattle.dvg_text.proofs.Digits.{same_decimal, spells, below, no_zero, not_long}
 

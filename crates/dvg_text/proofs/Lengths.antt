@@ -1,7 +1,5 @@
 -- How long a line is.
-use Rattle.dvg_text.proofs.Common.{◌≡◌, ℕ, suc, ◌+◌, ◌≤◌, List, [], ◌∷◌, ◌++◌, length, arith, w64, MOST_ENTRIES, SPACE, codes, decimal,
-    ℤ, pos, negsuc, signed_decimal, join_with_byte, length-append, length-decimal-le, MOST_WORDS, to_z-of_z, ints, Key, End, LitBox,
-    Entry, IsNumber, IsKey, IsEnd, IsBox, IsEntry, key_token, end_tokens, box_tokens, entry_tokens, entry_line, done_line}
+use Rattle.dvg_text.proofs.Common.{◌≡◌, ℕ, suc, ◌+◌, ◌≤◌, List, [], ◌∷◌, ◌++◌, length, arith, w64, MOST_ENTRIES, SPACE, codes, decimal, ℤ, pos, negsuc, signed_decimal, join_with_byte, length-append, length-decimal-le, MOST_WORDS, to_z-of_z, ints, Key, End, LitBox, Entry, IsNumber, IsKey, IsEnd, IsBox, IsEntry, key_token, end_tokens, box_tokens, entry_tokens, entry_line, done_line}
 use Rattle.std.proofs.Math.Nat.{le_trans}
 use mir.Val.{SFits}
 

@@ -1,10 +1,5 @@
 -- What a line makes of the lines before it: the lines with it, or what is wrong.
-use Rattle.dvg_text.proofs.Common.{RAM_WORDS, MEMORY_LAST, ◌≡◌, ℕ, ◌+◌, ◌⊎◌, inl, inr, Bool, List, [], ◌∷◌, ◌++◌, length, Option, Some,
-    None, Result, Ok, Err, if◌then◌else◌, ◌&&◌, ◌==◌, not, refl, sym, arith, nat_le, nat_lt, nat_tests, bytes_eq, bytes_eq-Decides,
-    eqb-true, length-append, MemoryMap, asteroids, is_asteroids, MOST_ENTRIES, Line, EntryLine, DoneLine, CertWhy, Form, Order, Count,
-    After, TooLong, Entry, IsCertificate, Before, StandsAfter, first_version_line, second_version_line, rom_line, entry_line, done_line,
-    ended, IsLine, IsElsewhere, Taken, Nothing, Versioned, Begun, Whole, text_taken, line_number, IsTaken, IsRest, IsUnended, IsWrong,
-    rom_at, nothing_left, certificate_push, no_entry_yet, small_map, each_mid, rising_mid}
+use Rattle.dvg_text.proofs.Common.{RAM_WORDS, MEMORY_LAST, ◌≡◌, ℕ, ◌+◌, ◌⊎◌, inl, inr, Bool, List, [], ◌∷◌, ◌++◌, length, Option, Some, None, Result, Ok, Err, if◌then◌else◌, ◌&&◌, ◌==◌, not, refl, sym, arith, nat_le, nat_lt, nat_tests, bytes_eq, bytes_eq-Decides, eqb-true, length-append, MemoryMap, asteroids, is_asteroids, MOST_ENTRIES, Line, EntryLine, DoneLine, CertWhy, Form, Order, Count, After, TooLong, Entry, IsCertificate, Before, StandsAfter, first_version_line, second_version_line, rom_line, entry_line, done_line, ended, IsLine, IsElsewhere, Taken, Nothing, Versioned, Begun, Whole, text_taken, line_number, IsTaken, IsRest, IsUnended, IsWrong, rom_at, nothing_left, certificate_push, no_entry_yet, small_map, each_mid, rising_mid}
 use Rattle.dvg_text.proofs.Leading.{Text}
 use Rattle.dvg_text.proofs.WholeLines.{said, line_takes, line_again}
 use Rattle.dvg_text.proofs.FirstLines.{map_of, rom_reads, rom_again, nowhere_said, other_said, first_taken, rom_taken, begun_push}

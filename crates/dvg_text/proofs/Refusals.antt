@@ -1,9 +1,5 @@
 -- What refuses a text, from what the reader holds.
-use Rattle.dvg_text.proofs.Common.{◌≡◌, ◌≢◌, ℕ, zero, suc, ◌+◌, ◌-◌, ◌<◌, List, [], ◌∷◌, ◌++◌, length, get_or, take, drop, Ok, Err, refl,
-    sym, ap, ◌∙◌, append_assoc, arith, append-nil, length-append, length-take-le, nat_tests, MemoryMap, asteroids, LONGEST_LINE,
-    LINE_FEED, Entry, IsCertificate, entry_line, rom_line, begun_with, text_of, ended, IsRefusal, HasEntryAt, IsElsewhere, Begun, Whole,
-    Taken, Without, text_taken, line_number, IsTaken, IsUnended, IsRest, Holds, Meets, IsLineRefused, EndsLine, StartsWith, taken_of,
-    IsStaged, CertFault, CertWhy, Unended, After, TooLong, Memory, no_entry_yet}
+use Rattle.dvg_text.proofs.Common.{◌≡◌, ◌≢◌, ℕ, zero, suc, ◌+◌, ◌-◌, ◌<◌, List, [], ◌∷◌, ◌++◌, length, get_or, take, drop, Ok, Err, refl, sym, ap, ◌∙◌, append_assoc, arith, append-nil, length-append, length-take-le, nat_tests, MemoryMap, asteroids, LONGEST_LINE, LINE_FEED, Entry, IsCertificate, entry_line, rom_line, begun_with, text_of, ended, IsRefusal, HasEntryAt, IsElsewhere, Begun, Whole, Taken, Without, text_taken, line_number, IsTaken, IsUnended, IsRest, Holds, Meets, IsLineRefused, EndsLine, StartsWith, taken_of, IsStaged, CertFault, CertWhy, Unended, After, TooLong, Memory, no_entry_yet}
 use Rattle.dvg_text.specs.declared.taken.Stage.{Stage}
 use Rattle.dvg_text.specs.declared.taken.Stage.TheVariants.{First, Rom}
 use Rattle.dvg_text.proofs.Graphics.{Without-append}

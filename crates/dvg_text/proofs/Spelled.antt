@@ -1,9 +1,5 @@
 -- A line put together token by token, and a text line by line.
-use Rattle.dvg_text.proofs.Common.{End, LitBox, ◌≡◌, true, false, ℕ, ◌+◌, ◌<◌, List, [], ◌∷◌, ◌++◌, length, get_or, take, drop, Option,
-    Result, refl, sym, ap, subst, ◌∙◌, append_assoc, arith, add-one, codes, decimal, OnErr, flat_map, append-nil, length-append,
-    take-append-le, take-append-drop, Appends, MemoryMap, is_asteroids, LINE_FEED, SPACE, Entry, entry_line, end_tokens, box_tokens,
-    address_token, key_token, ended, begun_with, text_of, done_line, first_version_line, second_version_line, rom_line, AppendsPrefix,
-    spaced, Buffered, take-length, take-append-add, rules, common_steps, flat_map-append, Appends-nil, Appends-trans, cut_at}
+use Rattle.dvg_text.proofs.Common.{End, LitBox, ◌≡◌, true, false, ℕ, ◌+◌, ◌<◌, List, [], ◌∷◌, ◌++◌, length, get_or, take, drop, Option, Result, refl, sym, ap, subst, ◌∙◌, append_assoc, arith, add-one, codes, decimal, OnErr, flat_map, append-nil, length-append, take-append-le, take-append-drop, Appends, MemoryMap, is_asteroids, LINE_FEED, SPACE, Entry, entry_line, end_tokens, box_tokens, address_token, key_token, ended, begun_with, text_of, done_line, first_version_line, second_version_line, rom_line, AppendsPrefix, spaced, Buffered, take-length, take-append-add, rules, common_steps, flat_map-append, Appends-nil, Appends-trans, cut_at}
 use Rattle.dvg_text.proofs.WholeLines.{end_text, box_text, entry_joined}
 use Rattle.dvg_text.proofs.FirstLines.{begun_push, asteroids_is, first_taken, rom_taken}
 

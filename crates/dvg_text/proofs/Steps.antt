@@ -1,9 +1,5 @@
 -- A field that is read from the front of bytes is spelled there, and what is spelled there is read again.
-use Rattle.dvg_text.proofs.Common.{natural_in, bytes_eq-Decides, inl, inr, ◌≡◌, ℕ, ◌+◌, ◌-◌, ◌^◌, ◌<◌, ◌≤◌, [], ◌∷◌, ◌++◌, length, map,
-    take, drop, get_or, Some, None, refl, sym, ap, ◌∙◌, arith, decimal, nat_le, nat_lt, digit_value, AllDigits, digits_value, eqb-true,
-    nat_tests, decimal_digit, decimal-digits_of, digits_of_step, take-append-drop, length-append, take-append_seam, digit_value_digit,
-    MOST_MAGNITUDE, ADDRESS_END, Key, IsKey, address_token, key_token, NoDigitFirst, past, digits_off, natural_at, digit_at, address_at,
-    key_at}
+use Rattle.dvg_text.proofs.Common.{natural_in, bytes_eq-Decides, inl, inr, ◌≡◌, ℕ, ◌+◌, ◌-◌, ◌^◌, ◌<◌, ◌≤◌, [], ◌∷◌, ◌++◌, length, map, take, drop, get_or, Some, None, refl, sym, ap, ◌∙◌, arith, decimal, nat_le, nat_lt, digit_value, AllDigits, digits_value, eqb-true, nat_tests, decimal_digit, decimal-digits_of, digits_of_step, take-append-drop, length-append, take-append_seam, digit_value_digit, MOST_MAGNITUDE, ADDRESS_END, Key, IsKey, address_token, key_token, NoDigitFirst, past, digits_off, natural_at, digit_at, address_at, key_at}
 use Rattle.std.proofs.lemmas.Bool.Decides.{Decides-eqb}
 use Rattle.dvg_text.proofs.FieldValues.{Says, says, natural_some, first_digit, address_takes, address_again}
 use Rattle.dvg_text.proofs.Leading.{Text, same_number, digits_lead}

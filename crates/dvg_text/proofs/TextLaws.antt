@@ -1,6 +1,5 @@
 -- The laws of texts.
-use Rattle.dvg_text.proofs.Common.{◌≡◌, ◌≢◌, ℕ, List, ◌++◌, ◌∷◌, [], Result, Ok, Err, refl, ap, sym, subst, ◌∙◌, append_assoc, arith,
-    CertWhy, Unended, Memory, CertFault, begun_with, text_of, Certificate, Taken, Nothing, MayStand, IsRefusal, StopsAt, ReadAnswer}
+use Rattle.dvg_text.proofs.Common.{◌≡◌, ◌≢◌, ℕ, List, ◌++◌, ◌∷◌, [], Result, Ok, Err, refl, ap, sym, subst, ◌∙◌, append_assoc, arith, CertWhy, Unended, Memory, CertFault, begun_with, text_of, Certificate, Taken, Nothing, MayStand, IsRefusal, StopsAt, ReadAnswer}
 use Rattle.dvg_text.specs.Laws.{NotMemory, OneText, OneCertificate, OneAnswer, ReadBack, OpenAnswer, OpenPrefix, ShortText}
 use Rattle.dvg_text.proofs.FirstLines.{few_heads}
 use Rattle.dvg_text.proofs.EachByte.{read, read_held, ReadIs, whole_read, kept, stuck_read, answer, answer_is, one_answer}

@@ -1,14 +1,9 @@
 -- A line that is read says what it is read as, and each line that says something is read as that.
-use Rattle.dvg_text.proofs.Common.{◌≢◌, bytes_eq-Decides, nat_tests, ◌≡◌, ℕ, ◌<◌, ◌≤◌, List, [], ◌∷◌, ◌++◌, Option, Some, None, refl,
-    sym, ap, ◌∙◌, append_assoc, arith, codes, decimal, ℤ, pos, negsuc, int_le, signed_decimal, join_with_byte, option_map, option_or,
-    decimal_digit, ints, append-nil, digit_from_value, MOST_ENTRIES, MOST_MAGNITUDE, ADDRESS_END, SPACE, End, LitBox, Entry, IsNumber,
-    IsEnd, IsBox, IsEntry, address_token, key_token, end_tokens, box_tokens, entry_line, done_line, Line, EntryLine, DoneLine, IsLine,
-    NoDigitFirst, past, number_at, two_at, end_at, span_at, box_at, entry_at, done_at, nothing_left}
+use Rattle.dvg_text.proofs.Common.{◌≢◌, bytes_eq-Decides, nat_tests, ◌≡◌, ℕ, ◌<◌, ◌≤◌, List, [], ◌∷◌, ◌++◌, Option, Some, None, refl, sym, ap, ◌∙◌, append_assoc, arith, codes, decimal, ℤ, pos, negsuc, int_le, signed_decimal, join_with_byte, option_map, option_or, decimal_digit, ints, append-nil, digit_from_value, MOST_ENTRIES, MOST_MAGNITUDE, ADDRESS_END, SPACE, End, LitBox, Entry, IsNumber, IsEnd, IsBox, IsEntry, address_token, key_token, end_tokens, box_tokens, entry_line, done_line, Line, EntryLine, DoneLine, IsLine, NoDigitFirst, past, number_at, two_at, end_at, span_at, box_at, entry_at, done_at, nothing_left}
 use Rattle.dvg_text.proofs.FieldValues.{Says, says, first_digit, negated}
 use Rattle.dvg_text.proofs.Digits.{not_zero}
 use Rattle.dvg_text.proofs.Leading.{Text}
-use Rattle.dvg_text.proofs.Steps.{past_reads, natural_reads, natural_again, digit_reads, digit_again, address_reads, address_spelled,
-    key_reads, key_spelled}
+use Rattle.dvg_text.proofs.Steps.{past_reads, natural_reads, natural_again, digit_reads, digit_again, address_reads, address_spelled, key_reads, key_spelled}
 
 -- ---- what stands around the fields
 

@@ -1,6 +1,5 @@
 -- There is one verdict on bytes.
-use Rattle.dvg_verdict.proofs.Common.{List, length, sym, ap, ◌≡◌, ◌∙◌, ℕ, arith, Rom, rom_on, Window, GoodFrame, Err, Ok, Result,
-    Certificate, Spells, ReadAnswer}
+use Rattle.dvg_verdict.proofs.Common.{List, length, sym, ap, ◌≡◌, ◌∙◌, ℕ, arith, Rom, rom_on, Window, GoodFrame, Err, Ok, Result, Certificate, Spells, ReadAnswer}
 use Rattle.dvg_words.specs.declared.machine.Machine.{Machine}
 use Rattle.dvg_cert.specs.declared.entry.Entry.{Entry}
 use Rattle.dvg_check.specs.declared.fault.Mode.{Mode}

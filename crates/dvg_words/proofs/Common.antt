@@ -1,6 +1,5 @@
 -- The names that these proofs share, passed on from one place, the most cited first. Declares nothing.
-pub use Rattle.std.proofs.Common.{refl, ℕ, arith, ◌≡◌, ◌*◌, ℤ, pos, ◌*ℤ◌, negsuc, neg_ℤ, suc, ◌+◌, ◌/◌, ◌%◌, ◌^◌, ◌≤◌, ◌<◌, nat_le, ◌+ℤ◌,
-    ◌∙◌, subst, zero, length, List, [], ◌∷◌, get_or, slice_get, Some, rules, ap, IsTrue, ◌↔◌, Bool}
+pub use Rattle.std.proofs.Common.{refl, ℕ, arith, ◌≡◌, ◌*◌, ℤ, pos, ◌*ℤ◌, negsuc, neg_ℤ, suc, ◌+◌, ◌/◌, ◌%◌, ◌^◌, ◌≤◌, ◌<◌, nat_le, ◌+ℤ◌, ◌∙◌, subst, zero, length, List, [], ◌∷◌, get_or, slice_get, Some, rules, ap, IsTrue, ◌↔◌, Bool}
 pub use Rattle.std.proofs.lemmas.Int.{ints, to_z-of_z}
 pub use Rattle.std.proofs.lemmas.Bool.Decides.{nat_tests}
 pub use Rattle.std.specs.Prelude.{◌≤ℤ◌}

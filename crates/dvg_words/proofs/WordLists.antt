@@ -1,6 +1,5 @@
 -- The words of a list of bytes, by their places.
-use Rattle.dvg_words.proofs.Common.{◌≡◌, ℕ, ◌+◌, ◌*◌, ◌/◌, ◌≤◌, zero, suc, List, [], ◌∷◌, length, get_or, slice_get, Some, refl, arith,
-    words_of, IsFrame, IsFrameLength}
+use Rattle.dvg_words.proofs.Common.{◌≡◌, ℕ, ◌+◌, ◌*◌, ◌/◌, ◌≤◌, zero, suc, List, [], ◌∷◌, length, get_or, slice_get, Some, refl, arith, words_of, IsFrame, IsFrameLength}
 
 -- two bytes to a word
 pub words_of_len : (bs : List ℕ) → length (words_of bs) ≡ length bs / 2

@@ -1,5 +1,4 @@
-use Rattle.dvg_check.proofs.Common.{length, arith, List, refl, subst, get_or, take, ◌-◌, ◌≤◌, ◌<◌, ℕ, cases_lt, AllByRecursion, Entry,
-    IsTail, GoodShape, get_or_default}
+use Rattle.dvg_check.proofs.Common.{length, arith, List, refl, subst, get_or, take, ◌-◌, ◌≤◌, ◌<◌, ℕ, cases_lt, AllByRecursion, Entry, IsTail, GoodShape, get_or_default}
 use Rattle.dvg_check.specs.declared.slots.TheConstants.{SLOTS}
 use Rattle.dvg_check.proofs.Listed.{no_entry}
 use Rattle.dvg_check.proofs.TailRows.{all_take, claim_at, none_kept}

@@ -1,6 +1,5 @@
 -- The word that a start puts in.
-use Rattle.dvg_cmd.proofs.Common.{◌≡◌, ◌+◌, ◌*◌, ◌/◌, ◌%◌, ◌<◌, ℕ, Option, Some, arith, opcode, instruction_of, cell_at, cell_of_words,
-    Machine}
+use Rattle.dvg_cmd.proofs.Common.{◌≡◌, ◌+◌, ◌*◌, ◌/◌, ◌%◌, ◌<◌, ℕ, Option, Some, arith, opcode, instruction_of, cell_at, cell_of_words, Machine}
 use Rattle.dvg_words.specs.Decoding.{target_of}
 use Rattle.dvg_words.specs.declared.instruction.Cell.TheVariants.{Holds}
 use Rattle.dvg_words.specs.declared.instruction.Format.TheVariants.{Short}

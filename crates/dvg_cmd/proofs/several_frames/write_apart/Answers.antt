@@ -1,8 +1,7 @@
 use Rattle.dvg_cmd.proofs.Common.{sym, ◌∙◌, inl, inr, has_account}
 use Rattle.dvg_cmd.specs.SeveralFrames.{blank_line}
 use Rattle.dvg_cmd.proofs.Writing.{no_blank, none_sent}
-use Rattle.dvg_cmd.proofs.several_frames.write_apart.Goals.{else-has_account-via-then-has_account+else-written,
-    else-has_account-via-else-has_account}
+use Rattle.dvg_cmd.proofs.several_frames.write_apart.Goals.{else-has_account-via-then-has_account+else-written, else-has_account-via-else-has_account}
 use Rattle.dvg_cmd.proofs.several_frames.write_apart.Goals as goal
 
 pub returns-else-has_account-clause-sent : goal.returns-else-has_account-clause-sent

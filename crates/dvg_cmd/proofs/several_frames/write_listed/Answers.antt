@@ -1,5 +1,4 @@
-use Rattle.dvg_cmd.proofs.Common.{◌≡◌, arith, common_steps, subst, sym, true, [], ◌∷◌, AppendsPrefix, joined, Line, line_outcome,
-    has_account}
+use Rattle.dvg_cmd.proofs.Common.{◌≡◌, arith, common_steps, subst, sym, true, [], ◌∷◌, AppendsPrefix, joined, Line, line_outcome, has_account}
 use Rattle.dvg_cmd.specs.SeveralFrames.{blank_line, is_written, line_text}
 use Rattle.dvg_cmd.specs.Private.Sent.{Sent}
 use Rattle.dvg_cmd.proofs.LineByLine.{both_cut, both_sent}

@@ -1,5 +1,4 @@
-use Rattle.dvg_form.proofs.Common.{◌≡◌, ◌++◌, [], length, take, refl, arith, rules, ◌∙◌, ap, flat_map, heading, entry_line, done_line,
-    ended, text_of}
+use Rattle.dvg_form.proofs.Common.{◌≡◌, ◌++◌, [], length, take, refl, arith, rules, ◌∙◌, ap, flat_map, heading, entry_line, done_line, ended, text_of}
 use Rattle.std.proofs.lemmas.Grind.{common_steps}
 use Rattle.dvg_cert.specs.Entry.{IsEntry}
 use Rattle.dvg_text.specs.Reading.{EntryLine, DoneLine}

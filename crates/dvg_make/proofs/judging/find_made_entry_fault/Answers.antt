@@ -1,7 +1,5 @@
 -- Where a made shape ends at a relative place, none of its items stands at an absolute one.
-use Rattle.dvg_make.proofs.Common.{ℕ, List, [], ◌∷◌, sym, ap, subst, Rom, rom_word, Window, End, Entry, Context, shape_context,
-    place_past, place_before, LitInWindow, Item, Shape, Known, LitExtent, GoodShape, Exact, MadeEntry, arith, AtEachOf, AtEveryPlace,
-    everywhere, IsRelative}
+use Rattle.dvg_make.proofs.Common.{ℕ, List, [], ◌∷◌, sym, ap, subst, Rom, rom_word, Window, End, Entry, Context, shape_context, place_past, place_before, LitInWindow, Item, Shape, Known, LitExtent, GoodShape, Exact, MadeEntry, arith, AtEachOf, AtEveryPlace, everywhere, IsRelative}
 use Rattle.dvg_make.proofs.Ends.{made_ends, good_entry}
 use Rattle.dvg_make.proofs.judging.find_made_entry_fault.Goals as goal
 

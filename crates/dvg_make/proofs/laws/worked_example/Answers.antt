@@ -1,7 +1,5 @@
 -- The worked example is made.
-use Rattle.dvg_make.proofs.Common.{◌≡◌, ℕ, zero, List, [], ◌∷◌, Some, None, refl, ap, subst, inl, arith, screen, cell_at, rom_word,
-    Holds, Entry, Key, At, next_address, shape_context, target, scale_before, Exact, Item, Shape, lit_points, IsLeast, HasEntry,
-    EachItem, MadeEntry, displacement, Profile, example_entry, example_list, all_kept, Made}
+use Rattle.dvg_make.proofs.Common.{◌≡◌, ℕ, zero, List, [], ◌∷◌, Some, None, refl, ap, subst, inl, arith, screen, cell_at, rom_word, Holds, Entry, Key, At, next_address, shape_context, target, scale_before, Exact, Item, Shape, lit_points, IsLeast, HasEntry, EachItem, MadeEntry, displacement, Profile, example_entry, example_list, all_kept, Made}
 use Rattle.dvg_words.specs.Example.{example_rom}
 use Rattle.dvg_check.proofs.Example.{draw_item, return_item, draw_there, return_there, worked_example as example_good}
 use Rattle.dvg_make.proofs.Ends.{other_window}

@@ -1,5 +1,4 @@
-use Rattle.dvg_survey.proofs.Common.{arith, sym, ap, subst, ℕ, ◌≡◌, ◌+◌, ◌-◌, ◌∙◌, ADDRESS_END, Cursor, Seen, Shape, IsNearPlace,
-    next_near, box_more, ITEM_REACH}
+use Rattle.dvg_survey.proofs.Common.{arith, sym, ap, subst, ℕ, ◌≡◌, ◌+◌, ◌-◌, ◌∙◌, ADDRESS_END, Cursor, Seen, Shape, IsNearPlace, next_near, box_more, ITEM_REACH}
 use Rattle.dvg_survey.proofs.TailLaws.{before, ending, seen_first}
 use Rattle.dvg_survey.proofs.tails.tail_at.Goals as goal
 

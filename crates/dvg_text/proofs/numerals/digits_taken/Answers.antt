@@ -1,7 +1,6 @@
 use Rattle.dvg_text.proofs.Common.{arith, take_rest}
 use Rattle.dvg_text.proofs.Leading.{digits_lead}
-use Rattle.dvg_text.proofs.numerals.digits_taken.Goals.{else-bytes-eq48-via-then-bytes-eq48+else-count-gt1,
-    else-bytes-eq48-via-else-bytes-eq48}
+use Rattle.dvg_text.proofs.numerals.digits_taken.Goals.{else-bytes-eq48-via-then-bytes-eq48+else-count-gt1, else-bytes-eq48-via-else-bytes-eq48}
 use Rattle.dvg_text.proofs.numerals.digits_taken.Goals as goal
 
 pub returns : goal.returns

@@ -1,7 +1,5 @@
 use Rattle.dvg_make.proofs.Common.{◌∙◌, sym, obstacle_fault, arith, BarsAll, TellsAll}
-use Rattle.dvg_make.proofs.Telling.{walks_last, none_here, finished_new, making_finished, present_finished, begun_ok, begun_present,
-    called_moved, refused, as_bar, not_err, if_err_same, reached, has_room, room_moved, tells_stopped, tells_memory, tells_not_begun,
-    begin_no_root, stopped_no_root}
+use Rattle.dvg_make.proofs.Telling.{walks_last, none_here, finished_new, making_finished, present_finished, begun_ok, begun_present, called_moved, refused, as_bar, not_err, if_err_same, reached, has_room, room_moved, tells_stopped, tells_memory, tells_not_begun, begin_no_root, stopped_no_root}
 use Rattle.dvg_make.proofs.making.Making.turn.Goals as goal
 
 pub advance-requires-clause-partial : goal.advance-requires-clause-partial

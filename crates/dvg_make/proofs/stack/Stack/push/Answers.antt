@@ -1,5 +1,4 @@
-use Rattle.dvg_make.proofs.Common.{◌∙◌, List, sym, subst, PartialEntry, IsMaking, All, IsOwnPartial, insert_entry-new, All-push, refl,
-    arith}
+use Rattle.dvg_make.proofs.Common.{◌∙◌, List, sym, subst, PartialEntry, IsMaking, All, IsOwnPartial, insert_entry-new, All-push, refl, arith}
 use Rattle.dvg_make.proofs.Stacks.{none_found, values_push}
 use Rattle.dvg_make.proofs.stack.Stack.push.Goals as goal
 
