@@ -41,6 +41,6 @@ pub added : (ks : List AddressKey) (es : List Entry) (i : ℕ) (d : Entry) → I
 added ks es i d rising lt keys =
     let e = get_or es i d in
     let new : list_any (own_eq (own e)) ks ≡ false =
-        ap (list_any (own_eq (own e))) keys ∙ sym (is_there e.addr e.key (take i es)) ∙ ap is_some (new_at es i d rising lt) in
+    ap (list_any (own_eq (own e))) keys ∙ sym (is_there e.addr e.key (take i es)) ∙ ap is_some (new_at es i d rising lt) in
     rw new (ap (λ (l : List AddressKey). l ++ own e ∷ []) keys ∙ sym (map-append own (take i es) (e ∷ []))
-        ∙ ap own_keys (sym (take_more es i d lt)))
+    ∙ ap own_keys (sym (take_more es i d lt)))

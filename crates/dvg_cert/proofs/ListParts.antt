@@ -23,7 +23,8 @@ cut_at (x ∷ es) (suc i) d lt =
 pub stands_there : (map : MemoryMap) (es : List Entry) (i : ℕ) (d : Entry) → IsCertificate map es → i < length es
     → IsEntry map.rom_first map.rom_last (get_or es i d) × StandsAfter (take i es) (get_or es i d)
 stands_there map es i d h lt =
-    let parts = (cut_at es i d lt).0 in
-    (each_mid (IsEntry map.rom_first map.rom_last) _ _ _
-        (subst (λ (l : List Entry). AllByRecursion (IsEntry map.rom_first map.rom_last) l) parts h.each),
-        rising_mid _ _ _ (subst (λ (l : List Entry). IsRising l) parts h.rising))
+    let parts = (cut_at es i d lt).0 in (
+      each_mid (IsEntry map.rom_first map.rom_last) _ _ _
+          (subst (λ (l : List Entry). AllByRecursion (IsEntry map.rom_first map.rom_last) l) parts h.each),
+      rising_mid _ _ _ (subst (λ (l : List Entry). IsRising l) parts h.rising),
+    )

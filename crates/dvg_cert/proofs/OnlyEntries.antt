@@ -41,17 +41,31 @@ pub new_at : (es : List Entry) (i : ℕ) (d : Entry) → IsRising es → i < len
 new_at [] i d h lt = absurd (omega arith)
 new_at (e ∷ es) zero d h lt = refl
 new_at (e ∷ es) (suc i) d h lt =
-    grind (arith, rules, common_steps, not_at, before_later, (new_at es i d (rising_tail e es h) (omega (arith, lt))),
-    (rising_tail e es h), rising_tail)
+    grind (
+      arith,
+      rules,
+      common_steps,
+      not_at,
+      before_later,
+      (new_at es i d (rising_tail e es h) (omega (arith, lt))),
+      (rising_tail e es h),
+      rising_tail,
+    )
 
 -- one more entry in front
 found_first : (addr : ℕ) (key : Key) (e : Entry) (es : List Entry) (b : Bool) (o : Option Entry) → is_at addr key e ≡ b
     → IsRising (e ∷ es) → IfSome o (IsOnlyAt es addr key) × IfNone o (HasNoneAt es addr key)
     → IfSome (cond b (Some e) o) (IsOnlyAt (e ∷ es) addr key) × IfNone (cond b (Some e) o) (HasNoneAt (e ∷ es) addr key)
 found_first addr key e es true o is h _ =
-    let here = at_means addr key e is in
-    (((zero, omega arith, refl), here.0, here.1,
-        λ f c a k. grind (arith, (first_or_later e es f c), (not_before e f), (before_later e es f h))), tt)
+    let here = at_means addr key e is in (
+      (
+        (zero, omega arith, refl),
+        here.0,
+        here.1,
+        λ f c a k. grind (arith, (first_or_later e es f c), (not_before e f), (before_later e es f h)),
+      ),
+      tt,
+    )
 found_first addr key e es false None is h r = (tt, λ f c a k. grind (arith, at_holds, first_or_later, (r.1 f)))
 found_first addr key e es false (Some g) is h r =
     ((later e es g r.0.0, r.0.1, r.0.2, λ f c a k. grind (arith, at_holds, first_or_later, (r.0.3 f))), tt)

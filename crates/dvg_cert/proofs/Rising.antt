@@ -22,8 +22,13 @@ each_push first last (x ∷ es) e h s = (h.0, each_push first last es e h.1 s)
 pub certificate_push : (map : MemoryMap) (es : List Entry) (e : Entry) → IsCertificate map es → IsEntry map.rom_first map.rom_last e
     → StandsAfter es e → length es < MOST_ENTRIES → IsCertificate map (es ++ e ∷ [])
 certificate_push map es e h fits s room =
-    record { map_is = h.map_is; each = each_push map.rom_first map.rom_last es e h.each fits; rising = rising_push es e h.rising s; few =
-    omega (arith, length_push es e) }
+    record {
+      map_is = h.map_is;
+      each = each_push map.rom_first map.rom_last es e h.each fits;
+      rising = rising_push es e h.rising s;
+      few =
+          omega (arith, length_push es e);
+    }
 
 -- no entry so far
 pub no_entry_yet : (map : MemoryMap) → IsMap map → IsCertificate map []

@@ -36,9 +36,9 @@ none_at : (es : List Entry) (addr : ℕ) (key : Key) (i : ℕ) (d : Entry) → I
     → (i < length es → is_at addr key (get_or es i d) ≡ false) → None ≡ entry_at es addr key
 none_at es addr key i d h p other =
     let fails : (k : ℕ) → k < length es → is_at addr key (get_or es k d) ≡ false =
-        λ k lt. grind (arith, (p.0 k d), (p.1 i d), (rising_at es i k d h), before_fails, behind_fails, other) in
+    λ k lt. grind (arith, (p.0 k d), (p.1 i d), (rising_at es i k d h), before_fails, behind_fails, other) in
     let end : position_or_len (is_at addr key) es ≡ length es =
-        position_or_len_is (is_at addr key) es (length es) d (omega arith) fails (λ lt. absurd (omega (arith, lt))) in
+    position_or_len_is (is_at addr key) es (length es) d (omega arith) fails (λ lt. absurd (omega (arith, lt))) in
     grind (arith, (find_at (is_at addr key) es), slice_get_past)
 
 pub nothing_there : (es : List Entry) (addr : ℕ) (key : Key) (i : ℕ) → IsRising es → i ≡ length es
@@ -55,6 +55,6 @@ pub this_there : (es : List Entry) (addr : ℕ) (key : Key) (i : ℕ) (d : Entry
     → is_at addr key (get_or es i d) ≡ true → Some (get_or es i d) ≡ entry_at es addr key
 this_there es addr key i d h lt is =
     let here : position_or_len (is_at addr key) es ≡ i =
-        position_or_len_is (is_at addr key) es i d (omega arith) (λ k less. grind (arith, (rising_at es k i d h), earlier_fails))
-        (λ l. is) in
+    position_or_len_is (is_at addr key) es i d (omega arith) (λ k less. grind (arith, (rising_at es k i d h), earlier_fails))
+    (λ l. is) in
     grind (arith, (find_at (is_at addr key) es), slice_get-get_or)

@@ -20,7 +20,7 @@ accepted shapes frame budget (Ok a) h whole fits good =
     let shallow : (e : Entry) → Contains shapes.list e → e.depth ≤ 3 = λ e listed. (listed_claim shapes.list e h.list listed).depth in
     let safe = good_is_safe shapes.mode m shapes.window shapes.list budget a.words a.depth mem shallow h.good good in
     let exact = λ (is : shapes.mode ≡ Exact). exact_is_exact m shapes.window shapes.list budget a.words a.depth mem shallow
-        (subst (λ mode. Good mode shapes.window shapes.rom shapes.list) is h.good) good in
+    (subst (λ mode. Good mode shapes.window shapes.rom shapes.list) is h.good) good in
     record {
       safe = safe;
       exact = exact;

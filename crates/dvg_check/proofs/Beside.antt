@@ -39,9 +39,9 @@ Relation = Course → Point → List Stroke → Point → List Stroke → Type 0
 pub record IsKept (a b : Machine) (Told : Course → List Stroke → Type 0) (R : Relation) : Type 0 where
   pub draws :
       (c : Course) (d : DrawFields) (global : ℕ) (p q : Point) (k l : List Stroke) → effective_scale d.lscale global ≤ 9 → Told c k
-          → Told (course_past a (Draws d) global c) (drawn_on a d global p k) → R c p k q l
+      → Told (course_past a (Draws d) global c) (drawn_on a d global p k) → R c p k q l
       → R (course_past a (Draws d) global c) (shift p (displacement a d global)) (drawn_on a d global p k)
-          (shift q (displacement b d global)) (drawn_on b d global q l)
+      (shift q (displacement b d global)) (drawn_on b d global q l)
   pub sets :
       (c : Course) (x y gscale scale : ℕ) (p q : Point) (k l : List Stroke) → (x ≤ 1023) × (y ≤ 1023) → R c p k q l
       → R (course_past a (Labs x y gscale) scale c) (labs_place a x y) k (labs_place b x y) l
@@ -54,7 +54,7 @@ pub record Beside (R : Relation) (c : Course) (s t : State) : Type 0 where
 module _ (a b : Machine) (Told : Course → List Stroke → Type 0) (R : Relation) (kept : IsKept a b Told R) where
   beside_cell :
       (s : State) (q : Point) (drawn : List Stroke) (c : Course) (cell : Cell) → R c s.place s.strokes q drawn → OnlyRounds s.scale cell
-          → LowCell cell → Told c s.strokes
+      → LowCell cell → Told c s.strokes
       → Told (course_at a cell s.scale c) (state_of (after_cell a cell s)).strokes
       → Both (Beside R (course_at a cell s.scale c)) (after_cell a cell s) (after_cell b cell (moved s q drawn))
   beside_cell s q drawn c (Holds format (Draws d)) related rounds low told next =
@@ -85,7 +85,7 @@ module _ (a b : Machine) (Told : Course → List Stroke → Type 0) (R : Relatio
         let read = λ (k : Machine). same_cell k m s.pc (λ e. subst (OnlyRounds s.scale) e (ahead.rounds 0 s refl)) in
         let next = ahead.told 1 (next_status (on a m) s) (next_status (on a m) s, refl, refl) in
         let step = beside_cell (after_fetch (on a m) s) t.place t.strokes c (cell_at (word_at (on Profile m)) s.pc) beside.related
-            (ahead.rounds 0 s refl) (low_cell m s.pc) (ahead.told 0 (Running s) refl) (rw (read a) at next) in
+        (ahead.rounds 0 s refl) (low_cell m s.pc) (ahead.told 0 (Running s) refl) (rw (read a) at next) in
         rw (beside.same, read a, read b) step
 
     pub run_on : (steps : ℕ) (c : Course) (from to other : Status) (run : Reached (on a m) steps from to) → Ahead c from
@@ -94,7 +94,7 @@ module _ (a b : Machine) (Told : Course → List Stroke → Type 0) (R : Relatio
     run_on zero c from to other run ahead q = (other, refl, subst (λ x. Both (Beside R c) x other) run q)
     run_on (suc steps) c (Running s) to (Running t) run ahead q =
         let rest = run_on steps _ run.0 to (next_status (on b m) t) run.2 (ahead_on c s run.0 run.1 ahead)
-            (rw run.1 at (beside_next c s t ahead q)) in
+        (rw run.1 at (beside_next c s t ahead q)) in
         (rest.0, (next_status (on b m) t, refl, rest.1), rest.2)
     run_on (suc steps) c from to other run ahead q = absurd (grind (arith))
 
@@ -104,6 +104,6 @@ module _ (a b : Machine) (Told : Course → List Stroke → Type 0) (R : Relatio
     run_back zero c from other end run ahead q = (from, refl, subst (λ x. Both (Beside R c) from x) run q)
     run_back (suc steps) c (Running s) (Running t) end run ahead q =
         let rest = run_back steps _ (next_status (on a m) s) run.0 end run.2 (ahead_on c s _ refl ahead)
-            (rw run.1 at (beside_next c s t ahead q)) in
+        (rw run.1 at (beside_next c s t ahead q)) in
         (rest.0, (next_status (on a m) s, refl, rest.1), rest.2)
     run_back (suc steps) c from other end run ahead q = absurd (grind (arith))

@@ -20,8 +20,8 @@ module _ {Why : Type 0} (number : Why → ℕ) (rule : ℕ → Why) (back : (why
   broken_at Odd stands = only number rule back why odd (rw stands at h.fault.breaks)
   broken_at (Seen v) stands =
       λ kept. (rw stands.1 at h.fault.breaks)
-          (subst (λ x. keeps x why) (stands.2
-          ∙ ap (λ at. seen_at c h.fault.items (record { at = at; format = v.item.format; instr = v.item.instr })) stands.0) kept)
+      (subst (λ x. keeps x why) (stands.2
+      ∙ ap (λ at. seen_at c h.fault.items (record { at = at; format = v.item.format; instr = v.item.instr })) stands.0) kept)
 
   pub broken : Breaks unmapped odd keeps why found
   broken = broken_at found h.stands

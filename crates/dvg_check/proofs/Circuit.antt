@@ -58,23 +58,43 @@ module _ (m : Memory) (w : Window) (words depth : ℕ) (mem : IsMemory m) (board
   on n steps (Running s) within reached agrees going deep =
       let same : steps + 1 ≡ suc n = omega (arith, going s refl) in
       let next : Reached m (suc n) (Running (first c)) (next_status m s) =
-          subst (λ k. Reached m k (Running (first c)) (next_status m s)) same
-          (reached_on m steps 1 (Running (first c)) (Running s) (next_status m s) reached (next_status m s, refl, refl)) in
+      subst (λ k. Reached m k (Running (first c)) (next_status m s)) same
+      (reached_on m steps 1 (Running (first c)) (Running s) (next_status m s) reached (next_status m s, refl, refl)) in
       let now = agree (suc n) (next_status m s) next in
-      record { steps = suc n; status = next_status m s; within = omega arith; reached = next; agrees = now; going = λ t e. refl;
-          deepest = deeper c.pointer n (λ k. run_after reads k (begin c)) m s now deep }
+      record {
+        steps = suc n;
+        status = next_status m s;
+        within = omega arith;
+        reached = next;
+        agrees = now;
+        going = λ t e. refl;
+        deepest = deeper c.pointer n (λ k. run_after reads k (begin c)) m s now deep;
+      }
   on n steps (Halted s) within reached agrees going deep =
       let r : Run = run_after reads n (begin c) in
       let later : Stored c.pointer (λ k. run_after reads k (begin c)) (suc n) s.max_stack = (deep.0, omega (arith, deep.1), deep.2) in
-      search (rules, steps, Halted s, reached,
-          subst (λ (halted : Bool). AgreesWith c.pointer (Halted s) (if halted then r else act (reads n) (reads n r.circuit.pc) r))
-          (sym agrees.0) agrees, later)
+      search (
+        rules,
+        steps,
+        Halted s,
+        reached,
+        subst (λ (halted : Bool). AgreesWith c.pointer (Halted s) (if halted then r else act (reads n) (reads n r.circuit.pc) r))
+            (sym agrees.0) agrees,
+        later,
+      )
   on n steps (Fault s) within reached agrees going deep = absurd (safe_at steps (Fault s) reached)
 
   follows : (n : ℕ) → Follows m reads c n
   follows zero =
-      record { steps = 0; status = Running (first c); within = omega arith; reached = refl; agrees = agree 0 (Running (first c)) refl;
-      going = λ s e. refl; deepest = (0, omega arith, omega (arith, begun.pointer)) }
+      record {
+        steps = 0;
+        status = Running (first c);
+        within = omega arith;
+        reached = refl;
+        agrees = agree 0 (Running (first c)) refl;
+        going = λ s e. refl;
+        deepest = (0, omega arith, omega (arith, begun.pointer));
+      }
   follows (suc n) = let f = follows n in on n f.steps f.status f.within f.reached f.agrees f.going f.deepest
 
   -- ---- what is safe
@@ -109,8 +129,12 @@ module _ (m : Memory) (w : Window) (words depth : ℕ) (mem : IsMemory m) (board
       → (run_after reads n (begin c)).circuit.halted ≡ true → CountsOfRun words depth c.pointer (λ k. run_after reads k (begin c)) n
   counts_by counts n steps (Halted h) reached agrees deep halted =
       let just = counts (place_of c.counters) c.scale steps h (omega (arith, begun.scale)) reached in
-      record { exactly = ap length agrees.1.fetched ∙ length-reverse h.fetched ∙ just.0; most = stored_at; deepest =
-          subst (Stored c.pointer (λ k. run_after reads k (begin c)) n) just.1 deep }
+      record {
+        exactly = ap length agrees.1.fetched ∙ length-reverse h.fetched ∙ just.0;
+        most = stored_at;
+        deepest =
+            subst (Stored c.pointer (λ k. run_after reads k (begin c)) n) just.1 deep;
+      }
   counts_by counts n steps status reached agrees deep halted = grind (arith, (safe_at steps status reached))
 
 -- what holds of the draw of each stroke that lies in the window holds of the lit draws of all runs
@@ -129,8 +153,12 @@ drawn_at_places : (w : Window) (stroke : Stroke) (l : LitDraw) → InWindow w st
 unfolding drawn_on_stroke
 drawn_at_places w stroke l from to h =
     let on = drawn_on_stroke stroke l h in
-    record { x = h.from.x; y = h.from.y; inside = λ n le. lit_in_window w stroke (counters_after l.draw l.from n) (on n le) from to;
-        counters = λ n le. (on n le).same.counters }
+    record {
+      x = h.from.x;
+      y = h.from.y;
+      inside = λ n le. lit_in_window w stroke (counters_after l.draw l.from n) (on n le) from to;
+      counters = λ n le. (on n le).same.counters;
+    }
 
 pub within_on_circuit : SafeIsWithinOnCircuit
 within_on_circuit m w words depth mem board safe = safe_runs (IsDrawAtPlaces w) m w words depth mem board safe (drawn_at_places w)

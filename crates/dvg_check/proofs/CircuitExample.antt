@@ -14,8 +14,15 @@ registers counters scale pointer returns =
 
 same_registers : (c : Circuit) → IsStart c → registers c.counters c.scale c.pointer c.returns ≡ c
 same_registers c begun =
-    sym (λ i. record { pc = begun.pc i; counters = c.counters; scale = c.scale; pointer = c.pointer; returns = c.returns; halted =
-    begun.running i })
+    sym (λ i. record {
+      pc = begun.pc i;
+      counters = c.counters;
+      scale = c.scale;
+      pointer = c.pointer;
+      returns = c.returns;
+      halted =
+          begun.running i;
+    })
 
 module _ (counters : Counters) (scale pointer : ℕ) (returns : List ℕ) (four : length returns ≡ 4) (other : ℕ) where
   abbrev at : ℕ → Run
@@ -51,8 +58,16 @@ pub worked_circuit : WorkedCircuit
 worked_circuit =
     let good = worked_example Board in
     record {
-      start = record { pc = refl; x = omega arith; y = omega arith; scale = omega arith; pointer = omega arith; four = refl; running =
-          refl };
+      start = record {
+        pc = refl;
+        x = omega arith;
+        y = omega arith;
+        scale = omega arith;
+        pointer = omega arith;
+        four = refl;
+        running =
+            refl;
+      };
       reads = λ c other begun. subst (λ (k : Circuit). ReadsAs (memory_for Board) (example_reads other) (begin k)) (same_registers c begun)
           (λ n. reads_now c.counters c.scale c.pointer c.returns begun.four other n);
       safe = safe_on_circuit (memory_for Board) screen 7 1 good.memory refl (inl whole) safe;

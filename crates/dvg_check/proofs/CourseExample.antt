@@ -45,12 +45,18 @@ leads_next machine c s h3 = grind (arith, cell_at, word_at, on, labs_place, disp
 -- each state of each run
 runs :
     (machine : Machine) (place : Point) (scale steps : ℕ) (after : Status)
-        (run : Reached (on machine edge_memory) steps (Running (start place scale)) after)
+    (run : Reached (on machine edge_memory) steps (Running (start place scale)) after)
     → Runs machine (course_of (on machine edge_memory) place scale steps after run) after
 runs machine place scale steps after run =
-    grind (arith, (along (on machine edge_memory) (Runs machine) (leads_next machine) steps (course_at_start place)
-    (Running (start place scale)) after run (inl (refl, refl))), (on machine edge_memory), (leads_next machine), (course_at_start place),
-    (start place scale))
+    grind (
+      arith,
+      (along (on machine edge_memory) (Runs machine) (leads_next machine) steps (course_at_start place)
+          (Running (start place scale)) after run (inl (refl, refl))),
+      (on machine edge_memory),
+      (leads_next machine),
+      (course_at_start place),
+      (start place scale),
+    )
 
 -- ---- what is claimed
 

@@ -26,15 +26,18 @@ Untold c k = Unit {0}
 places_kept : (half : HalfPlace) (a b : Machine) → IsKept a b Untold PlacesNear
 unfolding displacement
 places_kept half a b =
-    record { draws = λ c d global p q k l low told next near. grind (arith, near_on, near_here); sets =
-        λ c x y gscale scale p q k l low near. grind (arith, coordinate_same, near_here) }
+    record {
+      draws = λ c d global p q k l low told next near. grind (arith, near_on, near_here);
+      sets =
+          λ c x y gscale scale p q k l low near. grind (arith, coordinate_same, near_here);
+    }
 
 pub half_place_each : HalfPlace → HalfPlaceEach
 half_place_each half a b m place scale steps after small rounds run =
     let ahead : Ahead a b Untold PlacesNear (places_kept half a b) m (course_at_start place) (Running (start place scale)) =
-        record { rounds = λ k s. rounds place scale k s small; told = λ k to r. tt } in
+    record { rounds = λ k s. rounds place scale k s small; told = λ k to r. tt } in
     let other = run_on a b Untold PlacesNear (places_kept half a b) m steps (course_at_start place) (Running (start place scale)) after
-        (Running (start place scale)) run ahead (record { same = refl; related = (near_here 0 place.x, near_here 0 place.y) }) in
+    (Running (start place scale)) run ahead (record { same = refl; related = (near_here 0 place.x, near_here 0 place.y) }) in
     (other.0, other.1, grind (arith, other.2))
 
 -- ---- strokes before the first LABS
@@ -60,16 +63,16 @@ none_lit (stroke ∷ drawn) h = absurd (h stroke drawn refl)
 -- a run that is safe from any place lights nothing before the first LABS: from a place far enough to the left that would be outside
 bare :
     (a : Machine) (m : Memory) (w : Window) (words depth : ℕ) → RunsOnlyRound a m → Safe (on a m) w words depth
-        → (place : Point) (scale steps : ℕ) (to : Status) → scale ≤ 15 → (run : Reached (on a m) steps (Running (start place scale)) to)
+    → (place : Point) (scale steps : ℕ) (to : Status) → scale ≤ 15 → (run : Reached (on a m) steps (Running (start place scale)) to)
     → (course_of (on a m) place scale steps to run).by_labs ≡ false → (state_of to).strokes ≡ []
 bare a m w words depth rounds safe place scale steps to small run unset = none_lit _ (λ stroke drawn is.
     let e : Point = record { x = (neg_ℤ stroke.from.x +ℤ (pos 1024 *ℤ w.x_min)) +ℤ negsuc 0; y = pos 0 } in
     let ahead : Ahead a a Untold (Shifted e) (shifted_kept a e) m (course_at_start place) (Running (start place scale)) =
-        record { rounds = λ k s. rounds place scale k s small; told = λ k to r. tt } in
+    record { rounds = λ k s. rounds place scale k s small; told = λ k to r. tt } in
     let other = run_on a a Untold (Shifted e) (shifted_kept a e) m steps (course_at_start place) (Running (start place scale)) to
-        (Running (start (shift place e) scale)) run ahead (record { same = refl; related = λ u. (refl, refl) }) in
+    (Running (start (shift place e) scale)) run ahead (record { same = refl; related = λ u. (refl, refl) }) in
     let beside : Beside (Shifted e) (course_of (on a m) place scale steps to run) (state_of to) (state_of other.0) =
-        grind (arith, other.2) in
+    grind (arith, other.2) in
     let state = safe_state (on a m) w words depth steps other.0 (safe.each (shift place e) scale small steps other.0 other.1) in
     let lit = subst (AllByRecursion (Ends (InWindow w))) ((beside.related unset).1 ∙ ap (strokes_by e) is) state.lit in
     omega (arith, ints, lit.0.0.left))
@@ -94,21 +97,32 @@ lit_kept half a b n outer inner inset =
     let near = places_kept half a b in
     record {
       draws = λ c d global p q k l low told next (is, lit).
-          let on = near.draws c d global p q k l low tt tt is in
-          (on, grind (arith, drawn_on, lit_by, (near_window n (length c.moves) outer inner p q inset),
+          let on = near.draws c d global p q k l low tt tt is in (
+            on,
+            grind (
+              arith,
+              drawn_on,
+              lit_by,
+              (near_window n (length c.moves) outer inner p q inset),
               (near_window n (length (displacement a d global ∷ c.moves)) outer inner (shift p (displacement a d global))
-              (shift q (displacement b d global)) inset)));
+                  (shift q (displacement b d global)) inset),
+            ),
+          );
       sets = λ c x y gscale scale p q k l low (is, lit). (near.sets c x y gscale scale p q k l low is, lit);
     }
 
 safe_as :
     (a b : Machine) (m : Memory) (outer inner : Window) (words depth steps : ℕ) (c : Course) (s t : State) → Beside (LitNear outer) c s t
-        → IsSafeState (on a m) inner words depth steps s
+    → IsSafeState (on a m) inner words depth steps s
     → IsSafeState (on b m) outer words depth steps t
 safe_as a b m outer inner words depth steps c s t beside safe =
     let fetched : s.fetched ≡ t.fetched = sym (ap (λ u. u.fetched) beside.same) in
-    search (subst (λ l. length l ≤ words) fetched safe.few, subst (λ l. AllByRecursion (IsMapped (on b m)) l) fetched safe.mapped,
-        subst (λ k. k ≤ depth) (sym (ap (λ u. u.max_stack) beside.same)) safe.stored, beside.related.1)
+    search (
+      subst (λ l. length l ≤ words) fetched safe.few,
+      subst (λ l. AllByRecursion (IsMapped (on b m)) l) fetched safe.mapped,
+      subst (λ k. k ≤ depth) (sym (ap (λ u. u.max_stack) beside.same)) safe.stored,
+      beside.related.1,
+    )
 
 pub inset_is_safe : HalfPlace → InsetIsSafe
 inset_is_safe half a b m n outer inner words depth inset rounds few safe = record { four = safe.four; halts = halts; each = each }
@@ -119,8 +133,11 @@ inset_is_safe half a b m n outer inner words depth inset rounds few safe = recor
     ahead place scale small =
         record {
           rounds = λ k s. rounds place scale k s small;
-          told = λ k to run. (few place scale k to small run, bare a m inner words depth rounds safe place scale k to small run,
-              (safe_state (on a m) inner words depth k to (safe.each place scale small k to run)).lit);
+          told = λ k to run. (
+            few place scale k to small run,
+            bare a m inner words depth rounds safe place scale k to small run,
+            (safe_state (on a m) inner words depth k to (safe.each place scale small k to run)).lit,
+          );
         }
 
     halts : (place : Point) (scale : ℕ) → scale ≤ 15 → HaltsWithin (on b m) words place scale
@@ -128,8 +145,8 @@ inset_is_safe half a b m n outer inner words depth inset rounds few safe = recor
         let (steps, h, le, run) = safe.halts place scale small in
         let first = Running (start place scale) in
         let other = run_on a b (Told n inner) (LitNear outer) (lit_kept half a b n outer inner inset) m steps (course_at_start place)
-            first (Halted h) first run (ahead place scale small)
-            (record { same = refl; related = ((near_here 0 place.x, near_here 0 place.y), tt) }) in
+        first (Halted h) first run (ahead place scale small)
+        (record { same = refl; related = ((near_here 0 place.x, near_here 0 place.y), tt) }) in
         let end : (t : State) × Reached (on b m) steps first (Halted t) = grind (arith, other.1, other.2) in
         (steps, end.0, le, end.1)
 
@@ -137,8 +154,13 @@ inset_is_safe half a b m n outer inner words depth inset rounds few safe = recor
     each place scale small steps end run =
         let first = Running (start place scale) in
         let other = run_back a b (Told n inner) (LitNear outer) (lit_kept half a b n outer inner inset) m steps (course_at_start place)
-            first first end run (ahead place scale small)
-            (record { same = refl; related = ((near_here 0 place.x, near_here 0 place.y), tt) }) in
-        grind (arith, rules, common_steps,
-            (safe_as a b m outer inner words depth steps (course_of (on a m) place scale steps other.0 other.1)),
-            (safe.each place scale small steps other.0 other.1), other.2)
+        first first end run (ahead place scale small)
+        (record { same = refl; related = ((near_here 0 place.x, near_here 0 place.y), tt) }) in
+        grind (
+          arith,
+          rules,
+          common_steps,
+          (safe_as a b m outer inner words depth steps (course_of (on a m) place scale steps other.0 other.1)),
+          (safe.each place scale small steps other.0 other.1),
+          other.2,
+        )

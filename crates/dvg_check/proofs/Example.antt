@@ -27,7 +27,7 @@ shape_good : (machine : Machine) (mode : Mode) → GoodShape mode screen (rom_fo
 unfolding cell_at instruction_of displacement
 shape_good machine mode =
     all_kept Shape (rom_word (rom_for machine)) 2048 ShapeWhy (ShapePlaceKeeps mode screen (rom_for machine) example_list example_entry)
-        (draw_item ∷ []) return_item
+    (draw_item ∷ []) return_item
     (refl, draw_there machine, refl) (return_there machine) refl ((tt, λ why. grind (arith, ints)), λ why. grind (arith, ints))
 
 shapes_good : (machine : Machine) (mode : Mode) → Good mode screen (rom_for machine) example_list
@@ -46,11 +46,20 @@ pub accepted : (machine : Machine) (words : List ℕ) (list : List Entry) (items
     → LeadsTo Frame (frame_word machine words) 0 items at → cell_at (frame_word machine words) at ≡ Holds Short Halt
     → AllBefore (FramePlaceKeeps screen machine words list 20000) (record { at = at; format = Short; instr = Halt } ∷ items)
     → GoodFrame screen machine words list 20000 (words_before (frame_context machine list) items + 1)
-        (depth_before (frame_context machine list) items)
+    (depth_before (frame_context machine list) items)
 accepted machine words list items at leads halts kept =
-    record { keeps = all_kept Frame (frame_word machine words) 0 FrameWhy (FramePlaceKeeps screen machine words list 20000) items
-        (record { at = at; format = Short; instr = Halt }) leads halts refl kept; items =
-        items; at = at; format = Short; leads = leads; halts = halts; count_is = refl; depth_is = refl }
+    record {
+      keeps = all_kept Frame (frame_word machine words) 0 FrameWhy (FramePlaceKeeps screen machine words list 20000) items
+          (record { at = at; format = Short; instr = Halt }) leads halts refl kept;
+      items =
+          items;
+      at = at;
+      format = Short;
+      leads = leads;
+      halts = halts;
+      count_is = refl;
+      depth_is = refl;
+    }
 
 frame_good : (machine : Machine) → GoodFrame screen machine example_frame example_list 20000 7 1
 unfolding cell_at instruction_of

@@ -42,9 +42,10 @@ module _ (kind : Kind) (word : Source) (first : ℕ) (Why : Type 0) (keeps : Lis
     -- so there is one fault, where the order of a rule tells it
     one_place : (rule : ℕ → Why) → ((why : Why) → rule (order why) ≡ why) → (p q : ℕ) (u v : Why)
         → FaultAt order kind word first keeps p u → FaultAt order kind word first keeps q v → (p ≡ q) × (u ≡ v)
-    one_place rule back p q u v f g =
-        ((same_items p q u v f g).place,
-        sym (back u) ∙ ap rule (neither_less (order u) (order v) (not_lower p q u v f g) (not_lower q p v u g f)) ∙ back v)
+    one_place rule back p q u v f g = (
+      (same_items p q u v f g).place,
+      sym (back u) ∙ ap rule (neither_less (order u) (order v) (not_lower p q u v f g) (not_lower q p v u g f)) ∙ back v,
+    )
 
 -- ---- frames
 
@@ -52,18 +53,27 @@ module _ (kind : Kind) (word : Source) (first : ℕ) (Why : Type 0) (keeps : Lis
 abbrev pub rule_of : ℕ → FrameWhy
 rule_of n =
     if n == 40 then frame.Unmapped else if n == 41 then frame.Odd else if n == 42 then frame.ReturnInFrame else if n == 43 then
-        frame.BackJump else if n == 44 then frame.BeamUnknown else if n == 45 then frame.ScaleUnknown else if n == 46 then
-        frame.OffScreen else if n == 47 then frame.NoEntry else frame.Budget
+    frame.BackJump else if n == 44 then frame.BeamUnknown else if n == 45 then frame.ScaleUnknown else if n == 46 then
+    frame.OffScreen else if n == 47 then frame.NoEntry else frame.Budget
 
 pub rule_of-number : (why : FrameWhy) → rule_of (frame_number why) ≡ why
 rule_of-number =
-    elim [ frame.Unmapped ↦ refl | frame.Odd ↦ refl | frame.ReturnInFrame ↦ refl | frame.BackJump ↦ refl | frame.BeamUnknown ↦ refl |
-    frame.ScaleUnknown ↦ refl | frame.OffScreen ↦ refl | frame.NoEntry ↦ refl | frame.Budget ↦ refl ]
+    elim [
+      | frame.Unmapped ↦ refl
+      | frame.Odd ↦ refl
+      | frame.ReturnInFrame ↦ refl
+      | frame.BackJump ↦ refl
+      | frame.BeamUnknown ↦ refl
+      | frame.ScaleUnknown ↦ refl
+      | frame.OffScreen ↦ refl
+      | frame.NoEntry ↦ refl
+      | frame.Budget ↦ refl
+    ]
 
 pub one_fault : OneFault
 one_fault w machine words list budget f g a b =
     let s = one_place Frame (frame_word machine words) 0 FrameWhy (FramePlaceKeeps w machine words list budget) frame_number rule_of
-        rule_of-number f.word g.word f.why g.why a b in
+    rule_of-number f.word g.word f.why g.why a b in
     λ x. record { word = s.0 x; why = s.1 x }
 
 pub no_fault : NoFault
@@ -76,8 +86,8 @@ one_count w machine words list budget count depth count' depth' a b =
     -- the last items of two walks are one
     let s = same_lead Frame (frame_word machine words) 0 a.items b.items a.at b.at a.leads b.leads
     (neither_less (length a.items) (length b.items)
-        (too_long Frame (frame_word machine words) 0 a.items i a.leads a.halts refl b.items b.at b.leads)
-        (too_long Frame (frame_word machine words) 0 b.items j b.leads b.halts refl a.items a.at a.leads)) in
+    (too_long Frame (frame_word machine words) 0 a.items i a.leads a.halts refl b.items b.at b.leads)
+    (too_long Frame (frame_word machine words) 0 b.items j b.leads b.halts refl a.items a.at a.leads)) in
     grind (arith, s)
 
 -- ---- shapes
@@ -86,21 +96,34 @@ one_count w machine words list budget count depth count' depth' a b =
 abbrev pub shape_rule_of : ℕ → ShapeWhy
 shape_rule_of n =
     if n == 20 then shape.Unmapped else if n == 21 then shape.Odd else if n == 22 then shape.HaltInShape else if n == 23 then
-        shape.BeamUnknown else if n == 24 then shape.ScaleUnknown else if n == 25 then shape.OffScreen else if n == 26 then shape.NoEntry
+    shape.BeamUnknown else if n == 24 then shape.ScaleUnknown else if n == 25 then shape.OffScreen else if n == 26 then shape.NoEntry
     else if n == 27 then shape.TooDeep else if n == 28 then shape.TooManyWords else if n == 29 then shape.EndDiffers else if n == 30 then
-        shape.ScaleDiffers else if n == 31 then shape.BoxTooSmall else if n == 32 then shape.WordsDiffer else shape.DepthDiffers
+    shape.ScaleDiffers else if n == 31 then shape.BoxTooSmall else if n == 32 then shape.WordsDiffer else shape.DepthDiffers
 
 pub shape_rule_of-number : (why : ShapeWhy) → shape_rule_of (shape_number why) ≡ why
 shape_rule_of-number =
-    elim [ shape.Unmapped ↦ refl | shape.Odd ↦ refl | shape.HaltInShape ↦ refl | shape.BeamUnknown ↦ refl | shape.ScaleUnknown ↦ refl |
-    shape.OffScreen ↦ refl | shape.NoEntry ↦ refl | shape.TooDeep ↦ refl | shape.TooManyWords ↦ refl | shape.EndDiffers ↦ refl |
-    shape.ScaleDiffers ↦ refl | shape.BoxTooSmall ↦ refl | shape.WordsDiffer ↦ refl | shape.DepthDiffers ↦ refl ]
+    elim [
+      | shape.Unmapped ↦ refl
+      | shape.Odd ↦ refl
+      | shape.HaltInShape ↦ refl
+      | shape.BeamUnknown ↦ refl
+      | shape.ScaleUnknown ↦ refl
+      | shape.OffScreen ↦ refl
+      | shape.NoEntry ↦ refl
+      | shape.TooDeep ↦ refl
+      | shape.TooManyWords ↦ refl
+      | shape.EndDiffers ↦ refl
+      | shape.ScaleDiffers ↦ refl
+      | shape.BoxTooSmall ↦ refl
+      | shape.WordsDiffer ↦ refl
+      | shape.DepthDiffers ↦ refl
+    ]
 
 pub no_shape_fault : NoShapeFault
 no_shape_fault mode w rom list f good s =
     let listed : Contains list s.entry =
-        subst (λ (l : List Entry). Contains l s.entry) (sym s.order_is)
-        (Contains-append_right s.before (s.entry ∷ s.after) s.entry (0, omega arith, refl)) in
+    subst (λ (l : List Entry). Contains l s.entry) (sym s.order_is)
+    (Contains-append_right s.before (s.entry ∷ s.after) s.entry (0, omega arith, refl)) in
     s.fault.breaks (good s.entry listed s.fault.items f.word s.fault.leads f.why)
 
 -- of two ways to cut a list at an entry, one cuts earlier, or both are the same
@@ -121,5 +144,5 @@ one_shape_fault mode w rom list f g s t =
     by_cuts (inr same) =
         let there = subst (λ (e : Entry). ShapeFaultAt mode w rom list e g.word g.why) (sym same) t.fault in
         let one = one_place Shape (rom_word rom) s.entry.addr ShapeWhy (ShapePlaceKeeps mode w rom list s.entry) shape_number
-            shape_rule_of shape_rule_of-number f.word g.word f.why g.why s.fault there in
+        shape_rule_of shape_rule_of-number f.word g.word f.why g.why s.fault there in
         grind (arith, one)

@@ -26,8 +26,11 @@ depth_before-four : (a : Machine) (list : List Entry) → ((e : Entry) → Conta
     → depth_before (frame_context a list) items ≤ 4
 depth_before-four a list three [] = omega arith
 depth_before-four a list three (i ∷ earlier) =
-    omega (arith, depth_under-four i.instr (callee (frame_context a list) earlier i.instr) (λ f n. three f (named_listed list _ _ f n)),
-        depth_before-four a list three earlier)
+    omega (
+      arith,
+      depth_under-four i.instr (callee (frame_context a list) earlier i.instr) (λ f n. three f (named_listed list _ _ f n)),
+      depth_before-four a list three earlier,
+    )
 
 -- ---- the halt
 
@@ -78,14 +81,20 @@ module _ (mode : Mode) (m : Memory) (w : Window) (list : List Entry) (budget : �
   frame_facts earlier i lead is =
       let c = frame_context m.rom.machine list in
       let rule = λ (why : FrameWhy). subst
-          (λ x. CellKeeps frame.Unmapped frame.Odd (λ j. FrameKeeps w budget (seen_at c earlier j)) i.at x why) is
-          (keep earlier i.at lead why) in
+      (λ x. CellKeeps frame.Unmapped frame.Odd (λ j. FrameKeeps w budget (seen_at c earlier j)) i.at x why) is
+      (keep earlier i.at lead why) in
       record {
         moves = refl;
         own = all_map (InFrame m.frame) (λ q. InFrame m.frame q ⊎ InRom m.rom.map q) (places i.format i.at) (λ q h. inl h)
             (own Frame m i.at i.format i.instr mem is);
-        fits = grind (arith, (rule frame.BeamUnknown), (rule frame.ScaleUnknown), (rule frame.OffScreen), (rule frame.NoEntry),
-            (frame_place m.rom.machine list earlier));
+        fits = grind (
+          arith,
+          (rule frame.BeamUnknown),
+          (rule frame.ScaleUnknown),
+          (rule frame.OffScreen),
+          (rule frame.NoEntry),
+          (frame_place m.rom.machine list earlier),
+        );
         calls = λ f n. all_shapes mode m w list mem good f (named_listed list _ _ f n);
       }
 
@@ -96,15 +105,15 @@ run mode m w list budget words depth mem three good gf p scale =
     let c = frame_context m.rom.machine list in
     let Ok : ℕ → Type 0 = λ q. InFrame m.frame q ⊎ InRom m.rom.map q in
     let st : Stands c origin [] [] 0 (start p scale) =
-        record { pc = refl; return_stack = refl; room = omega arith; place = tt; scale = tt } in
+    record { pc = refl; return_stack = refl; room = omega arith; place = tt; scale = tt } in
     let a = arrive mode m w c Empty origin Ok 0 [] (start p scale) mem (λ q h. inr h)
-        (frame_facts mode m w list budget mem good gf.keeps) st gf.items gf.at gf.leads
-        (omega (arith, depth_before-four m.rom.machine list three gf.items)) in
+    (frame_facts mode m w list budget mem good gf.keeps) st gf.items gf.at gf.leads
+    (omega (arith, depth_before-four m.rom.machine list three gf.items)) in
     let mine = all_map (InFrame m.frame) Ok (places gf.format gf.at) (λ q h. inl h) (own Frame m gf.at gf.format Halt mem gf.halts) in
     let come = stretch_as mode m Ok (LitFits w Empty origin) (words_before c gf.items) (words_before c gf.items) _ depth (start p scale)
-        a.0 refl (omega (arith, gf.depth_is)) a.1 in
+    a.0 refl (omega (arith, gf.depth_is)) a.1 in
     halt mode m w (words_before c gf.items) words depth gf.at gf.format origin p scale a.0
-        (stands Frame m gf.at gf.format Halt mem gf.halts) mine a.2.pc gf.count_is come
+    (stands Frame m gf.at gf.format Halt mem gf.halts) mine a.2.pc gf.count_is come
 
 pub good_is_safe : GoodIsSafe
 good_is_safe mode m w list budget words depth mem three good gf =

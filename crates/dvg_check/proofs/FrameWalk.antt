@@ -12,8 +12,17 @@ pub good_frame : (w : Window) (machine : Machine) (words : List ℕ) (list : Lis
     → GoodFrame w machine words list budget end.words end.depth
 good_frame w machine words list budget end u =
     let halts = last_halts u.last.at u.last.format u.last.instr u.ends (kept frame.ReturnInFrame) (kept frame.BackJump) in
-    record { keeps = u.keeps_all; items = u.items; at = u.last.at; format = u.last.format; leads = u.leads; halts =
-        u.stands ∙ ap (Holds u.last.format) halts; count_is = grind (arith, u.knows, halts); depth_is = grind (arith, u.knows, halts) }
+    record {
+      keeps = u.keeps_all;
+      items = u.items;
+      at = u.last.at;
+      format = u.last.format;
+      leads = u.leads;
+      halts =
+          u.stands ∙ ap (Holds u.last.format) halts;
+      count_is = grind (arith, u.knows, halts);
+      depth_is = grind (arith, u.knows, halts);
+    }
   where
     kept : (why : FrameWhy) → FrameKeeps w budget (seen_at (frame_context machine list) u.items u.last) why
     kept why = subst (λ cell. CellKeeps frame.Unmapped frame.Odd

@@ -67,8 +67,14 @@ module _ (Why : Type 0) (order : Why → ℕ) (missing odd : Why) (Keeps : Seen 
     onward step next es_are step_is keeps_all =
         let h = rw (same es_are) at keeps_all in
         let on = leads_on kind (seen_at context k.items item) step next step_is h.leads in
-        record { items = item ∷ k.items; leads = (k.leads, is, on.0); kept = (k.kept, λ why. rw is (h.kept why)); knows = on.1; sound =
-            rw step_is at h.sound }
+        record {
+          items = item ∷ k.items;
+          leads = (k.leads, is, on.0);
+          kept = (k.kept, λ why. rw is (h.kept why));
+          knows = on.1;
+          sound =
+              rw step_is at h.sound;
+        }
 
     pub done : (step : Step) (known : Known) → es ≡ list → step ≡ Last known
         → KeepsAll Keeps kind (seen_by word.machine es kind cursor.known item) step → WalksTo context word first keeps known

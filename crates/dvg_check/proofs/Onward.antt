@@ -86,43 +86,60 @@ module _ (mode : Mode) (m : Memory) (w : Window) (box : LitBox) (base : Point) (
   abbrev pub Onward : List Item → Item → List ℕ → ℕ → List ℕ → State → Type 0
   Onward earlier i rs p rest s =
       (t : State) × Stretch mode m Ok (LitFits w box base) (word_count i.format + callee_words (callee c earlier i.instr))
-          (length rs + depth_under i.instr (callee c earlier i.instr)) s t × Stands c base rest (i ∷ earlier) p t
+      (length rs + depth_under i.instr (callee c earlier i.instr)) s t × Stands c base rest (i ∷ earlier) p t
 
   -- an item that enters no shape
   plain_onward : (earlier : List Item) (i : Item) (p : ℕ) (rs rest : List ℕ) (s t : State) (new : List Stroke)
       → callee c earlier i.instr ≡ None → AllByRecursion Ok (places i.format i.at) → next_status m s ≡ Running t
       → t.fetched ≡ places i.format i.at ++ s.fetched → t.strokes ≡ new ++ s.strokes → AllByRecursion (LitFits w box base) new
       → t.max_stack ≡ s.max_stack → length rs ≤ s.max_stack → Stands c base rest (i ∷ earlier) p t → Onward earlier i rs p rest s
-  plain_onward earlier i p rs rest s t new none own step fetched drew lit stored room st =
-      (t, one_step mode m Ok (LitFits w box base) _ _ i.format i.at s t new step fetched own drew lit
-          (omega (arith, ap callee_words none)) (omega (arith, stored, room, ap (depth_under i.instr) none)), st)
+  plain_onward earlier i p rs rest s t new none own step fetched drew lit stored room st = (
+    t,
+    one_step mode m Ok (LitFits w box base) _ _ i.format i.at s t new step fetched own drew lit
+        (omega (arith, ap callee_words none)) (omega (arith, stored, room, ap (depth_under i.instr) none)),
+    st,
+  )
 
   -- an item that enters a shape, from which it returns to this place
   entry_onward : (earlier : List Item) (i : Item) (to p : ℕ) (rs rest : List ℕ) (s : State) → target c.kind i.instr ≡ Some to
       → Fits w c box earlier i.instr → AllByRecursion Ok (places i.format i.at) → Stands c base rs earlier i.at s
-      → next_status m s ≡ Running (record s
-          { pc = to; return_stack = p ∷ rest; max_stack = max s.max_stack (length (p ∷ rest)); fetched =
-          places i.format i.at ++ s.fetched }) → ((f : Entry) → length rs + depth_under i.instr (Some f) ≡ length (p ∷ rest) + f.depth)
+      → next_status m s ≡ Running (record s {
+        pc = to;
+        return_stack = p ∷ rest;
+        max_stack = max s.max_stack (length (p ∷ rest));
+        fetched =
+            places i.format i.at ++ s.fetched;
+      }) → ((f : Entry) → length rs + depth_under i.instr (Some f) ≡ length (p ∷ rest) + f.depth)
       → length rs + depth_under i.instr (callee c earlier i.instr) ≤ 4
       → ((f : Entry) → callee c earlier i.instr ≡ Some f → Behaves mode m w f) → Onward earlier i rs p rest s
   entry_onward earlier i to p rs rest s goes fits own st step deep le calls =
       let (f, is) = found (target c.kind i.instr) to (callee c earlier i.instr) goes fits.named in
       let named : (f.addr ≡ to) × ((g : ℕ) → ScaleFits (scale_before c earlier) g → ScaleFits f.key g) = grind (arith, listed_at) in
       let under : length rs + depth_under i.instr (callee c earlier i.instr) ≡ length (p ∷ rest) + f.depth =
-          ap (λ o. length rs + depth_under i.instr o) is ∙ deep f in
+      ap (λ o. length rs + depth_under i.instr o) is ∙ deep f in
       let e : State =
-          record s { pc = to; return_stack = p ∷ rest; max_stack = max s.max_stack (length (p ∷ rest)); fetched =
-          places i.format i.at ++ s.fetched } in
+      record s {
+        pc = to;
+        return_stack = p ∷ rest;
+        max_stack = max s.max_stack (length (p ∷ rest));
+        fetched =
+            places i.format i.at ++ s.fetched;
+      } in
       let one = one_step mode m Ok (LitFits w box base) (word_count i.format) (length (p ∷ rest)) i.format i.at s e [] step refl own refl
-          tt refl refl in
+      tt refl refl in
       let r = calls f is e p rest (omega arith) (sym named.0) (named.1 s.scale st.scale) refl (omega (arith, under, le)) in
       let two : Stretch mode m Ok (LitFits w box base) f.words (length (p ∷ rest) + f.depth) e r.0 =
-          grind (arith, stretch_less, allowed_up) in (
+      grind (arith, stretch_less, allowed_up) in (
         r.0,
         stretch_on mode m Ok (LitFits w box base) (word_count i.format) f.words _ (length (p ∷ rest)) (length (p ∷ rest) + f.depth) _ s e
             r.0 (counts_same mode _ _ (omega (arith, ap callee_words is))) (counts_same mode _ _ (omega (arith, under))) one two,
-        record { pc = r.1.pc; return_stack = r.1.return_stack; room = omega (arith, deeper mode m Ok (LitFits w box base) _ _ e r.0 two);
-            place = grind (arith, place_before, place_past, place_moved_by, fits_moved); scale = grind (arith) },
+        record {
+          pc = r.1.pc;
+          return_stack = r.1.return_stack;
+          room = omega (arith, deeper mode m Ok (LitFits w box base) _ _ e r.0 two);
+          place = grind (arith, place_before, place_past, place_moved_by, fits_moved);
+          scale = grind (arith);
+        },
       )
 
   -- a draw or a LABS
@@ -134,9 +151,15 @@ module _ (mode : Mode) (m : Memory) (w : Window) (box : LitBox) (base : Point) (
   drawn_onward first earlier i p rs rest s kind own lead e goes same_stack lit st =
       let (t, q) = one_item m c first earlier i base s mem same lead e kind st.pc st.place st.scale in
       plain_onward earlier i p rs rest s t (lit_on i.instr s.place t.place) (grind (arith)) own q.step q.fetched q.strokes
-          (lit t.place q.place) q.max_stack st.room
-      (record { pc = q.pc ∙ goes; return_stack = q.return_stack ∙ st.return_stack ∙ same_stack; room =
-          omega (arith, q.max_stack, st.room, ap length same_stack); place = q.place; scale = q.scale_is })
+      (lit t.place q.place) q.max_stack st.room
+      (record {
+        pc = q.pc ∙ goes;
+        return_stack = q.return_stack ∙ st.return_stack ∙ same_stack;
+        room =
+            omega (arith, q.max_stack, st.room, ap length same_stack);
+        place = q.place;
+        scale = q.scale_is;
+      })
 
   -- an item, at which a run goes on, or which is a shape's last and from which it returns
   pub over_item : (first : ℕ) (earlier : List Item) (at : ℕ) (format : Format) (instr : Instr) (p : ℕ) (rs rest : List ℕ) (s : State)
@@ -149,8 +172,8 @@ module _ (mode : Mode) (m : Memory) (w : Window) (box : LitBox) (base : Point) (
       → Onward earlier (record { at = at; format = format; instr = instr }) rs p rest s
   over_item first earlier at format (Draws d) p rs rest s (inl goes) own lead e fits le calls st =
       drawn_onward first earlier (record { at = at; format = format; instr = Draws d }) p rs rest s tt own lead e (cc) goes.1
-          (λ q g. lit_draw c.machine w box base s.place q d.bright d (place_before c earlier) (scale_before c earlier) st.place g
-          fits.known fits.scale_known fits.shown fits.boxed) st
+      (λ q g. lit_draw c.machine w box base s.place q d.bright d (place_before c earlier) (scale_before c earlier) st.place g
+      fits.known fits.scale_known fits.shown fits.boxed) st
   over_item first earlier at format (Labs x y g) p rs rest s (inl goes) own lead e fits le calls st =
       drawn_onward first earlier (record { at = at; format = format; instr = Labs x y g }) p rs rest s tt own lead e (cc) goes.1
       (λ q g. tt) st
@@ -159,25 +182,36 @@ module _ (mode : Mode) (m : Memory) (w : Window) (box : LitBox) (base : Point) (
   over_item first earlier at Short (Jsrl to) p rs rest s (inl goes) own lead e fits le calls st =
       let there = next_there m s Short (Jsrl to) (ap (cell_at (word_at m)) st.pc ∙ stands c.kind m at Short (Jsrl to) mem e) in
       entry_onward earlier (record { at = at; format = Short; instr = Jsrl to }) to p rs rest s refl fits own st
-          (grind (arith, nat_tests, nat_lt, there)) (λ f. omega (arith, ap length goes.1)) le calls
+      (grind (arith, nat_tests, nat_lt, there)) (λ f. omega (arith, ap length goes.1)) le calls
   over_item first earlier at format (Jmpl to) p rs rest s (inl goes) own lead e fits le calls st =
       let there = next_there m s format (Jmpl to) (ap (cell_at (word_at m)) st.pc ∙ stands c.kind m at format (Jmpl to) mem e) in
       let t : State = record s { pc = to; fetched = places format at ++ s.fetched } in
       let none : callee c earlier (Jmpl to) ≡ None = grind (arith) in
       let known = rw (shift_origin s.place) at (fits_moved base s.place origin (place_before c earlier) st.place) in
       plain_onward earlier (record { at = at; format = format; instr = Jmpl to }) p rs rest s t [] none own (grind (arith, there)) refl
-          refl tt refl st.room (record { pc = grind (arith, nat_lt); return_stack = st.return_stack ∙ goes.1; room =
-          omega (arith, st.room, ap length goes.1); place = grind (arith, none); scale = grind (arith, none) })
+      refl tt refl st.room (record {
+        pc = grind (arith, nat_lt);
+        return_stack = st.return_stack ∙ goes.1;
+        room =
+            omega (arith, st.room, ap length goes.1);
+        place = grind (arith, none);
+        scale = grind (arith, none);
+      })
   over_item first earlier at format (Jmpl to) p rs rest s (inr goes) own lead e fits le calls st =
       let there = next_there m s format (Jmpl to) (ap (cell_at (word_at m)) st.pc ∙ stands c.kind m at format (Jmpl to) mem e) in
       entry_onward earlier (record { at = at; format = format; instr = Jmpl to }) to p rs rest s (ap (λ k. target k (Jmpl to)) goes.0)
-          fits own st (grind (arith, there)) (λ f. omega (arith, ap length goes.3)) le calls
+      fits own st (grind (arith, there)) (λ f. omega (arith, ap length goes.3)) le calls
   over_item first earlier at format Rtsl p rs rest s (inr goes) own lead e fits le calls st =
       let there = next_there m s format Rtsl (ap (cell_at (word_at m)) st.pc ∙ stands c.kind m at format Rtsl mem e) in
       let t : State = record s { pc = p; return_stack = rest; fetched = places format at ++ s.fetched } in
       let known = rw (shift_origin s.place) at (fits_moved base s.place origin (place_before c earlier) st.place) in
       plain_onward earlier (record { at = at; format = format; instr = Rtsl }) p rs rest s t [] refl own (grind (arith, there)) refl refl
-          tt refl st.room (record { pc = refl; return_stack = refl; room = omega (arith, st.room, ap length goes.3); place = known;
-          scale = st.scale })
+      tt refl st.room (record {
+        pc = refl;
+        return_stack = refl;
+        room = omega (arith, st.room, ap length goes.3);
+        place = known;
+        scale = st.scale;
+      })
   over_item first earlier at format instr p rs rest s (inl goes) own lead e fits le calls st = absurd (grind (arith))
   over_item first earlier at format instr p rs rest s (inr goes) own lead e fits le calls st = absurd (grind (arith))

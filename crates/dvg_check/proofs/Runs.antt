@@ -31,9 +31,13 @@ pub record Grows (s t : State) : Type 0 where
 
 grows_on : (s t u : State) → Grows s t → Grows t u → Grows s u
 grows_on s t u a b =
-    search (b.words ++ a.words, b.strokes ++ a.strokes,
-    b.fetched ∙ ap (λ l. b.words ++ l) a.fetched ∙ sym (append_assoc b.words a.words s.fetched),
-    b.drew ∙ ap (λ l. b.strokes ++ l) a.drew ∙ sym (append_assoc b.strokes a.strokes s.strokes), arith)
+    search (
+      b.words ++ a.words,
+      b.strokes ++ a.strokes,
+      b.fetched ∙ ap (λ l. b.words ++ l) a.fetched ∙ sym (append_assoc b.words a.words s.fetched),
+      b.drew ∙ ap (λ l. b.strokes ++ l) a.drew ∙ sym (append_assoc b.strokes a.strokes s.strokes),
+      arith,
+    )
 
 stays : (s t : State) → t.fetched ≡ s.fetched → t.strokes ≡ s.strokes → s.max_stack ≤ t.max_stack → Grows s t
 stays s t fetched drew stored = record { words = []; fetched = fetched; strokes = []; drew = drew; stored = stored }
@@ -48,10 +52,10 @@ unfolding next_status
 grows m zero a b r = subst (λ x. Grows (state_of a) (state_of x)) r (stays (state_of a) (state_of a) refl refl (omega arith))
 grows m (suc n) (Running s) b r =
     let f : Grows s (after_fetch m s) =
-        record { words = fetches ((word_at m).word s.pc) s.pc; fetched = refl; strokes = []; drew = refl; stored = omega arith } in
+    record { words = fetches ((word_at m).word s.pc) s.pc; fetched = refl; strokes = []; drew = refl; stored = omega arith } in
     let step : Grows s (state_of r.0) =
-        subst (λ x. Grows s (state_of x)) r.1
-        (grows_on s (after_fetch m s) _ f (grows_cell m.rom.machine (cell_at (word_at m) s.pc) (after_fetch m s))) in
+    subst (λ x. Grows s (state_of x)) r.1
+    (grows_on s (after_fetch m s) _ f (grows_cell m.rom.machine (cell_at (word_at m) s.pc) (after_fetch m s))) in
     grows_on s (state_of r.0) (state_of b) step (grows m n r.0 b r.2)
 grows m (suc n) a b r = absurd r.1
 
@@ -72,12 +76,15 @@ pub stretch_on : (mode : Mode) (m : Memory) (F : ℕ → Type 0) (P : Stroke →
 stretch_on mode m F P a b c d1 d2 d s t u le deep p q =
     let within : p.steps + q.steps ≤ c = omega (arith, p.within, q.within, counts_le mode (a + b) c le) in
     let few = counts_sum mode (length p.words) (length q.words) (length (q.words ++ p.words)) a b c
-        (omega (arith, length-append q.words p.words)) p.few q.few le in
+    (omega (arith, length-append q.words p.words)) p.few q.few le in
     let stored : Counts mode u.max_stack (max s.max_stack d) = grind (arith, p.stored, q.stored) in
     let fetched = q.fetched ∙ ap (λ l. q.words ++ l) p.fetched ∙ sym (append_assoc q.words p.words s.fetched) in
     let drew = q.drew ∙ ap (λ l. q.strokes ++ l) p.drew ∙ sym (append_assoc q.strokes p.strokes s.strokes) in
-    search (reached_on m p.steps q.steps (Running s) (Running t) (Running u) p.reached q.reached,
-        all_append F q.words p.words q.mapped p.mapped, all_append P q.strokes p.strokes q.lit p.lit)
+    search (
+      reached_on m p.steps q.steps (Running s) (Running t) (Running u) p.reached q.reached,
+      all_append F q.words p.words q.mapped p.mapped,
+      all_append P q.strokes p.strokes q.lit p.lit,
+    )
 
 -- what is claimed of words and strokes may be less
 pub stretch_less : (mode : Mode) (m : Memory) (F G : ℕ → Type 0) (P Q : Stroke → Type 0) (most deep : ℕ) (s t : State)
@@ -94,8 +101,19 @@ stretch_as mode m F P most more deep deeper s t a b c =
 pub stretch_here : (mode : Mode) (m : Memory) (F : ℕ → Type 0) (P : Stroke → Type 0) (deep : ℕ) (s : State) → deep ≤ s.max_stack
     → Stretch mode m F P 0 deep s s
 stretch_here mode m F P deep s le =
-    record { steps = 0; reached = refl; within = omega arith; words = []; fetched = refl; few = counts_same mode 0 0 refl; mapped = tt;
-    strokes = []; drew = refl; lit = tt; stored = counts_same mode s.max_stack (max s.max_stack deep) (omega arith) }
+    record {
+      steps = 0;
+      reached = refl;
+      within = omega arith;
+      words = [];
+      fetched = refl;
+      few = counts_same mode 0 0 refl;
+      mapped = tt;
+      strokes = [];
+      drew = refl;
+      lit = tt;
+      stored = counts_same mode s.max_stack (max s.max_stack deep) (omega arith);
+    }
 
 pub deeper : (mode : Mode) (m : Memory) (F : ℕ → Type 0) (P : Stroke → Type 0) (most deep : ℕ) (s t : State)
     → Stretch mode m F P most deep s t → s.max_stack ≤ t.max_stack

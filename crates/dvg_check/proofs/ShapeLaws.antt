@@ -17,18 +17,21 @@ pub record Facts (mode : Mode) (m : Memory) (w : Window) (c : Context) (box : Li
 pub arrive : (mode : Mode) (m : Memory) (w : Window) (c : Context) (box : LitBox) (base : Point) (Ok : ℕ → Type 0) (first : ℕ)
     (rs : List ℕ) (s : State) → IsMemory m → ((p : ℕ) → InRom m.rom.map p → Ok p)
     → ((earlier : List Item) (i : Item) → LeadsTo c.kind (word_of c.kind m) first earlier i.at
-        → cell_at (word_of c.kind m) i.at ≡ Holds i.format i.instr → Facts mode m w c box Ok earlier i) → Stands c base rs [] first s
+    → cell_at (word_of c.kind m) i.at ≡ Holds i.format i.instr → Facts mode m w c box Ok earlier i) → Stands c base rs [] first s
     → (items : List Item) (p : ℕ) → LeadsTo c.kind (word_of c.kind m) first items p → length rs + depth_before c items ≤ 4
     → (t : State) × Stretch mode m Ok (LitFits w box base) (words_before c items) (length rs + depth_before c items) s t
-        × Stands c base rs items p t
+    × Stands c base rs items p t
 arrive mode m w c box base Ok first rs s mem rom facts st [] p lead le = grind (arith, stretch_here)
 arrive mode m w c box base Ok first rs s mem rom facts st (i ∷ earlier) p lead le =
     let a = arrive mode m w c box base Ok first rs s mem rom facts st earlier i.at lead.0 (omega arith) in
     let f = facts earlier i lead.0 lead.1 in
     let b = over_item mode m w box base Ok rom mem c f.moves first earlier i.at i.format i.instr p rs rs a.0 (inl (lead.2, refl)) f.own
-        lead.0 lead.1 f.fits (omega arith) f.calls a.2 in
-    (b.0, stretch_on mode m Ok (LitFits w box base) (words_before c earlier) _ _ (length rs + depth_before c earlier) _ _ s a.0 b.0
-        (counts_same mode _ _ (omega (arith))) (counts_same mode _ _ (omega (arith))) a.1 b.1, b.2)
+    lead.0 lead.1 f.fits (omega arith) f.calls a.2 in (
+      b.0,
+      stretch_on mode m Ok (LitFits w box base) (words_before c earlier) _ _ (length rs + depth_before c earlier) _ _ s a.0 b.0
+          (counts_same mode _ _ (omega (arith))) (counts_same mode _ _ (omega (arith))) a.1 b.1,
+      b.2,
+    )
 
 -- a run that removes a return place takes at least one step
 some_step : (m : Memory) (n : ℕ) (s t : State) (back : ℕ) (rest : List ℕ) → Reached m n (Running s) (Running t)
@@ -67,8 +70,14 @@ module _ (mode : Mode) (m : Memory) (w : Window) (list : List Entry) (e : Entry)
       record {
         moves = refl;
         own = own Shape m i.at i.format i.instr mem is;
-        fits = grind (arith, (rule earlier i lead is shape.BeamUnknown), (rule earlier i lead is shape.ScaleUnknown),
-            (rule earlier i lead is shape.OffScreen), (rule earlier i lead is shape.BoxTooSmall), (rule earlier i lead is shape.NoEntry));
+        fits = grind (
+          arith,
+          (rule earlier i lead is shape.BeamUnknown),
+          (rule earlier i lead is shape.ScaleUnknown),
+          (rule earlier i lead is shape.OffScreen),
+          (rule earlier i lead is shape.BoxTooSmall),
+          (rule earlier i lead is shape.NoEntry),
+        );
         calls = λ f n. smaller f (named_listed list (target Shape i.instr) (scale_before context earlier) f n)
             (omega (arith, rule earlier i lead is shape.TooManyWords, ap callee_words n, word_count-some i.format));
       }
@@ -81,15 +90,15 @@ module _ (mode : Mode) (m : Memory) (w : Window) (list : List Entry) (e : Entry)
   find_last : (n : ℕ) (items : List Item) (p : ℕ) → LeadsTo Shape (rom_word m.rom) e.addr items p → words_before context items ≤ e.words
       → e.words < words_before context items + n
       → (items : List Item) × (i : Item) × LeadsTo Shape (rom_word m.rom) e.addr items i.at
-          × (cell_at (rom_word m.rom) i.at ≡ Holds i.format i.instr) × (next_address Shape i ≡ None)
+      × (cell_at (rom_word m.rom) i.at ≡ Holds i.format i.instr) × (next_address Shape i ≡ None)
   find_last zero items p lead few le = absurd (omega arith)
   find_last (suc n) items p lead few le =
       let h = holds (λ j. ShapeKeeps mode w e (seen_at context items j)) p (cell_at (rom_word m.rom) p)
-          (keep items p lead shape.Unmapped) (keep items p lead shape.Odd) in
+      (keep items p lead shape.Unmapped) (keep items p lead shape.Odd) in
       let i : Item = record { at = p; format = h.0; instr = h.1 } in
       (elim (next_address Shape i) as
-          (λ o. next_address Shape i ≡ o → (items : List Item) × (i : Item) × LeadsTo Shape (rom_word m.rom) e.addr items i.at
-          × (cell_at (rom_word m.rom) i.at ≡ Holds i.format i.instr) × (next_address Shape i ≡ None)) [
+      (λ o. next_address Shape i ≡ o → (items : List Item) × (i : Item) × LeadsTo Shape (rom_word m.rom) e.addr items i.at
+      × (cell_at (rom_word m.rom) i.at ≡ Holds i.format i.instr) × (next_address Shape i ≡ None)) [
         | None ↦ λ is. (items, i, lead, h.2, is)
         | Some q ↦ λ is. find_last n (i ∷ items) q (lead, h.2, is) (rule items i lead h.2 shape.TooManyWords)
             (omega (arith, word_count-some h.0))
@@ -109,24 +118,32 @@ one_shape mode m w list e mem good listed smaller s back rest room pc scale rs f
     let named = callee c items i.instr in
     let under : depth_under i.instr named ≤ e.depth = keeps shape.TooDeep in
     let st : Stands c s.place (back ∷ rest) [] e.addr s =
-        record { pc = pc; return_stack = rs; room = omega (arith, room, same); place =
-        sym (shift_origin s.place) ∙ ap (shift s.place) (sym (shift_origin origin)); scale = scale } in
+    record {
+      pc = pc;
+      return_stack = rs;
+      room = omega (arith, room, same);
+      place =
+          sym (shift_origin s.place) ∙ ap (shift s.place) (sym (shift_origin origin));
+      scale = scale;
+    } in
     let a = arrive mode m w c e.lit s.place (InRom m.rom.map) e.addr (back ∷ rest) s mem (λ p h. h) facts st items i.at lead
-        (omega (arith, same, deep)) in
+    (omega (arith, same, deep)) in
     let b = over_item mode m w e.lit s.place (InRom m.rom.map) (λ p h. h) mem c refl e.addr items i.at i.format i.instr back
-        (back ∷ rest) rest a.0 (inr (refl, last, keeps shape.HaltInShape, refl)) f.own lead is f.fits (omega (arith, same, under))
-        f.calls a.2 in
+    (back ∷ rest) rest a.0 (inr (refl, last, keeps shape.HaltInShape, refl)) f.own lead is f.fits (omega (arith, same, under))
+    f.calls a.2 in
     let words = claims mode 0 (words_before c (i ∷ items)) e.words (words_before c items + (word_count i.format + callee_words named))
-        e.words (next_address Shape i) last (keeps shape.TooManyWords) (keeps shape.WordsDiffer) (omega arith) (omega arith) in
+    e.words (next_address Shape i) last (keeps shape.TooManyWords) (keeps shape.WordsDiffer) (omega arith) (omega arith) in
     let most = max (length (back ∷ rest) + depth_before c items) (length (back ∷ rest) + depth_under i.instr named) in
     let depth = claims mode (length s.return_stack) (depth_before c (i ∷ items)) e.depth most (length s.return_stack + e.depth)
-        (next_address Shape i) last (omega (arith, under, deep)) (keeps shape.DepthDiffers) (omega (arith, same)) refl in
+    (next_address Shape i) last (omega (arith, under, deep)) (keeps shape.DepthDiffers) (omega (arith, same)) refl in
     let whole = stretch_on mode m (InRom m.rom.map) (LitFits w e.lit s.place) _ _ e.words _ _ (length s.return_stack + e.depth) s a.0 b.0
-        words depth a.1 b.1 in (
+    words depth a.1 b.1 in (
       b.0,
-      search (some_step m whole.steps s b.0 back rest whole.reached rs b.2.return_stack,
-          subst (λ k. PlaceFits k s.place b.0.place) (rw last at (keeps shape.EndDiffers)) b.2.place,
-          subst (λ k. ScaleFits k b.0.scale) (rw last at (keeps shape.ScaleDiffers)) b.2.scale),
+      search (
+        some_step m whole.steps s b.0 back rest whole.reached rs b.2.return_stack,
+        subst (λ k. PlaceFits k s.place b.0.place) (rw last at (keeps shape.EndDiffers)) b.2.place,
+        subst (λ k. ScaleFits k b.0.scale) (rw last at (keeps shape.ScaleDiffers)) b.2.scale,
+      ),
     )
 
 shapes_up_to : (mode : Mode) (m : Memory) (w : Window) (list : List Entry) → IsMemory m → Good mode w m.rom list → (n : ℕ) (e : Entry)

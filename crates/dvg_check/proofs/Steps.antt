@@ -52,16 +52,28 @@ fits_moved base p d Lost h = tt
 
 item_step :
     (m : Memory) (c : Context) (earlier : List Item) (at : ℕ) (format : Format) (instr : Instr) (base : Point) (s : State)
-        → c.machine ≡ m.rom.machine → cell_at (word_at m) at ≡ Holds format instr → IsDrawOrLabs instr
+    → c.machine ≡ m.rom.machine → cell_at (word_at m) at ≡ Holds format instr → IsDrawOrLabs instr
     → s.pc ≡ at → PlaceFits (place_before c earlier) base s.place → ScaleFits (scale_before c earlier) s.scale
     → (t : State) × Past m base (record { at = at; format = format; instr = instr })
-        (place_before c (record { at = at; format = format; instr = instr } ∷ earlier))
-        (scale_before c (record { at = at; format = format; instr = instr } ∷ earlier)) s t
+    (place_before c (record { at = at; format = format; instr = instr } ∷ earlier))
+    (scale_before c (record { at = at; format = format; instr = instr } ∷ earlier)) s t
 item_step m c earlier at format instr base s same e k pc place scale =
-    grind (arith, (places format s.pc), (next_there m s format instr (ap (cell_at (word_at m)) pc ∙ e)), (cell_at (word_at m)),
-        (word_at m), (word_count format),
-        (place_past (effect_of c.machine instr (scale_before c earlier) (callee c earlier instr)) (place_before c earlier)),
-        (scale_before c earlier), (place_before c earlier), shift, displacement, place_moved_by, fits_moved, places)
+    grind (
+      arith,
+      (places format s.pc),
+      (next_there m s format instr (ap (cell_at (word_at m)) pc ∙ e)),
+      (cell_at (word_at m)),
+      (word_at m),
+      (word_count format),
+      (place_past (effect_of c.machine instr (scale_before c earlier) (callee c earlier instr)) (place_before c earlier)),
+      (scale_before c earlier),
+      (place_before c earlier),
+      shift,
+      displacement,
+      place_moved_by,
+      fits_moved,
+      places,
+    )
 
 pub one_item : OneItem
 one_item m c first earlier i base s mem same lead e kind pc place scale = grind (arith, item_step, stands)

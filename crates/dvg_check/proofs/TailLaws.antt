@@ -33,8 +33,18 @@ less_keeps : (mode to : Mode) (w : Window) (e strong : Entry) (v : Seen) → Wea
     → ((why : ShapeWhy) → ShapeKeeps mode w strong v why) → (why : ShapeWhy) → ShapeKeeps to w e v why
 less_keeps mode to w e strong v weakens c h shape.BoxTooSmall = lit_in_more strong.lit e.lit v.extent v.place c.lit (h shape.BoxTooSmall)
 less_keeps mode to w e strong v weakens c h why =
-    grind (arith, (h why), (h shape.TooDeep), (h shape.TooManyWords), c.stop, c.scale, c.words, c.depth,
-    (counts_le mode strong.depth e.depth c.depth), (counts_le mode strong.words e.words c.words))
+    grind (
+      arith,
+      (h why),
+      (h shape.TooDeep),
+      (h shape.TooManyWords),
+      c.stop,
+      c.scale,
+      c.words,
+      c.depth,
+      (counts_le mode strong.depth e.depth c.depth),
+      (counts_le mode strong.words e.words c.words),
+    )
 
 -- what an item of a shape keeps of a claim
 abbrev Kept : Mode → Window → Rom → List Entry → Entry → List Item → Item → ShapeWhy → Type 0
@@ -46,7 +56,7 @@ pub good_less : (mode to : Mode) (w : Window) (rom : Rom) (list : List Entry) (e
 good_less mode to w rom list e strong weakens c good earlier p lead why =
     cell_keeps (Kept mode w rom list strong earlier) (Kept to w rom list e earlier) p (cell_at (rom_word rom) p)
     (λ i h. less_keeps mode to w e strong (seen_at (shape_context rom.machine list e) earlier i) weakens c (λ x. rw c.key (h x)))
-        (good earlier p (rw c.addr at lead)) why
+    (good earlier p (rw c.addr at lead)) why
 
 pub weaker_claim : (mode : Mode) (w : Window) (rom : Rom) (list : List Entry) (e strong : Entry) → ClaimsLess mode e strong
     → GoodShape mode w rom list strong → GoodShape mode w rom list e
@@ -67,12 +77,22 @@ box_over whole l r d t first second p m h = grind (arith, ints)
 lit_over : (w : Window) (whole box : LitBox) (lit : LitExtent) (place second : End) → MayStandAt w whole box place
     → PlaceKnown lit second → ScaleKnown lit → LitInWindow w lit second → LitInBox box lit second
     → PlaceKnown lit (place_over place second) × LitInWindow w lit (place_over place second) × LitInBox whole lit (place_over place second)
-lit_over w whole (Span l r d t) (Between a b) (Abs u v) (Rel x y) m known scale shown boxed =
-    (grind (arith), (window_over w l r d t (record { x = u; y = v }) (record { x = x; y = y }) a m boxed.0,
-    (window_over w l r d t (record { x = u; y = v }) (record { x = x; y = y }) b m boxed.1.0, tt)), tt)
-lit_over w whole (Span l r d t) (Between a b) (Rel u v) (Rel x y) m known scale shown boxed =
-    (grind (arith), tt, (box_over whole l r d t (record { x = u; y = v }) (record { x = x; y = y }) a m boxed.0,
-    (box_over whole l r d t (record { x = u; y = v }) (record { x = x; y = y }) b m boxed.1.0, tt)))
+lit_over w whole (Span l r d t) (Between a b) (Abs u v) (Rel x y) m known scale shown boxed = (
+  grind (arith),
+  (
+    window_over w l r d t (record { x = u; y = v }) (record { x = x; y = y }) a m boxed.0,
+    (window_over w l r d t (record { x = u; y = v }) (record { x = x; y = y }) b m boxed.1.0, tt),
+  ),
+  tt,
+)
+lit_over w whole (Span l r d t) (Between a b) (Rel u v) (Rel x y) m known scale shown boxed = (
+  grind (arith),
+  tt,
+  (
+    box_over whole l r d t (record { x = u; y = v }) (record { x = x; y = y }) a m boxed.0,
+    (box_over whole l r d t (record { x = u; y = v }) (record { x = x; y = y }) b m boxed.1.0, tt),
+  ),
+)
 lit_over w whole box lit place second m known scale shown boxed = (grind (arith), grind (arith), grind (arith))
 
 -- the rules of a tail's item, seen from where the tail stands
@@ -145,18 +165,29 @@ module _ (mode : Mode) (w : Window) (rom : Rom) (list : List Entry) (key : Key) 
   knows_on : (earlier : List Item) (p : ℕ) (s : Split earlier p) (j : Item)
       → seen_at whole earlier j ≡ seen_over past (seen_at (shape_context rom.machine list tail) s.rest j)
   knows_on earlier p s j =
-      grind (arith, (seen_by_over rom.machine list past (known_before (shape_context rom.machine list tail) s.rest) j),
-          (known_before (shape_context rom.machine list tail) s.rest), s.knows)
+      grind (
+        arith,
+        (seen_by_over rom.machine list past (known_before (shape_context rom.machine list tail) s.rest) j),
+        (known_before (shape_context rom.machine list tail) s.rest),
+        s.knows,
+      )
 
   split : (earlier : List Item) (p : ℕ) → LeadsTo Shape (rom_word rom) i.at earlier p → ((earlier ≡ []) × (p ≡ i.at)) ⊎ Split earlier p
   split [] p lead = inl (refl, lead)
   split (j ∷ earlier) p lead =
       ⊎_elim
-      (λ (h : (earlier ≡ []) × (j.at ≡ i.at)). grind
-          (arith, b.next, (item_same j i h.1 (sym lead.1 ∙ ap (cell_at (rom_word rom)) h.1 ∙ m.there)), (cell_at (rom_word rom)),
-          (rom_word rom), (next_address Shape), (known_before whole), (over_none past tail.key (sym b.scale))))
+      (λ (h : (earlier ≡ []) × (j.at ≡ i.at)). grind (
+        arith,
+        b.next,
+        (item_same j i h.1 (sym lead.1 ∙ ap (cell_at (rom_word rom)) h.1 ∙ m.there)),
+        (cell_at (rom_word rom)),
+        (rom_word rom),
+        (next_address Shape),
+        (known_before whole),
+        (over_none past tail.key (sym b.scale)),
+      ))
       (λ (s : Split earlier j.at). inr
-          (record { rest = j ∷ s.rest; leads = (s.leads, lead.1, lead.2); knows = ap (λ (v : Seen). v.after) (knows_on earlier j.at s j) }))
+      (record { rest = j ∷ s.rest; leads = (s.leads, lead.1, lead.2); knows = ap (λ (v : Seen). v.after) (knows_on earlier j.at s j) }))
       (split earlier j.at lead.0)
 
   -- an item before a good tail is good
@@ -164,14 +195,14 @@ module _ (mode : Mode) (w : Window) (rom : Rom) (list : List Entry) (key : Key) 
   item_before_tail good earlier p lead why =
       ⊎_elim
       (λ (h : (earlier ≡ []) × (p ≡ i.at)). rw (h.0, h.1, m.there)
-          (first_keeps mode w rom list key box i (known_over past (known_at_end tail)) m (omega arith) (omega arith)
-          (λ none. cc (b.next, none)) why))
+      (first_keeps mode w rom list key box i (known_over past (known_at_end tail)) m (omega arith) (omega arith)
+      (λ none. cc (b.next, none)) why))
       (λ (s : Split earlier p).
       cell_keeps (Kept mode w rom list tail s.rest) (Kept mode w rom list (after_item rom.machine list key box i tail) earlier) p
-          (cell_at (rom_word rom) p)
+      (cell_at (rom_word rom) p)
       (λ j h x. rw (knows_on earlier p s j)
-          (over_keeps mode w i.at key box past tail (seen_at (shape_context rom.machine list tail) s.rest j) b.lit h x))
-          (good s.rest p s.leads) why)
+      (over_keeps mode w i.at key box past tail (seen_at (shape_context rom.machine list tail) s.rest j) b.lit h x))
+      (good s.rest p s.leads) why)
       (split earlier p lead)
 
 -- what is made of an item, alone or before a tail, is a tail
@@ -196,9 +227,9 @@ module _ (w : Window) (rom : Rom) (list : List Entry) (key : Key) (i : Item) (fi
       let seen = first_seen rom.machine list key i in
       let same : end_of whole ≡ known_over seen.after (end_of tail) = value ∙ ap (λ (k : Known). known_over k (end_of tail)) is in
       let more : MayStandFirst rom list key whole.lit i =
-          search (stands, lit_in_more first.lit whole.lit seen.extent seen.place inside stands.boxed) in
+      search (stands, lit_in_more first.lit whole.lit seen.extent seen.place inside stands.boxed) in
       let behind : IsBehind w rom.machine list key whole.lit i (entry_of next first.scale tail) =
-          search (ap (λ (k : Known). k.scale) is, subst (λ (k : Known). MayStandAt w whole.lit tail.lit k.place) is lit) in
+      search (ap (λ (k : Known). k.scale) is, subst (λ (k : Known). MayStandAt w whole.lit tail.lit k.place) is lit) in
       record {
         good = λ mode. subst (λ (k : Known). GoodShape mode w rom list (claimed i.at key whole.lit k)) (sym same)
             (item_before_tail mode w rom list key whole.lit i (entry_of next first.scale tail) more behind (t.good mode));

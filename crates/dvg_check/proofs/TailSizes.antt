@@ -20,7 +20,7 @@ IsNearBox-joined n Empty (Span a b c d) box h k i j least =
     near_by_part n a b c d box k j (least (wall ITEM_REACH n) tt (inside_wall ITEM_REACH n (Span a b c d) k))
 IsNearBox-joined n (Span a b c d) second box h k i j least =
     near_by_part n a b c d box h i
-        (least (wall ITEM_REACH n) (inside_wall ITEM_REACH n (Span a b c d) h) (inside_wall ITEM_REACH n second k))
+    (least (wall ITEM_REACH n) (inside_wall ITEM_REACH n (Span a b c d) h) (inside_wall ITEM_REACH n second k))
 
 pub IsNearBox-moved : (n : ℕ) (box : LitBox) (d : Point) → IsNearBox n box → IsNear 1 d → IsNearBox (n + 1) (moved box d)
 IsNearBox-moved n Empty d h k = tt
@@ -35,5 +35,10 @@ IsNearPlace-over n place stop h k = place_after ITEM_REACH 1 n (n + 1) place (st
 
 pub IsSmall-more : (m n : ℕ) (t : Tail) → m ≤ n → IsSmall m t → IsSmall n t
 IsSmall-more m n t le h =
-    record { stop = place_more ITEM_REACH m n t.stop le h.stop; scale = h.scale; words = omega (arith, h.words, le); depth = h.depth;
-        lit = box_more ITEM_REACH m n t.lit le h.lit }
+    record {
+      stop = place_more ITEM_REACH m n t.stop le h.stop;
+      scale = h.scale;
+      words = omega (arith, h.words, le);
+      depth = h.depth;
+      lit = box_more ITEM_REACH m n t.lit le h.lit;
+    }

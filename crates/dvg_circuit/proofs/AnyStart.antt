@@ -29,15 +29,25 @@ twice bits size start zero = omega arith
 twice bits size start (suc n) =
     let two_more : 2 * suc n ≡ suc (suc (2 * n)) = omega arith in
     let half : (start + 2 * n) / 2 ≡ start / 2 + n = omega arith in
-    grind (arith, (ap (let_from (suc bits) size start) two_more), (twice bits size start n), (pair bits size (start + 2 * n)),
-        (ap (multiplier bits size) half))
+    grind (
+      arith,
+      (ap (let_from (suc bits) size start) two_more),
+      (twice bits size start n),
+      (pair bits size (start + 2 * n)),
+      (ap (multiplier bits size) half),
+    )
 
 near : (bits size k s t : ℕ) → k ≤ bits → let_from bits size s (2 ^ k) ≤ let_from bits size t (2 ^ k) + 1
 near bits size zero s t le = grind (arith, (few bits size (s + 0)))
 near zero size (suc k) s t le = absurd (omega (arith, le))
 near (suc bits) size (suc k) s t le =
-    grind (arith, (pow-succ' 2 k), (twice bits size s (2 ^ k)), (twice bits size t (2 ^ k)),
-    (near bits size k (s / 2) (t / 2) (omega (arith, le))))
+    grind (
+      arith,
+      (pow-succ' 2 k),
+      (twice bits size s (2 ^ k)),
+      (twice bits size t (2 ^ k)),
+      (near bits size k (s / 2) (t / 2) (omega (arith, le))),
+    )
 
 alike : (bits size s t : ℕ) → let_from bits size s (2 ^ bits) ≡ let_from bits size t (2 ^ bits)
 alike zero size s t = refl
@@ -48,8 +58,14 @@ alike (suc bits) size s t =
 
 nearly : (size s t scale : ℕ) → pulses_from size s (counts scale) ≤ pulses_from size t (counts scale) + 1
 nearly size s t scale =
-    grind (arith, nat_tests, (multiplied size s (2 ^ (scale + 1))), (multiplied size t (2 ^ (scale + 1))),
-    (near 10 size (scale + 1) s t), (cases_eq scale 9))
+    grind (
+      arith,
+      nat_tests,
+      (multiplied size s (2 ^ (scale + 1))),
+      (multiplied size t (2 ^ (scale + 1))),
+      (near 10 size (scale + 1) s t),
+      (cases_eq scale 9),
+    )
 
 from_zero : (size n : ℕ) → pulses_from size 0 n ≡ pulses size n
 from_zero size zero = refl
@@ -74,7 +90,7 @@ same : (size start scale : ℕ) → 9 ≤ scale → pulses_from size start (coun
 same size start scale le =
     ⊎_elim
     (λ (nine : scale ≡ 9). all_counts size start 0 (counts scale) (subst (λ t. counts t ≡ 2 ^ 10) (sym nine) refl)
-        ∙ from_zero size (counts scale))
+    ∙ from_zero size (counts scale))
     (λ other. subst (λ n. pulses_from size start n ≡ pulses size n) (sym (none_over scale (omega (arith, le, other)))) refl)
     (cases_eq scale 9)
 
@@ -87,7 +103,7 @@ counter_from_zero size counter zero = refl
 counter_from_zero size counter (suc n) =
     let none : 0 + n ≡ n = omega arith in
     ap (stepped size (pulse (nat_abs size) (0 + n))) (counter_from_zero size counter n)
-        ∙ ap (λ m. stepped size (pulse (nat_abs size) m) (counter_after size counter n)) none
+    ∙ ap (λ m. stepped size (pulse (nat_abs size) m) (counter_after size counter n)) none
 
 counter_is : (from size : ℤ) (start n : ℕ) → counter_from size start (twelve_bits from) n ≡ twelve_bits (from +ℤ moved_from size start n)
 counter_is from size start zero = ap twelve_bits (let e : from ≡ from +ℤ signed size 0 = grind (arith, ints) in e)
@@ -123,10 +139,16 @@ one_place_each = record {
 
 one_draw : (n : ℕ) (p q : ℤ) (d : AxisDraw) → IsWithin n p q
     → IsWithin (n + (if nat_lt d.scale 9 then 1 else 0)) (p +ℤ moved d.size (counts d.scale))
-        (q +ℤ moved_from d.size d.start (counts d.scale))
+    (q +ℤ moved_from d.size d.start (counts d.scale))
 one_draw n p q d h =
-    grind (arith, nat_tests, apart, (more (nat_abs d.size) d.start d.scale), (fewer (nat_abs d.size) d.start d.scale),
-    (same (nat_abs d.size) d.start d.scale))
+    grind (
+      arith,
+      nat_tests,
+      apart,
+      (more (nat_abs d.size) d.start d.scale),
+      (fewer (nat_abs d.size) d.start d.scale),
+      (same (nat_abs d.size) d.start d.scale),
+    )
 
 -- places at most n apart stay within one more for each draw below scale 9
 drawn : (n : ℕ) (p q : ℤ) (draws : List AxisDraw) → IsWithin n p q → IsWithin (n + below_nine draws) (end_of p draws) (end_from q draws)

@@ -53,8 +53,21 @@ agree_instr : (base : ℕ) (i : Instr) (f : Format) (s : State) (r : Run)
     → IsRight f i → r.circuit.halted ≡ false → Agrees base s r → s.pc + word_count f < 4096
     → AgreesWith base (after_instruction Board i f (fetched_state f s)) (performed i f r)
 agree_instr base i f s r fits going h low =
-    grind (arith, beam_moved, fetched_more, append-nil, reverse-append, zip_push, reverse, drawn_as, labs_same, nat_tests,
-    get_or-set_same, stays_stored, length-set)
+    grind (
+      arith,
+      beam_moved,
+      fetched_more,
+      append-nil,
+      reverse-append,
+      zip_push,
+      reverse,
+      drawn_as,
+      labs_same,
+      nat_tests,
+      get_or-set_same,
+      stays_stored,
+      length-set,
+    )
 
 -- ---- an instruction that is fetched
 
@@ -69,17 +82,17 @@ agree_long : (m : Memory) (base first : ℕ) (second : Option ℕ) (reads : Read
     → r.circuit.halted ≡ false → Agrees base s r
     → s.pc + 1 < 4096
     → AgreesWith base (after_cell Board (long_cell Board first second) (fetched_state Long s))
-        (performed (decoded first (reads (past Short r.circuit.pc))) Long r)
+    (performed (decoded first (reads (past Short r.circuit.pc))) Long r)
 agree_long m base first None reads s r mem e is seen going h low = tt
 agree_long m base first (Some second) reads s r mem e is seen going h low =
     let behind : past Short r.circuit.pc ≡ s.pc + 1 = omega (arith, h.pc, low) in
     agree_holding base _ Long first second _ s r refl (seen second (ap (fetched_at m) behind ∙ e)) is going h
-        (let room = low_word m (s.pc + 1) second mem e in omega (arith, room))
+    (let room = low_word m (s.pc + 1) second mem e in omega (arith, room))
 
 agree_first : (m : Memory) (base : ℕ) (first : Option ℕ) (reads : Reads) (s : State) (r : Run)
     → IsMemory m → fetched_at m s.pc ≡ first → ReadsNow m reads r → r.circuit.halted ≡ false → Agrees base s r
     → AgreesWith base (after_cell Board (cell_of_words Board first (fetched_at m (s.pc + 1)))
-        (record s { fetched = fetches first s.pc ++ s.fetched }))
+    (record s { fetched = fetches first s.pc ++ s.fetched }))
     (act reads (reads r.circuit.pc) r)
 agree_first m base None reads s r mem e seen going h = tt
 agree_first m base (Some first) reads s r mem e seen going h = grind (arith, agree_holding, agree_long, (low_word m s.pc first mem e))

@@ -10,7 +10,7 @@ moved_to : (from size : ℤ) (local global : ℕ) → nat_abs size ≤ 1023
     → pos 1024 *ℤ from +ℤ axis_move Board size local global ≡ pos 1024 *ℤ (from +ℤ moved size (counts (effective_scale local global)))
 moved_to from size local global small =
     let move : axis_move Board size local global ≡ pos 1024 *ℤ moved size (counts (effective_scale local global)) =
-        grind (arith, board_moves, rounded_half_up, cases_lt, ints) in
+    grind (arith, board_moves, rounded_half_up, cases_lt, ints) in
     omega (arith, ints, move)
 
 -- the sizes have ten bits
@@ -45,7 +45,7 @@ among a b from (negsuc m) some all e f le low high g k = omega (arith, ints)
 -- the stroke of a draw
 pub drawn_as : (d : DrawFields) (g : ℕ) (p : Point) (c : Counters) (small : AreSizes d) (h : IsSamePlace p c)
     → IsDrawnAs (record { from = p; to = shift p (displacement Board d g) })
-        (record { draw = d; from = c; counts = counts (effective_scale d.lscale g) })
+    (record { draw = d; from = c; counts = counts (effective_scale d.lscale g) })
 unfolding beam_moved
 drawn_as d g p c small h = record { from = h; to = (beam_moved d g p c small h).place }
 

@@ -12,7 +12,7 @@ ends zero count b z h = grind (arith, nat_tests)
 ends (suc bits) count zero z h = grind (arith, nat_tests, (bit_at_lowest count))
 ends (suc bits) count (suc b) z h =
     let halved =
-        ends bits (count / 2) b (sym (bit_at-suc count b) ∙ z) (λ i lt. sym (bit_at-suc count i) ∙ h (suc i) (omega (arith, lt))) in
+    ends bits (count / 2) b (sym (bit_at-suc count b) ∙ z) (λ i lt. sym (bit_at-suc count i) ∙ h (suc i) (omega (arith, lt))) in
     grind (arith, nat_tests, halved, (bit_at_lowest count), (h 0 (omega arith)))
 
 pub counted_ones : (size count : ℕ) → count < 65536 → pulse size count ≡ let_through size (trailing_ones w16 count)
@@ -21,5 +21,5 @@ counted_ones size count fits =
     ⊎_elim
     (λ (most : count ≡ 65535). subst (λ n. pulse size n ≡ let_through size (trailing_ones w16 n)) (sym most) refl)
     (λ less. let t = bit_at-trailing_ones w16 count (omega (arith, fits, less)) in
-        grind (arith, nat_tests, (ends 10 count (trailing_ones w16 count) t.1 t.2)))
+    grind (arith, nat_tests, (ends 10 count (trailing_ones w16 count) t.1 t.2)))
     (cases_eq count 65535)

@@ -51,9 +51,15 @@ rounded zero size (suc k) le = absurd (omega arith)
 rounded (suc bits) size zero le =
     grind (arith, (pow-succ' 2 bits), (mod-pow-add size 1 bits), pow_pos, (rounded_one (2 ^ bits) (bit bits size) (size % 2 ^ bits)))
 rounded (suc bits) size (suc k) le =
-    grind (arith, (pow-succ' 2 k), (pow-succ' 2 bits), (mod-pow-add size 1 bits), (twice bits size (2 ^ k)),
-    (rounded_step (2 ^ bits) (2 ^ k) (bit bits size) (size % 2 ^ bits) (pulses_of bits size (2 ^ k))
-    (rounded bits size k (omega (arith, le)))))
+    grind (
+      arith,
+      (pow-succ' 2 k),
+      (pow-succ' 2 bits),
+      (mod-pow-add size 1 bits),
+      (twice bits size (2 ^ k)),
+      (rounded_step (2 ^ bits) (2 ^ k) (bit bits size) (size % 2 ^ bits) (pulses_of bits size (2 ^ k))
+          (rounded bits size k (omega (arith, le)))),
+    )
 
 pub rounded_half_up : RoundedHalfUp
 rounded_half_up = record {

@@ -32,8 +32,12 @@ drawn_in_window w stroke l is from to h =
       y = h.from.y;
       each = λ n le.
           let on = drawn_on_stroke stroke l h n le in
-          grind (arith, (shown_in_window.place w (h.from.x +ℤ moved l.draw.dx n) (h.from.y +ℤ moved l.draw.dy n) is
-              (lit_in_window w stroke (counters_after l.draw l.from n) on from to)), on);
+          grind (
+            arith,
+            (shown_in_window.place w (h.from.x +ℤ moved l.draw.dx n) (h.from.y +ℤ moved l.draw.dy n) is
+                (lit_in_window w stroke (counters_after l.draw l.from n) on from to)),
+            on,
+          );
     }
 
 -- ---- strokes of the zone

@@ -75,10 +75,10 @@ module _ (measure : Measure) (m : Memory) (mem : IsMemory m) (board : m.rom.mach
   unfolding next_status
   step_taken k s reached sound =
       let agrees : AgreesWith c.pointer (Running s) (run_after reads k (begin c)) =
-          circuit_follows m reads c place k (Running s) mem board begun seen same reached in
+      circuit_follows m reads c place k (Running s) mem board begun seen same reached in
       let t = there m.rom.machine (cell_at (word_at m) s.pc) _ sound in
       same_taken measure m c.pointer (reads k) (run_after reads k (begin c)) s t.0 t.1 mem board (seen k agrees.0) agrees t.2
-          ∙ sym (ap (λ x. taken_at measure x s.scale) t.2)
+      ∙ sym (ap (λ x. taken_at measure x s.scale) t.2)
 
   taken_on_circuit : (k n all : ℕ) (mid after : Status) → all ≡ k + n → Reached m k (Running (start place c.scale)) mid
       → Reached m n mid after → IsSound after
@@ -86,10 +86,10 @@ module _ (measure : Measure) (m : Memory) (mem : IsMemory m) (board : m.rom.mach
   taken_on_circuit k zero all mid after e come go sound = grind (arith)
   taken_on_circuit k (suc n) all (Running s) after e come go sound =
       let next : Reached m (k + 1) (Running (start place c.scale)) go.0 =
-          reached_on m k 1 (Running (start place c.scale)) (Running s) go.0 come (go.0, go.1, refl) in
+      reached_on m k 1 (Running (start place c.scale)) (Running s) go.0 come (go.0, go.1, refl) in
       let more : k + 1 ≡ suc k = omega arith in
       let rest = taken_on_circuit (suc k) n all go.0 after (omega (arith, e))
-          (subst (λ j. Reached m j (Running (start place c.scale)) go.0) more next) go.2 sound in
+      (subst (λ j. Reached m j (Running (start place c.scale)) go.0) more next) go.2 sound in
       let one = step_taken k s come (subst IsSound (sym go.1) (sound_before m n go.0 after go.2 sound)) in
       let ahead : taken_by measure m n go.0 ≡ taken_by measure m n (next_status m s) = ap (taken_by measure m n) (sym go.1) in
       omega (arith, rest, one, ahead)
@@ -131,11 +131,11 @@ circuit_takes measure forecast by_entry mode m w v list budget words depth right
     let r = run measure forecast right by_entry mode m w v list budget words depth mem three good sums gf place c.scale in
     let stops = (circuit_follows m reads c place r.n (Halted r.h) mem board begun seen (same_place c begun) r.reached).0 in
     let whole = taken_on_circuit measure m mem board c reads begun seen place (same_place c begun) 0 r.n r.n
-        (Running (start place c.scale)) (Halted r.h) (omega arith) refl r.reached tt in
+    (Running (start place c.scale)) (Halted r.h) (omega arith) refl r.reached tt in
     record {
       each = λ n. omega (arith, whole, r.took.most, taken_most measure reads (begin c) r.n n stops);
       halted = λ n halted.
           let same : taken_by measure m r.n (Running (start place c.scale)) ≡ taken_after measure reads n (begin c) =
-              omega (arith, whole, same_halts measure reads (begin c) r.n n stops halted) in
+          omega (arith, whole, same_halts measure reads (begin c) r.n n stops halted) in
           subst (IsInRange (frame_taken forecast by_entry gf)) same r.took;
     }

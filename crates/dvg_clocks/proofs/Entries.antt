@@ -17,9 +17,9 @@ same_taken forecast a b c [] same = refl
 same_taken forecast a b c (i ∷ earlier) same =
     let rest = same_taken forecast a b c earlier (λ f l lt. same f l (omega (arith, lt))) in
     let here : callee_taken a (callee c earlier i.instr) ≡ callee_taken b (callee c earlier i.instr) =
-        called (callee c earlier i.instr) refl in
+    called (callee c earlier i.instr) refl in
     ap (λ x. plus (plus (forecast i.format i.instr (scale_before c earlier)) x) (taken_before forecast a c earlier)) here
-        ∙ ap (λ x. plus (plus (forecast i.format i.instr (scale_before c earlier)) (callee_taken b (callee c earlier i.instr))) x) rest
+    ∙ ap (λ x. plus (plus (forecast i.format i.instr (scale_before c earlier)) (callee_taken b (callee c earlier i.instr))) x) rest
   where
     called : (o : Option Entry) → callee c earlier i.instr ≡ o → callee_taken a o ≡ callee_taken b o
     called None is = refl
@@ -47,9 +47,16 @@ module _ (mode : Mode) (w : Window) (rom : Rom) (list : List Entry) (good : Good
   pub walk : (e : Entry) → Contains list e → Walk e
   walk e listed =
       let (items, i, lead, is, last) =
-          find_last mode rom w list e (good e listed) (suc e.words) [] e.addr refl (omega arith) (omega arith) in
-      record { items = items; i = i; lead = lead; is = is; last = last; few =
-          rule mode rom w list e (good e listed) items i lead is shape.TooManyWords }
+      find_last mode rom w list e (good e listed) (suc e.words) [] e.addr refl (omega arith) (omega arith) in
+      record {
+        items = items;
+        i = i;
+        lead = lead;
+        is = is;
+        last = last;
+        few =
+            rule mode rom w list e (good e listed) items i lead is shape.TooManyWords;
+      }
 
 -- ---- few for each word
 
@@ -62,9 +69,14 @@ module _ (forecast : Forecast) (each : ℕ) (few : IsFew forecast each) (by_entr
       let rest = few_items c earlier (λ f l lt. h f l (omega (arith, lt))) in
       let here = called (callee c earlier i.instr) refl in
       let one = few i.format i.instr (scale_before c earlier) in
-      omega (arith, rest, here, one,
-          mul-add each (word_count i.format + callee_words (callee c earlier i.instr)) (words_before c earlier),
-          mul-add each (word_count i.format) (callee_words (callee c earlier i.instr)))
+      omega (
+        arith,
+        rest,
+        here,
+        one,
+        mul-add each (word_count i.format + callee_words (callee c earlier i.instr)) (words_before c earlier),
+        mul-add each (word_count i.format) (callee_words (callee c earlier i.instr)),
+      )
     where
       called : (o : Option Entry) → callee c earlier i.instr ≡ o → (callee_taken by_entry o).most ≤ each * callee_words o
       called None is = omega arith
@@ -83,13 +95,13 @@ few_taken forecast each few =
         → IsSumOfItems forecast rom list by_entry → (e : Entry) → Contains list e → (by_entry e).most ≤ each * e.words
     entries by_entry mode w rom list good sums e listed =
         up_to (λ f. (by_entry f).most ≤ each * f.words) list next e.words e listed (omega arith) where
-      next : (f : Entry) → Contains list f → ((g : Entry) → Contains list g → g.words < f.words → (by_entry g).most ≤ each * g.words)
-          → (by_entry f).most ≤ each * f.words
-      next f there smaller =
-          let k = walk mode w rom list good f there in
-          let all = few_items forecast each few by_entry (shape_context rom.machine list f) (k.i ∷ k.items)
+          next : (f : Entry) → Contains list f → ((g : Entry) → Contains list g → g.words < f.words → (by_entry g).most ≤ each * g.words)
+              → (by_entry f).most ≤ each * f.words
+          next f there smaller =
+              let k = walk mode w rom list good f there in
+              let all = few_items forecast each few by_entry (shape_context rom.machine list f) (k.i ∷ k.items)
               (λ g l lt. smaller g l (omega (arith, lt, k.few))) in
-          omega (arith, all, ap (λ (r : ClockRange). r.most) (sums f there k.items k.i k.lead k.is k.last), mul-le-mul_left each k.few)
+              omega (arith, all, ap (λ (r : ClockRange). r.most) (sums f there k.items k.i k.lead k.is k.last), mul-le-mul_left each k.few)
 
 few_for_word : (t : States) (most : ℕ) → ((format : Format) (i : Instr) → states_of t format i ≤ most)
     → IsFew (clocks_known t) (1024 + most)
@@ -114,7 +126,7 @@ words_items c (i ∷ earlier) =
     let rest = words_items c earlier in
     let here = called (callee c earlier i.instr) in
     ap (λ x. plus (plus (just (word_count i.format)) x) (taken_before words_known (λ e. just e.words) c earlier)) here
-        ∙ ap (λ x. plus (plus (just (word_count i.format)) (just (callee_words (callee c earlier i.instr)))) x) rest
+    ∙ ap (λ x. plus (plus (just (word_count i.format)) (just (callee_words (callee c earlier i.instr)))) x) rest
   where
     called : (o : Option Entry) → callee_taken (λ e. just e.words) o ≡ just (callee_words o)
     called None = refl

@@ -18,19 +18,19 @@ module _ (forecast : Forecast) (mode : Mode) (w : Window) (rom : Rom) (list : Li
   deep_enough e listed =
       up_to (λ f. (a b : ℕ) → f.words < a → f.words < b → sum_to forecast rom list a f ≡ sum_to forecast rom list b f) list next e.words
       e listed (omega arith) where
-    next : (f : Entry) → Contains list f
-        → ((g : Entry) → Contains list g → g.words < f.words → (a b : ℕ) → g.words < a → g.words < b
-        → sum_to forecast rom list a g ≡ sum_to forecast rom list b g) → (a b : ℕ) → f.words < a → f.words < b
-        → sum_to forecast rom list a f ≡ sum_to forecast rom list b f
-    next f there smaller zero b la lb = absurd (omega (arith, la))
-    next f there smaller (suc a) zero la lb = absurd (omega (arith, lb))
-    next f there smaller (suc a) (suc b) la lb =
-        let k = walk mode w rom list good f there in
-        let same = same_taken forecast (sum_to forecast rom list a) (sum_to forecast rom list b) (shape_context rom.machine list f)
+        next : (f : Entry) → Contains list f
+            → ((g : Entry) → Contains list g → g.words < f.words → (a b : ℕ) → g.words < a → g.words < b
+            → sum_to forecast rom list a g ≡ sum_to forecast rom list b g) → (a b : ℕ) → f.words < a → f.words < b
+            → sum_to forecast rom list a f ≡ sum_to forecast rom list b f
+        next f there smaller zero b la lb = absurd (omega (arith, la))
+        next f there smaller (suc a) zero la lb = absurd (omega (arith, lb))
+        next f there smaller (suc a) (suc b) la lb =
+            let k = walk mode w rom list good f there in
+            let same = same_taken forecast (sum_to forecast rom list a) (sum_to forecast rom list b) (shape_context rom.machine list f)
             (k.i ∷ k.items) (λ g l lt. smaller g l (omega (arith, lt, k.few)) a b (omega (arith, lt, k.few, la))
             (omega (arith, lt, k.few, lb))) in
-        let put = λ (n : ℕ). ap (taken_before forecast (sum_to forecast rom list n) (shape_context rom.machine list f)) (shape_items f k) in
-        put a ∙ same ∙ sym (put b)
+            let put = λ (n : ℕ). ap (taken_before forecast (sum_to forecast rom list n) (shape_context rom.machine list f)) (shape_items f k) in
+            put a ∙ same ∙ sym (put b)
 
   pub entries_sum : IsSumOfItems forecast rom list (sum_of forecast rom list)
   unfolding sum_of
@@ -38,12 +38,12 @@ module _ (forecast : Forecast) (mode : Mode) (w : Window) (rom : Rom) (list : Li
       let k = walk mode w rom list good e listed in
       let c = shape_context rom.machine list e in
       let one : k.i ∷ k.items ≡ i ∷ earlier =
-          same_walk Shape (rom_word rom) e.addr k.items earlier k.i i (record { lead = k.lead; is = k.is; last = k.last })
-          (record { lead = lead; is = is; last = last }) in
+      same_walk Shape (rom_word rom) e.addr k.items earlier k.i i (record { lead = k.lead; is = k.is; last = k.last })
+      (record { lead = lead; is = is; last = last }) in
       let same = same_taken forecast (sum_to forecast rom list e.words) (sum_of forecast rom list) c (k.i ∷ k.items)
-          (λ g l lt. deep_enough g l e.words (suc g.words) (omega (arith, lt, k.few)) (omega arith)) in
+      (λ g l lt. deep_enough g l e.words (suc g.words) (omega (arith, lt, k.few)) (omega arith)) in
       ap (taken_before forecast (sum_to forecast rom list e.words) c) (shape_items e k) ∙ same
-          ∙ ap (taken_before forecast (sum_of forecast rom list) c) one
+      ∙ ap (taken_before forecast (sum_of forecast rom list) c) one
 
 pub frames_sum : (forecast : Forecast) (m : Memory) (w : Window) (list : List Entry) (budget words depth : ℕ)
     → (gf : GoodFrame w m.rom.machine m.frame list budget words depth)
@@ -53,8 +53,8 @@ frames_sum forecast m w list budget words depth gf =
     let i : Item = record { at = gf.at; format = gf.format; instr = Halt } in
     let some : length gf.items < words = omega (arith, gf.count_is, few_items c gf.items, word_count-some gf.format) in
     ap (taken_before forecast (sum_of forecast m.rom list) c)
-        (all_items Frame (frame_word m.rom.machine m.frame) 0 gf.items i (record { lead = gf.leads; is = gf.halts; last = refl }) words
-        some)
+    (all_items Frame (frame_word m.rom.machine m.frame) 0 gf.items i (record { lead = gf.leads; is = gf.halts; last = refl }) words
+    some)
 
 pub sums_are_sums : SumsAreSums
 sums_are_sums = record { entries = entries_sum; frames = frames_sum }
@@ -63,4 +63,4 @@ pub clocks_on_circuit : ClocksOnCircuit
 clocks_on_circuit t mode m w v list budget words depth mem board three good gf =
     subst (TakenOnCircuit (clocks_of_instr t) m) (sym (frames_sum (clocks_known t) m v list budget words depth gf))
     (circuit_takes (clocks_of_instr t) (clocks_known t) (sum_of (clocks_known t) m.rom list) mode m w v list budget words depth
-        (forecasts_are_right.clocks t) mem board three good (entries_sum (clocks_known t) mode w m.rom list good) gf)
+    (forecasts_are_right.clocks t) mem board three good (entries_sum (clocks_known t) mode w m.rom list good) gf)

@@ -15,8 +15,11 @@ depth_before-four : (a : Machine) (list : List Entry) → ((e : Entry) → Conta
     → depth_before (frame_context a list) items ≤ 4
 depth_before-four a list three [] = omega arith
 depth_before-four a list three (i ∷ earlier) =
-    omega (arith, depth_under-four i.instr (callee (frame_context a list) earlier i.instr) (λ f n. three f (named_listed list _ _ f n)),
-        depth_before-four a list three earlier)
+    omega (
+      arith,
+      depth_under-four i.instr (callee (frame_context a list) earlier i.instr) (λ f n. three f (named_listed list _ _ f n)),
+      depth_before-four a list three earlier,
+    )
 
 -- ---- the halt
 
@@ -37,12 +40,12 @@ halt measure forecast by_entry m c items at format base s t right mem kind is to
     let there : cell_at (word_at m) t.pc ≡ Holds format Halt = ap (cell_at (word_at m)) st.pc ∙ stands Frame m at format Halt mem is in
     let step : next_status m t ≡ Halted h = next_there m t format Halt there in
     let value : measure format Halt t.scale ≡ taken_by measure m 1 (Running t) =
-        omega (arith, ap (λ x. taken_at measure x t.scale) there) in
+    omega (arith, ap (λ x. taken_at measure x t.scale) there) in
     let last = subst (IsInRange (forecast format Halt (scale_before c items))) value
-        (right format Halt (scale_before c items) t.scale st.scale) in
+    (right format Halt (scale_before c items) t.scale st.scale) in
     let whole = in_plus (taken_before forecast by_entry c items) (forecast format Halt (scale_before c items)) _ _ took.took last in
     let all = subst (IsInRange (plus (taken_before forecast by_entry c items) (forecast format Halt (scale_before c items))))
-        (sym (taken_on measure m took.steps 1 (Running s) (Running t) took.reached)) whole in
+    (sym (taken_on measure m took.steps 1 (Running s) (Running t) took.reached)) whole in
     let none : callee c items Halt ≡ None = refl in
     record {
       n = took.steps + 1;
@@ -63,18 +66,21 @@ module _ (measure : Measure) (forecast : Forecast) (right : IsRight measure fore
   frame_facts earlier i lead is =
       let c = frame_context m.rom.machine list in
       let rule = λ (why : FrameWhy). subst
-          (λ x. CellKeeps frame.Unmapped frame.Odd (λ j. FrameKeeps v budget (seen_at c earlier j)) i.at x why) is
-          (gf.keeps earlier i.at lead why) in
-      record { named = rule frame.NoEntry; calls =
-          λ f n. all_take measure forecast by_entry mode m w list right mem good sums f (named_listed list _ _ f n) }
+      (λ x. CellKeeps frame.Unmapped frame.Odd (λ j. FrameKeeps v budget (seen_at c earlier j)) i.at x why) is
+      (gf.keeps earlier i.at lead why) in
+      record {
+        named = rule frame.NoEntry;
+        calls =
+            λ f n. all_take measure forecast by_entry mode m w list right mem good sums f (named_listed list _ _ f n);
+      }
 
   pub run : (p : Point) (scale : ℕ) → Halts measure m (frame_taken forecast by_entry gf) (start p scale)
   run p scale =
       let c = frame_context m.rom.machine list in
       let st : Stands c origin [] [] 0 (start p scale) =
-          record { pc = refl; return_stack = refl; room = omega arith; place = tt; scale = tt } in
+      record { pc = refl; return_stack = refl; room = omega arith; place = tt; scale = tt } in
       let a = arrive measure forecast right by_entry origin m mem c refl 0 [] (start p scale) frame_facts st gf.items gf.at gf.leads
-          (omega (arith, depth_before-four m.rom.machine list three gf.items)) in
+      (omega (arith, depth_before-four m.rom.machine list three gf.items)) in
       halt measure forecast by_entry m c gf.items gf.at gf.format origin (start p scale) a.0 right mem refl gf.halts a.1 a.2
 
 -- a run to a halt has one length

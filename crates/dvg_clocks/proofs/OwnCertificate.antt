@@ -17,6 +17,12 @@ module _ (rom : Rom) (words : List ℕ) (w : Window) (budget : ℕ) (few : budge
       record {
         shapes = record { mode = Exact; window = w; good = subst (Good Exact w rom) same v.verdict.0 };
         words = yes.words;
-        frame = record { window = w; budget = budget; depth = yes.depth; few = few; good =
-            subst (λ (l : List Entry). GoodFrame w rom.machine words l budget yes.words yes.depth) same v.verdict.1 };
+        frame = record {
+          window = w;
+          budget = budget;
+          depth = yes.depth;
+          few = few;
+          good =
+              subst (λ (l : List Entry). GoodFrame w rom.machine words l budget yes.words yes.depth) same v.verdict.1;
+        };
       }

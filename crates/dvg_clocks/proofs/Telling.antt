@@ -39,8 +39,13 @@ module _ (t : States) (rom : Rom) (list order : List Entry) where
 
   pub begins : IsPermutation list order → IsNonDecreasingBy (λ (e : Entry). e.words) order → Telling 0 []
   begins moves rising =
-      record { moves = moves; rising = rising; told = λ e i lt. absurd (omega (arith, lt)); few =
-      λ e listed. record { ordered = omega arith; few = omega arith } }
+      record {
+        moves = moves;
+        rising = rising;
+        told = λ e i lt. absurd (omega (arith, lt));
+        few =
+            λ e listed. record { ordered = omega arith; few = omega arith };
+      }
 
   pub ends : (kept : Kept) (n : ℕ) → length order ≤ n → Telling n kept → AreTold t rom list kept
   ends kept n all k e h =
@@ -87,9 +92,9 @@ module _ (t : States) (rom : Rom) (list order : List Entry) where
         sum_is =
             taken.sum_is
             ∙ same_taken (clocks_known t) (clocks_in kept) (sum_of (clocks_known t) rom list) (shape_context rom.machine list e)
-                (taken.item ∷ taken.items) (λ g h less. fewer g h (omega (arith, less, words_few)))
+            (taken.item ∷ taken.items) (λ g h less. fewer g h (omega (arith, less, words_few)))
             ∙ sym (entries_sum (clocks_known t) good.mode good.window rom list good.good e here taken.items taken.item taken.whole.lead
-                taken.whole.is taken.whole.last)
+            taken.whole.is taken.whole.last)
 
         few_words : clocks.most ≤ WORD_CLOCKS * e.words
         few_words = omega (arith, taken.few, mul-le-mul_left WORD_CLOCKS words_few)
@@ -103,8 +108,10 @@ module _ (t : States) (rom : Rom) (list order : List Entry) where
               by : (b : Bool) → ((e.addr == f.addr) && same_key e.key f.key) ≡ b → (f ≡ e) × (found_at more f.addr f.key ≡ Some clocks)
                   ⊎ (found_at more f.addr f.key ≡ found_at kept f.addr f.key)
               by true is =
-                  inl (only list certificate.1.rising e f here h (grind (arith, is)) (sym (key_same e.key f.key (grind (arith, is)))),
-                  adds f.addr f.key ∙ ap (λ b. cond b (Some clocks) (found_at kept f.addr f.key)) is)
+                  inl (
+                    only list certificate.1.rising e f here h (grind (arith, is)) (sym (key_same e.key f.key (grind (arith, is)))),
+                    adds f.addr f.key ∙ ap (λ b. cond b (Some clocks) (found_at kept f.addr f.key)) is,
+                  )
               by false is = inr (adds f.addr f.key ∙ ap (λ b. cond b (Some clocks) (found_at kept f.addr f.key)) is)
 
           found_here : found_at more e.addr e.key ≡ Some clocks

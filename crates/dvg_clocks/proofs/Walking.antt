@@ -39,8 +39,18 @@ module _ (t : States) (source : Source) (list : List Entry) (kept : Kept) (first
 
   pub begins : IsKey first.scale → Going first (just 0)
   begins key =
-      record { items = []; leads = refl; kind = refl; scale = refl; key = key; sum_is = refl; ordered = omega arith; few = omega arith;
-      within = omega arith; below = omega arith }
+      record {
+        items = [];
+        leads = refl;
+        kind = refl;
+        scale = refl;
+        key = key;
+        sum_is = refl;
+        ordered = omega arith;
+        few = omega arith;
+        within = omega arith;
+        below = omega arith;
+      }
 
   module _ (walk : IsWalkable source list first) (here : ScaleCursor) (sum : ClockRange) (k : Going here sum) where
     -- there is an item
@@ -66,8 +76,13 @@ module _ (t : States) (source : Source) (list : List Entry) (kept : Kept) (first
           (one_ordered : one.least ≤ one.most) (one_few : one.most ≤ WORD_CLOCKS * (1 + callee_words called)) where
         few_here : one.most + sum.most ≤ WORD_CLOCKS * words_before c (item ∷ k.items)
         few_here =
-            omega (arith, one_few, k.few, mul-add WORD_CLOCKS (1 + callee_words called) (words_before c k.items),
-                mul-le-mul_left WORD_CLOCKS words_fit)
+            omega (
+              arith,
+              one_few,
+              k.few,
+              mul-add WORD_CLOCKS (1 + callee_words called) (words_before c k.items),
+              mul-le-mul_left WORD_CLOCKS words_fit,
+            )
           where
             words_fit : 1 + callee_words called + words_before c k.items ≤ words_before c (item ∷ k.items)
             words_fit = omega (arith, word_count-some format, ap callee_words named)
@@ -168,18 +183,18 @@ module _ (m : Memory) (w : Window) (list : List Entry) (budget words depth : ℕ
   frame_sum_is t items j whole =
       let i : Item = record { at = gf.at; format = gf.format; instr = Halt } in
       let one : j ∷ items ≡ i ∷ gf.items =
-          same_walk Frame (frame_word m.rom.machine m.frame) 0 items gf.items j i whole
-          (record { lead = gf.leads; is = gf.halts; last = refl }) in
+      same_walk Frame (frame_word m.rom.machine m.frame) 0 items gf.items j i whole
+      (record { lead = gf.leads; is = gf.halts; last = refl }) in
       ap (taken_before (clocks_known t) (sum_of (clocks_known t) m.rom list) f) one
-          ∙ sym (frames_sum (clocks_known t) m w list budget words depth gf)
+      ∙ sym (frames_sum (clocks_known t) m w list budget words depth gf)
 
 pub frame_on_circuit : (t : States) (m : Memory) (list : List Entry) (words : ℕ) (range : ClockRange) → IsMemory m
     → IsSomeCertificate list → AreGood m.rom list → IsAcceptedFrame m list words → range ≡ frame_sum (clocks_known t) m list words
     → m.rom.machine ≡ Board → TakenOnCircuit (clocks_of_instr t) m range
 frame_on_circuit t m list words range mem certificate all gf is board =
     subst (TakenOnCircuit (clocks_of_instr t) m) (sym is)
-        (clocks_on_circuit t all.mode m all.window gf.window list gf.budget words gf.depth mem board
-        (λ e listed. (listed_claim list e certificate listed).depth) all.good gf.good)
+    (clocks_on_circuit t all.mode m all.window gf.window list gf.budget words gf.depth mem board
+    (λ e listed. (listed_claim list e certificate listed).depth) all.good gf.good)
 
 -- an accepted frame
 module _ (m : Memory) (list : List Entry) (words : ℕ) (gf : IsAcceptedFrame m list words) where

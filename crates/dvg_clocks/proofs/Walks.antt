@@ -18,8 +18,8 @@ module _ (kind : Kind) (source : Source) (first : ℕ) where
   pub same_walk : (a b : List Item) (i j : Item) → IsWhole kind source first a i → IsWhole kind source first b j → i ∷ a ≡ j ∷ b
   same_walk a b i j h k =
       let e : length a ≡ length b =
-          even (too_long kind source first a i h.lead h.is h.last b j.at k.lead)
-          (too_long kind source first b j k.lead k.is k.last a i.at h.lead) in
+      even (too_long kind source first a i h.lead h.is h.last b j.at k.lead)
+      (too_long kind source first b j k.lead k.is k.last a i.at h.lead) in
       let s = same_lead kind source first a b i.at j.at h.lead k.lead e in
       let one : i ≡ j = item_same i j s.place (sym h.is ∙ ap (cell_at source) s.place ∙ k.is) in
       ap (λ x. x ∷ a) one ∙ ap (λ l. j ∷ l) s.items

@@ -39,14 +39,24 @@ module _ (j : Judging) (start : Option ℕ) (reader left : Option (List ℕ)) wh
           → IfSome (yes_in a) (λ yes. Means j.mode (record { frame = words_of slice; rom = j.rom }) j.window yes.words yes.depth)
           → IfSome (refusal_in a) (j.is_told slice) → AnswersFrame j start reader left a
       by (Judged (Ok y)) answer long means told =
-          record { bytes = slice; answers = (read, of, answer); told = tt; means =
-          of_all (λ b. Means j.mode (record { frame = words_of b; rom = j.rom }) j.window y.words y.depth) reader start slice of long
-          means }
+          record {
+            bytes = slice;
+            answers = (read, of, answer);
+            told = tt;
+            means =
+                of_all (λ b. Means j.mode (record { frame = words_of b; rom = j.rom }) j.window y.words y.depth) reader start slice of long
+                means;
+          }
       by (Judged (Err r)) answer long means told = record { bytes = slice; answers = (read, of, answer); told = told; means = tt }
       by (Timed t) answer long means told =
-          record { bytes = slice; answers = (read, of, answer); told = tt; means =
-          of_all (λ b. Means j.mode (record { frame = words_of b; rom = j.rom }) j.window t.yes.words t.yes.depth) reader start slice of
-          long means }
+          record {
+            bytes = slice;
+            answers = (read, of, answer);
+            told = tt;
+            means =
+                of_all (λ b. Means j.mode (record { frame = words_of b; rom = j.rom }) j.window t.yes.words t.yes.depth) reader start slice of
+                long means;
+          }
       by (Slow at) answer long means told = record { bytes = slice; answers = (read, of, answer); told = tt; means = tt }
       by Unread answer long means told = record { bytes = slice; answers = tt; told = tt; means = tt }
 
@@ -105,42 +115,87 @@ module _ (asked : ClockOptions) (machine : Machine) (rom : List ℕ) (map : Memo
           → VerdictOnBytes machine rom map bytes budget w (Err r)
       refused r on =
           own_verdict machine rom map bytes budget w (words_of bytes) (rom_on machine map rom)
-              (record { in_range = a.in_range; rom_length = a.rom_length; words_are = refl; rom_is = refl }) (Err r)
+          (record { in_range = a.in_range; rom_length = a.rom_length; words_are = refl; rom_is = refl }) (Err r)
           (record { verdict = on.verdict; means = tt; least = tt; refused = on.refused.0; told = on.refused.1 })
 
       by : (v : Result TimedYes TimedRefusal) → IsTimed asked.timing (rom_on machine map rom) (words_of bytes) w budget v → Says v
       by (Ok t) on = shown asked.line refl
         where
           accepted : TimedAnswer asked.timing machine rom map budget w bytes (Timed t)
-          accepted = (record { in_range = a.in_range; rom_length = a.rom_length; means = on.means; least = on.least; by_own =
-              on.verdict.0 }, record { sum = on.verdict.1; within = on.verdict.2; runs = on.clocks })
+          accepted = (
+            record {
+              in_range = a.in_range;
+              rom_length = a.rom_length;
+              means = on.means;
+              least = on.least;
+              by_own =
+                  on.verdict.0;
+            },
+            record { sum = on.verdict.1; within = on.verdict.2; runs = on.clocks },
+          )
 
           shown : (l : LineClocks) → asked.line ≡ l → IsAnswerOf (judged_timed asked machine rom map budget w) bytes (told_with l (Timed t))
           shown line.Told is =
-              record { answer = (Timed t, accepted, ap (λ l. told_with l (Timed t)) (sym is)); judged = refl; whole =
-              a.in_range.frame_length; means = on.means; told = tt }
+              record {
+                answer = (Timed t, accepted, ap (λ l. told_with l (Timed t)) (sym is));
+                judged = refl;
+                whole =
+                    a.in_range.frame_length;
+                means = on.means;
+                told = tt;
+              }
           shown line.LeftOut is =
-              record { answer = (Timed t, accepted, ap (λ l. told_with l (Timed t)) (sym is)); judged = refl; whole =
-              a.in_range.frame_length; means = on.means; told = tt }
+              record {
+                answer = (Timed t, accepted, ap (λ l. told_with l (Timed t)) (sym is));
+                judged = refl;
+                whole =
+                    a.in_range.frame_length;
+                means = on.means;
+                told = tt;
+              }
       by (Err (timed.Judged r)) on = shown asked.line refl
         where
           shown : (l : LineClocks) → asked.line ≡ l
               → IsAnswerOf (judged_timed asked machine rom map budget w) bytes (told_with l (Judged (Err r)))
           shown line.Told is =
-              record { answer = (Judged (Err r), refused r on, ap (λ l. told_with l (Judged (Err r))) (sym is)); judged = refl; whole =
-              tt; means = tt; told = on.refused.1 }
+              record {
+                answer = (Judged (Err r), refused r on, ap (λ l. told_with l (Judged (Err r))) (sym is));
+                judged = refl;
+                whole =
+                    tt;
+                means = tt;
+                told = on.refused.1;
+              }
           shown line.LeftOut is =
-              record { answer = (Judged (Err r), refused r on, ap (λ l. told_with l (Judged (Err r))) (sym is)); judged = refl; whole =
-              tt; means = tt; told = on.refused.1 }
+              record {
+                answer = (Judged (Err r), refused r on, ap (λ l. told_with l (Judged (Err r))) (sym is));
+                judged = refl;
+                whole =
+                    tt;
+                means = tt;
+                told = on.refused.1;
+              }
       by (Err (timed.Slow at)) on = shown asked.line refl
         where
           shown : (l : LineClocks) → asked.line ≡ l → IsAnswerOf (judged_timed asked machine rom map budget w) bytes (told_with l (Slow at))
           shown line.Told is =
-              record { answer = (Slow at, (a.in_range, a.rom_length, on.verdict), ap (λ l. told_with l (Slow at)) (sym is)); judged =
-              refl; whole = tt; means = tt; told = tt }
+              record {
+                answer = (Slow at, (a.in_range, a.rom_length, on.verdict), ap (λ l. told_with l (Slow at)) (sym is));
+                judged =
+                    refl;
+                whole = tt;
+                means = tt;
+                told = tt;
+              }
           shown line.LeftOut is =
-              record { answer = (Slow at, (a.in_range, a.rom_length, on.verdict), ap (λ l. told_with l (Slow at)) (sym is)); judged =
-              refl; whole = tt; means = tt; told = tt }
+              record {
+                answer = (Slow at, (a.in_range, a.rom_length, on.verdict), ap (λ l. told_with l (Slow at)) (sym is));
+                judged =
+                    refl;
+                whole = tt;
+                means = tt;
+                told = tt;
+              }
 
 -- and over kept shapes
 module _ (asked : ClockOptions) (machine : Machine) (rom : List ℕ) (map : MemoryMap) (bytes : List ℕ) (budget : ℕ) (w : Window)
@@ -151,7 +206,7 @@ module _ (asked : ClockOptions) (machine : Machine) (rom : List ℕ) (map : Memo
       → IsAnswerOf (judged_timed asked machine rom map budget w) bytes (told_with asked.line (timed_answer v))
   kept_answers v said =
       timed_answers asked machine rom map bytes budget w words kept.kept.rom
-          (record { in_range = range; rom_length = is.kept.rom_length; words_are = words_are; rom_is = is.kept.rom_is }) v
+      (record { in_range = range; rom_length = is.kept.rom_length; words_are = words_are; rom_is = is.kept.rom_is }) v
       (rw (is.kept.window_is, is.states) at said)
 
 -- a refusal before anything is judged
@@ -162,11 +217,23 @@ plain_answers asked machine rom map bytes budget w r said = shown asked.line ref
   where
     shown : (l : LineClocks) → asked.line ≡ l → IsAnswerOf (judged_timed asked machine rom map budget w) bytes (Judged (Err (Check r)))
     shown line.Told is =
-        record { answer = (Judged (Err (Check r)), said, ap (λ l. told_with l (Judged (Err (Check r)))) (sym is)); judged = refl; whole =
-        tt; means = tt; told = tt }
+        record {
+          answer = (Judged (Err (Check r)), said, ap (λ l. told_with l (Judged (Err (Check r)))) (sym is));
+          judged = refl;
+          whole =
+              tt;
+          means = tt;
+          told = tt;
+        }
     shown line.LeftOut is =
-        record { answer = (Judged (Err (Check r)), said, ap (λ l. told_with l (Judged (Err (Check r)))) (sym is)); judged = refl; whole =
-        tt; means = tt; told = tt }
+        record {
+          answer = (Judged (Err (Check r)), said, ap (λ l. told_with l (Judged (Err (Check r)))) (sym is));
+          judged = refl;
+          whole =
+              tt;
+          means = tt;
+          told = tt;
+        }
 
 -- such a one is 2 or 49
 pub range_answers : (asked : ClockOptions) (machine : Machine) (rom : List ℕ) (map : MemoryMap) (bytes : List ℕ) (budget : ℕ)

@@ -27,7 +27,7 @@ abbrev pub told_of : (rom other : Option (List ℕ)) (good dump : List ℕ) → 
     → (d ≡ None → account ≡ []) → Told rom other
 told_of rom other good dump read_good read_dump one two is_good is_dump d equal counts account nothing =
     let differ : DifferBy good dump d =
-        subst (λ x. DifferBy x dump d) is_good.1 (subst (λ y. DifferBy one y d) is_dump.1 (record { equal = equal; counts = counts })) in
+    subst (λ x. DifferBy x dump d) is_good.1 (subst (λ y. DifferBy one y d) is_dump.1 (record { equal = equal; counts = counts })) in
     record {
       good = good;
       dump = dump;

@@ -35,8 +35,14 @@ module _ {rom : Option (List ℕ)} {readers : List (Option (List ℕ))} {rb : Li
   images_read lengths words same =
       let whole : frames ≡ held_each readers frames = each_same readers frames read.frame_prefixes lengths in
       record {
-        all = search (held_bytes rom rb, held_each readers frames, held_told rom rb, each_held readers frames read.frame_prefixes,
-            whole_length map is rom rb read.rom_prefix h.0, subst AreFrames whole lengths);
+        all = search (
+          held_bytes rom rb,
+          held_each readers frames,
+          held_told rom rb,
+          each_held readers frames read.frame_prefixes,
+          whole_length map is rom rb read.rom_prefix h.0,
+          subst AreFrames whole lengths,
+        );
         rom_is = whole_image map is rom rb read.rom_prefix machine image h;
         words_are = same ∙ ap (λ l. of_each words_of l) whole;
       }
@@ -44,15 +50,23 @@ module _ {rom : Option (List ℕ)} {readers : List (Option (List ℕ))} {rb : Li
   pub lengths_refused : (roots : List (ℕ × Key)) (f : FramesRunFault) → RefusesLengths frames f
       → FramesFaultMeans machine rom map roots readers f
   lengths_refused roots f wrong =
-      grind (arith, (held_bytes rom rb), (held_each readers frames), (held_told rom rb), (each_held readers frames read.frame_prefixes),
-      (whole_length map is rom rb read.rom_prefix h.0), first_wrong, memory_refused)
+      grind (
+        arith,
+        (held_bytes rom rb),
+        (held_each readers frames),
+        (held_told rom rb),
+        (each_held readers frames read.frame_prefixes),
+        (whole_length map is rom rb read.rom_prefix h.0),
+        first_wrong,
+        memory_refused,
+      )
 
 -- the images of what was read, of whatever readers held it
 module _ {rb : List ℕ} {fb : List (List ℕ)} {machine : Machine} {map : MemoryMap} {image : Rom} {words : List (List ℕ)}
     (images : (held : Option (List ℕ)) (readers : List (Option (List ℕ))) → AreRead held readers rb fb
     → AreInputImages machine held map readers image words)
     {rom : Option (List ℕ)} {readers : List (Option (List ℕ))} (read : AreRead rom readers rb fb) {ws : List (List ℕ)}
-        (same : ws ≡ words) where
+    (same : ws ≡ words) where
   given : AreInputImages machine rom map readers image words
   given = images rom readers read
 
@@ -78,9 +92,12 @@ module _ {rb : List ℕ} {fb : List (List ℕ)} {machine : Machine} {map : Memor
       → IsComparison image other_image roots ws c
       → ComparesFor machine rom other map roots readers c
   compared is other other_image ob read h roots c comparison =
-      search (held_told other ob, whole_length map is other ob read h.0,
-          on_all (λ x ws. IsComparison x (rom_on machine map (held_bytes other ob)) roots ws c)
-          (subst (λ x. IsComparison image x roots ws c) (whole_image map is other ob read machine other_image h) comparison))
+      search (
+        held_told other ob,
+        whole_length map is other ob read h.0,
+        on_all (λ x ws. IsComparison x (rom_on machine map (held_bytes other ob)) roots ws c)
+            (subst (λ x. IsComparison image x roots ws c) (whole_image map is other ob read machine other_image h) comparison),
+      )
 
   module _ (roots : List (ℕ × Key)) where
     told_memory : (rs : List (Option (List ℕ))) → RefusesInputs machine rom map roots rs (record { call = None; why = entry.Memory })
@@ -124,8 +141,11 @@ module _ (machine : Machine) (rom : Option (List ℕ)) (map : MemoryMap) (roots 
   roots_made list made =
       let all = made.0 in
       let none : all.frame_bytes ≡ [] = grind (arith) in
-      search (all.rom_held, made_roots (rom_on machine map all.rom_bytes) roots list
-          (subst (λ l. FramesMade (rom_on machine map all.rom_bytes) roots (of_each words_of l) list) none made.1))
+      search (
+        all.rom_held,
+        made_roots (rom_on machine map all.rom_bytes) roots list
+            (subst (λ l. FramesMade (rom_on machine map all.rom_bytes) roots (of_each words_of l) list) none made.1),
+      )
 
   pub roots_written : (old new : Option (List ℕ)) → WritesMade (MakesForFrames machine rom map roots []) map old new
       → WritesMade (Makes machine rom map roots) map old new

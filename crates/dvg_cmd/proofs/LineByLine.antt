@@ -19,17 +19,29 @@ module _ (lines more : List (List ℕ)) (old mid new : Option (List ℕ)) (write
     (h : Sent lines old mid writes writes_mid) where
   pub both_sent : Sent more mid new writes_mid writes_after → Sent (lines ++ more) old new writes writes_after
   both_sent k =
-      grind (arith, rules, common_steps, (joined_on lines more), (joined lines), (joined more),
-      (one_write_on lines more writes writes_mid writes_after h.one_write k.one_write), joined_on, joined, one_write_on)
+      grind (
+        arith,
+        rules,
+        common_steps,
+        (joined_on lines more),
+        (joined lines),
+        (joined more),
+        (one_write_on lines more writes writes_mid writes_after h.one_write k.one_write),
+        joined_on,
+        joined,
+        one_write_on,
+      )
 
   pub both_cut : AppendsPrefix mid new (joined more) → AppendsPrefix old new (joined (lines ++ more))
   both_cut k =
       let both : take (length (joined lines) + k.0) (joined (lines ++ more)) ≡ joined lines ++ take k.0 (joined more) =
-          ap (take (length (joined lines) + k.0)) (joined_on lines more) ∙ take-append-add (joined lines) (joined more) k.0 in
+      ap (take (length (joined lines) + k.0)) (joined_on lines more) ∙ take-append-add (joined lines) (joined more) k.0 in
       let size : length (joined (lines ++ more)) ≡ length (joined lines) + length (joined more) =
-          ap length (joined_on lines more) ∙ length-append (joined lines) (joined more) in
-      (length (joined lines) + k.0, omega (arith, size, k.1),
-          subst (λ t. Appends old new t) (sym both) (Appends-trans old mid new (joined lines) (take k.0 (joined more)) h.written k.2))
+      ap length (joined_on lines more) ∙ length-append (joined lines) (joined more) in (
+        length (joined lines) + k.0,
+        omega (arith, size, k.1),
+        subst (λ t. Appends old new t) (sym both) (Appends-trans old mid new (joined lines) (take k.0 (joined more)) h.written k.2),
+      )
 
 pub first_cut : (lines more : List (List ℕ)) (old new : Option (List ℕ)) → AppendsPrefix old new (joined lines)
     → AppendsPrefix old new (joined (lines ++ more))
@@ -56,19 +68,30 @@ module _ (all : List (List ℕ)) (old : Option (List ℕ)) (writes : ℕ) where
         → (0 < length piece → TakesOneWrite piece writes_mid writes_after) → SentTo rest new writes_after
     one_sent some writes_after written one =
         let sent : Sent (line ∷ []) mid new writes_mid writes_after =
-            search (subst (Appends mid new) (sym first) written,
-            subst (λ t. TakesOneWrite t writes_mid writes_after) is (one (subst (λ t. 0 < length t) (sym is) some))) in
-        search (both_sent h.done (line ∷ []) old mid new writes writes_mid writes_after h.sent sent,
-            append_assoc h.done (line ∷ []) rest ∙ ap (λ ls. h.done ++ ls) (sym next) ∙ h.whole)
+        search (
+          subst (Appends mid new) (sym first) written,
+          subst (λ t. TakesOneWrite t writes_mid writes_after) is (one (subst (λ t. 0 < length t) (sym is) some)),
+        ) in
+        search (
+          both_sent h.done (line ∷ []) old mid new writes writes_mid writes_after h.sent sent,
+          append_assoc h.done (line ∷ []) rest ∙ ap (λ ls. h.done ++ ls) (sym next) ∙ h.whole,
+        )
 
     pub one_cut : AppendsPrefix mid new piece → AppendsPrefix old new (joined all)
     one_cut written =
-        grind (arith, rules, common_steps, joined,
-        (first_cut (h.done ++ line ∷ []) rest old new
-        (both_cut h.done (line ∷ []) old mid new writes writes_mid writes_mid h.sent
-        (subst (AppendsPrefix mid new) (sym first) written))),
-        (both_cut h.done (line ∷ []) old mid new writes writes_mid writes_mid h.sent
-        (subst (AppendsPrefix mid new) (sym first) written)), first_cut, both_cut)
+        grind (
+          arith,
+          rules,
+          common_steps,
+          joined,
+          (first_cut (h.done ++ line ∷ []) rest old new
+              (both_cut h.done (line ∷ []) old mid new writes writes_mid writes_mid h.sent
+              (subst (AppendsPrefix mid new) (sym first) written))),
+          (both_cut h.done (line ∷ []) old mid new writes writes_mid writes_mid h.sent
+              (subst (AppendsPrefix mid new) (sym first) written)),
+          first_cut,
+          both_cut,
+        )
 
   -- the next of them was sent, or a prefix of it
   module _ (left : List (List ℕ)) (line : List ℕ) (rest : List (List ℕ)) (next : left ≡ line ∷ rest) (mid new : Option (List ℕ))
@@ -78,8 +101,11 @@ module _ (all : List (List ℕ)) (old : Option (List ℕ)) (writes : ℕ) where
 
     pub line_sent : (writes_after : ℕ) → Sent (line ∷ []) mid new writes_mid writes_after → SentTo rest new writes_after
     line_sent writes_after sent =
-        record { done = h.done ++ line ∷ []; sent = both_sent h.done (line ∷ []) old mid new writes writes_mid writes_after h.sent sent;
-        whole = whole_then }
+        record {
+          done = h.done ++ line ∷ [];
+          sent = both_sent h.done (line ∷ []) old mid new writes writes_mid writes_after h.sent sent;
+          whole = whole_then;
+        }
 
     pub cut_line : AppendsPrefix mid new (joined (line ∷ [])) → AppendsPrefix old new (joined all)
     cut_line cut =

@@ -5,8 +5,15 @@ use borrow.Rule.Slice.PartMut.{put_mid, post_of}
 pub take_filled : (filled n k : ℕ) (buf sub : List ℕ) → filled ≤ length buf → n ≤ length sub
     → take (filled + n) (put_mid filled k buf sub) ≡ take filled buf ++ take n sub
 take_filled filled n k buf sub h e =
-    grind (arith, rules, common_steps, (take-append-add (take filled buf) (sub ++ post_of filled k buf) n),
-    (take-append-le n sub (post_of filled k buf) e), take-append-add, take-append-le)
+    grind (
+      arith,
+      rules,
+      common_steps,
+      (take-append-add (take filled buf) (sub ++ post_of filled k buf) n),
+      (take-append-le n sub (post_of filled k buf) e),
+      take-append-add,
+      take-append-le,
+    )
 
 -- what was skipped where so many bytes are left to skip, or none since the end was met
 pub record Skipped (most left : ℕ) (old now : Option (List ℕ)) : Type 0 where

@@ -18,15 +18,23 @@ over : (machine : Machine) (P : Yes → Memory → Type 0) (mode : Mode) (w : Wi
     → IfOk v (λ yes. P yes (record { frame = words_of fb; rom = rom_on machine c.map rb }))
     → (rom frame_held : Option (List ℕ)) → IsPrefix 4097 rom rb → IsPrefix 2049 frame_held fb
     → IfOk v (λ yes. IfSome rom (λ r. IfSome cert
-        (λ t. IfSome frame_held (λ f. (d : Certificate) × Spells d t
-        × P yes (record { frame = words_of f; rom = rom_on machine d.map r })))))
+    (λ t. IfSome frame_held (λ f. (d : Certificate) × Spells d t
+    × P yes (record { frame = words_of f; rom = rom_on machine d.map r })))))
 over machine P mode w budget (Err r) rb fb c cert left range text h holds rom frame_held rom_read frame_read = tt
 over machine P mode w budget (Ok y) rb fb c cert left range text h holds None frame_held rom_read frame_read = tt
 over machine P mode w budget (Ok y) rb fb c None left range text h holds (Some r) frame_held rom_read frame_read = tt
 over machine P mode w budget (Ok y) rb fb c (Some t) left range text h holds (Some r) None rom_read frame_read = tt
 over machine P mode w budget (Ok y) rb fb c (Some t) left range text h holds (Some r) (Some f) rom_read frame_read =
-    grind (arith, (rom_same c.map text.is.0.map_is (Some r) rb rom_read h.0), (frame_same (Some f) fb frame_read range.frame_length),
-        (text_of_held (Some t) left (Ok c) text), (words_of f), rom_on, words_of, (rom_on machine c.map rb))
+    grind (
+      arith,
+      (rom_same c.map text.is.0.map_is (Some r) rb rom_read h.0),
+      (frame_same (Some f) fb frame_read range.frame_length),
+      (text_of_held (Some t) left (Ok c) text),
+      (words_of f),
+      rom_on,
+      words_of,
+      (rom_on machine c.map rb),
+    )
 
 module _ (machine : Machine) (mode : Mode) (w : Window) (budget : ℕ) (rb fb : List ℕ) (rom frame_held : Option (List ℕ))
     (rom_read : IsPrefix 4097 rom rb) (frame_read : IsPrefix 2049 frame_held fb) where
@@ -42,7 +50,7 @@ module _ (machine : Machine) (mode : Mode) (w : Window) (budget : ℕ) (rb fb : 
       → Judges machine mode w rom cert frame_held budget (Err r)
   judges_range cert r h =
       judges cert [] (Err r) (out_of_range machine mode w (held_bytes rom rb) (held_bytes cert []) (held_bytes frame_held fb) budget r
-          (range_whole frame_held fb frame_read budget r h)) tt
+      (range_whole frame_held fb frame_read budget r h)) tt
 
   -- the certificate was refused
   pub judges_refused : PrefixRefusal → (cert left : Option (List ℕ)) (f : CertFault) → InRange fb budget → ReadsText cert left (Err f)
@@ -59,7 +67,7 @@ module _ (machine : Machine) (mode : Mode) (w : Window) (budget : ℕ) (rb fb : 
       → Judges machine mode w rom cert frame_held budget v
   judges_cert cert left c v range text h =
       judges cert text.bytes v (of_cert machine mode w (held_bytes rom rb) (held_bytes cert text.bytes) (held_bytes frame_held fb) budget
-          v (record {
+      v (record {
         in_range = in_range frame_held fb frame_read budget range;
         certificate = c;
         spells = subst (λ (x : List ℕ). Spells c x) ((text_of_held cert left (Ok c) text).whole tt) text.is;
@@ -69,7 +77,7 @@ module _ (machine : Machine) (mode : Mode) (w : Window) (budget : ℕ) (rb fb : 
             (rom_back c.map text.is.0.map_is rom rb rom_read) mode w (words_of fb) budget v h.is);
       }))
       (over machine (λ y m. Means mode m w y.words y.depth) mode w budget v rb fb c cert left range text h.is h.means rom frame_held
-          rom_read frame_read)
+      rom_read frame_read)
 
 -- ---- what is written of it
 

@@ -16,7 +16,7 @@ module _ {A : Type 0} (remaining : A → Option (List ℕ)) (failures : A → �
   ReadSoFar zero olds news [] = news ≡ olds
   ReadSoFar (suc n) (o ∷ olds) (m ∷ news) (b ∷ read) =
       IsReadTo MOST_FRAME_READ (remaining o) (remaining m) × IsPrefix MOST_FRAME_READ (remaining o) b × (failures m ≡ failures o)
-          × ReadSoFar n olds news read
+      × ReadSoFar n olds news read
   ReadSoFar n olds news read = ⊥
 
   pub more_read : (n : ℕ) (olds news : List A) (read : List (List ℕ)) (d y : A) (bytes : List ℕ) → n < length news
@@ -34,8 +34,14 @@ module _ {A : Type 0} (remaining : A → Option (List ℕ)) (failures : A → �
       → failures y ≡ count_after true (failures (get_or news n d))
       → OneFailed (of_each failures olds) (of_each failures (set news n y))
   one_failed zero olds (m ∷ news) [] d y lt h failed =
-      record { before = []; count = failures m; after = of_each failures news; old_is = ap (λ l. of_each failures l) (sym h); new_is =
-      ap (λ k. k ∷ of_each failures news) failed }
+      record {
+        before = [];
+        count = failures m;
+        after = of_each failures news;
+        old_is = ap (λ l. of_each failures l) (sym h);
+        new_is =
+            ap (λ k. k ∷ of_each failures news) failed;
+      }
   one_failed (suc n) (o ∷ olds) (m ∷ news) (b ∷ read) d y lt h failed =
       let rest = one_failed n olds news read d y (omega (arith, lt)) h.3 failed in
       record {
@@ -106,5 +112,11 @@ module _ {A : Type 0} (bytes_of : A → List ℕ) (read : List A) (i : ℕ) (d :
       → images ≡ of_each words (of_each bytes_of (take i read)) → (bytes : List ℕ) → bytes ≡ bytes_of (get_or read i d)
       → images ++ words bytes ∷ [] ≡ of_each words (of_each bytes_of (take j read))
   words_next words images j next h bytes is =
-      grind (arith, (of_each words (of_each bytes_of (take i read))), (of_each bytes_of (take i read)), of_each,
-      (of_each_next bytes_of read i d lt), (of_each_append words (of_each bytes_of (take i read)) (bytes_of (get_or read i d) ∷ [])))
+      grind (
+        arith,
+        (of_each words (of_each bytes_of (take i read))),
+        (of_each bytes_of (take i read)),
+        of_each,
+        (of_each_next bytes_of read i d lt),
+        (of_each_append words (of_each bytes_of (take i read)) (bytes_of (get_or read i d) ∷ [])),
+      )

@@ -15,12 +15,12 @@ gone_then shown p (l ∷ lines) line = gone_then shown (gone_with shown p l) lin
 
 texts_then : (listing : Listing FrameDetail) (p : Progress) (lines : List Line) (line : Line)
     → line_texts listing p (lines ++ line ∷ [])
-        ≡ line_texts listing p lines ++ texts_of listing (gone_on listing.lines p lines).written line
+    ≡ line_texts listing p lines ++ texts_of listing (gone_on listing.lines p lines).written line
 texts_then listing p [] line = append-nil (texts_of listing p.written line)
 texts_then listing p (l ∷ lines) line =
     ap (λ ts. texts_of listing p.written l ++ ts) (texts_then listing (gone_with listing.lines p l) lines line)
     ∙ sym (append_assoc (texts_of listing p.written l) (line_texts listing (gone_with listing.lines p l) lines)
-        (texts_of listing (gone_on listing.lines (gone_with listing.lines p l) lines).written line))
+    (texts_of listing (gone_on listing.lines (gone_with listing.lines p l) lines).written line))
 
 module _ {R : Type 0} (remaining : R → Option (List ℕ)) (failures : R → ℕ) (j : Judging) (listing : Listing FrameDetail)
     (start : Option ℕ) where
@@ -69,8 +69,8 @@ module _ {R : Type 0} (remaining : R → Option (List ℕ)) (failures : R → �
         let lines : List Line = h.lines ++ one.line ∷ [] in
         let cut : AppendsPrefix old new (joined (line_texts listing p lines)) =
         subst (λ ts. AppendsPrefix old new (joined ts)) (sym (further one.line))
-            (both_cut (line_texts listing p h.lines) (texts_of listing p_mid.written one.line) old mid new writes writes_mid writes_mid
-            h.sent one.written) in
+        (both_cut (line_texts listing p h.lines) (texts_of listing p_mid.written one.line) old mid new writes writes_mid writes_mid
+        h.sent one.written) in
         record {
           lines = lines;
           lines_of = lines_of_on taken h.lines x one.line h.lines_of one.line_of;
@@ -95,10 +95,16 @@ module _ {R : Type 0} (remaining : R → Option (List ℕ)) (failures : R → �
         → ReportsFrames remaining failures j listing start frames old new writes writes_after p_mid.worst
     with_summary writes_after last =
         let sent = subst (λ ts. Sent ts old new writes writes_after) (sym same)
-            (both_sent (line_texts listing begun h.lines) (summary_of listing p_mid) old mid new writes writes_mid writes_after
-            lines_sent last) in
-        record { lines = h.lines; lines_of = h.lines_of; written = sent.written; one_write = sent.one_write; outcome_is =
-            ap (λ (q : Progress). q.worst) gone }
+        (both_sent (line_texts listing begun h.lines) (summary_of listing p_mid) old mid new writes writes_mid writes_after
+        lines_sent last) in
+        record {
+          lines = h.lines;
+          lines_of = h.lines_of;
+          written = sent.written;
+          one_write = sent.one_write;
+          outcome_is =
+              ap (λ (q : Progress). q.worst) gone;
+        }
 
     pub cut_summary : AppendsPrefix mid new (joined (summary_of listing p_mid))
         → ReportsFramesPrefix remaining failures j listing start frames old new

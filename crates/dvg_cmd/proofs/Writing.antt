@@ -25,8 +25,11 @@ module _ (text line : List ℕ) (is : text ≡ line) (old new : Option (List ℕ
       → OnOk r (TakesOneWrite text writes writes_after) → OnOk r (Sent (line ∷ []) old new writes writes_after)
   one_line (Err e) writes writes_after h one = tt
   one_line (Ok a) writes writes_after h one =
-      record { written = subst (λ (t : List ℕ). Appends old new t) same h; one_write =
-      (writes_after, subst (λ (t : List ℕ). TakesOneWrite t writes writes_after) is one, refl) }
+      record {
+        written = subst (λ (t : List ℕ). Appends old new t) same h;
+        one_write =
+            (writes_after, subst (λ (t : List ℕ). TakesOneWrite t writes writes_after) is one, refl);
+      }
 
   -- a prefix of it
   pub line_cut : {A E : Type 0} (r : Result A E) → OnErr r (AppendsPrefix old new text)

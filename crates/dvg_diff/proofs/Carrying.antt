@@ -80,12 +80,15 @@ module _ (rom : Rom) (others : List ℕ) (list : List Entry) (untouched : Reache
   fault_there : (mode : Mode) (w : Window) (f : ShapeFault) → FirstShapeFault mode w rom list f → FirstShapeFault mode w other list f
   fault_there mode w f h =
       let listed : Contains list h.entry =
-          subst (λ (es : List Entry). Contains es h.entry) (sym h.order_is)
-          (Contains-append_right h.before (h.entry ∷ h.after) h.entry (0, omega arith, refl)) in
+      subst (λ (es : List Entry). Contains es h.entry) (sym h.order_is)
+      (Contains-append_right h.before (h.entry ∷ h.after) h.entry (0, omega arith, refl)) in
       let among = λ (e : Entry) (c : Contains h.before e). subst (λ (es : List Entry). Contains es e) (sym h.order_is)
-          (Contains-append_left h.before (h.entry ∷ h.after) e c) in
-      search (h.order_is, all_listed _ h.before (λ e c. good_shape e (among e c) mode w (at_place _ h.before e h.good c)),
-          first_there h.entry listed mode w f.word f.why h.fault)
+      (Contains-append_left h.before (h.entry ∷ h.after) e c) in
+      search (
+        h.order_is,
+        all_listed _ h.before (λ e c. good_shape e (among e c) mode w (at_place _ h.before e h.good c)),
+        first_there h.entry listed mode w f.word f.why h.fault,
+      )
 
   verdict_there : (w : Window) (words : List ℕ) (budget : ℕ) (answer : Result Yes Refusal)
       → PartsVerdict Exact w rom list words budget answer → PartsVerdict Exact w other list words budget answer
@@ -94,8 +97,10 @@ module _ (rom : Rom) (others : List ℕ) (list : List Entry) (untouched : Reache
   module _ (roots : List (ℕ × Key)) (frames : List (List ℕ)) (made : FramesMade rom roots frames list) where
     needs_there : (e f : Entry) → Contains list e → Needs rom list e f → Needs other list e f
     needs_there e f c n =
-        search (forth rom others e.addr (each_untouched e c) n.earlier n.item.at n.leads,
-        sym (cell_is e c n.earlier n.item.at n.leads) ∙ n.stands)
+        search (
+          forth rom others e.addr (each_untouched e c) n.earlier n.item.at n.leads,
+          sym (cell_is e c n.earlier n.item.at n.leads) ∙ n.stands,
+        )
 
     pub made_there : FramesMade other roots frames list
     made_there =
@@ -112,12 +117,14 @@ module _ (rom : Rom) (others : List ℕ) (list : List Entry) (untouched : Reache
 pub both_ways : (rom other : Rom) (roots : List (ℕ × Key)) (frames : List (List ℕ)) (list : List Entry)
     → IsUntouched rom other roots frames list
     → (P : Rom → Rom → Type 0) → ((a : Rom) (others : List ℕ) → (ReachesTouched a (with_words a others) list → ⊥)
-        → FramesMade a roots frames list → P a (with_words a others)) → P rom other × P other rom
+    → FramesMade a roots frames list → P a (with_words a others)) → P rom other × P other rom
 both_ways rom other roots frames list u P go =
     subst (λ (o : Rom). (ReachesTouched rom o list → ⊥) → P rom o × P o rom) (alike_is rom other u.alike)
-    (λ h. (go rom other.words h u.made,
-        go (with_words rom other.words) rom.words (list_untouched_back rom other.words list h)
-        (made_there rom other.words list h roots frames u.made))) u.untouched
+    (λ h. (
+      go rom other.words h u.made,
+      go (with_words rom other.words) rom.words (list_untouched_back rom other.words list h)
+          (made_there rom other.words list h roots frames u.made),
+    )) u.untouched
 
 pub same_list : SameList
 same_list rom other roots frames list u =
@@ -129,6 +136,8 @@ same_verdict rom other words list u w budget answer =
     both_ways rom other [] (words ∷ []) list u (λ a b. ByMade a words w budget answer → ByMade b words w budget answer)
     (λ a others h made by.
     let same : by.list ≡ list = one_frames_made a [] (words ∷ []) by.list list by.made made in
-    search (made_there a others list h [] (words ∷ []) made,
-        verdict_there a others list h w words budget answer
-        (subst (λ (es : List Entry). PartsVerdict Exact w a es words budget answer) same by.verdict)))
+    search (
+      made_there a others list h [] (words ∷ []) made,
+      verdict_there a others list h w words budget answer
+          (subst (λ (es : List Entry). PartsVerdict Exact w a es words budget answer) same by.verdict),
+    ))

@@ -67,7 +67,7 @@ module _ (rom : Rom) (others : List ℕ) (words : List ℕ) (list : List Entry)
   called OfFrame earlier i leads is to goes =
       let scale = scale_before (frame_context rom.machine list) earlier in
       let asks : FrameAsksFor rom.machine words list to scale =
-          record { earlier = earlier; item = i; leads = leads; stands = is; target_is = goes; scale_is = refl } in
+      record { earlier = earlier; item = i; leads = leads; stands = is; target_is = goes; scale_is = refl } in
       at_entry to scale (made.rooted to scale (inr (words, (0, omega arith, refl), asks)))
 
   instruction : (from : Begin list) (earlier : List Item) (p : ℕ) → Leads from earlier p
@@ -76,11 +76,11 @@ module _ (rom : Rom) (others : List ℕ) (words : List ℕ) (list : List Entry)
       let keeps = (made.each e c).keeps earlier p leads in
       instruction_at shape.Unmapped shape.Odd (λ i. ShapeKeeps Exact w e (seen_at (shape_context rom.machine list e) earlier i)) p _
       (keeps shape.Unmapped w (λ (e : shape.Unmapped ≡ shape.OffScreen). cc e))
-          (keeps shape.Odd w (λ (e : shape.Odd ≡ shape.OffScreen). cc e))
+      (keeps shape.Odd w (λ (e : shape.Odd ≡ shape.OffScreen). cc e))
   instruction OfFrame earlier p leads =
       let keeps = good.keeps earlier p leads in
       instruction_at frame.Unmapped frame.Odd (λ i. FrameKeeps w budget (seen_at (frame_context rom.machine list) earlier i)) p _
-          (keeps frame.Unmapped) (keeps frame.Odd)
+      (keeps frame.Unmapped) (keeps frame.Odd)
 
   same_there : (from : Begin list) (earlier : List Item) (p : ℕ) → Leads from earlier p
       → cell_at (word_of (kind_of from) here) p ≡ cell_at (word_of (kind_of from) there) p
@@ -94,8 +94,12 @@ module _ (rom : Rom) (others : List ℕ) (words : List ℕ) (list : List Entry)
   jumped OfFrame earlier p to format leads is =
       let keeps = good.keeps earlier p leads frame.BackJump in
       let forward : p < to = grind (arith, is, keeps) in
-      record { from = OfFrame; earlier = record { at = p; format = format; instr = Jmpl to } ∷ earlier; leads =
-          (leads, is, grind (arith, nat_tests, forward)) }
+      record {
+        from = OfFrame;
+        earlier = record { at = p; format = format; instr = Jmpl to } ∷ earlier;
+        leads =
+            (leads, is, grind (arith, nat_tests, forward));
+      }
 
   one_word : (from : Begin list) (p to : ℕ) (format : Format) → cell_at (word_of (kind_of from) here) p ≡ Holds format (Jsrl to)
       → p + word_count format ≡ p + 1
@@ -122,8 +126,13 @@ module _ (rom : Rom) (others : List ℕ) (words : List ℕ) (list : List Entry)
     on_after format Halt is = tt
     on_after format (Jsrl to) is =
         let back = subst IsOn (one_word on.from s.pc to format is) (next format (Jsrl to) _ is refl) in
-        grind (arith, nat_lt, back, (called on.from on.earlier (record { at = s.pc; format = format; instr = Jsrl to }) on.leads is to
-            refl))
+        grind (
+          arith,
+          nat_lt,
+          back,
+          (called on.from on.earlier (record { at = s.pc; format = format; instr = Jsrl to }) on.leads is to
+              refl),
+        )
     on_after format Rtsl is = grind (arith)
     on_after format (Jmpl to) is = (jumped on.from on.earlier s.pc to format on.leads is, all)
 
@@ -134,9 +143,11 @@ module _ (rom : Rom) (others : List ℕ) (words : List ℕ) (list : List Entry)
       let k = kind_of o.from in
       let i = instruction o.from o.earlier s.pc o.leads in
       let now = sym (next_there here s i.format i.instr (stands k here s.pc i.format i.instr mem i.is)) ∙ r.1 in
-      let is_there = stands k there s.pc i.format i.instr mem_there (sym (same_there o.from o.earlier s.pc o.leads) ∙ i.is) in
-      (r.0, next_there there s i.format i.instr is_there ∙ now,
-          run_there n r.0 to (subst OnStatus now (on_after s o on.1 i.format i.instr i.is)) r.2)
+      let is_there = stands k there s.pc i.format i.instr mem_there (sym (same_there o.from o.earlier s.pc o.leads) ∙ i.is) in (
+        r.0,
+        next_there there s i.format i.instr is_there ∙ now,
+        run_there n r.0 to (subst OnStatus now (on_after s o on.1 i.format i.instr i.is)) r.2,
+      )
   run_there (suc n) from to on r = absurd r.1
 
   pub runs_there : (place : Point) (scale steps : ℕ) (s : Status) → Reached here steps (Running (start place scale)) s
@@ -153,5 +164,5 @@ same_runs rom other words list u mem mem_other w budget count depth good place s
     → Reached (record { frame = words; rom = a }) steps (Running (start place scale)) s
     → Reached (record { frame = words; rom = b }) steps (Running (start place scale)) s)
     (λ a others untouched made same mem mem_b. runs_there a others words list untouched made mem mem_b w budget count depth
-        (subst (λ m. GoodFrame w m words list budget count depth) (sym same) good) place scale steps s) in
+    (subst (λ m. GoodFrame w m words list budget count depth) (sym same) good) place scale steps s) in
     (both.0 refl mem mem_other, both.1 (sym u.alike.machine) mem_other mem)

@@ -54,6 +54,6 @@ module _ (rom : Rom) (others : List ℕ) (addr : ℕ) (untouched : IsTouched rom
       let r = t.1.reads in
       let lead = back r.earlier r.at r.leads in
       let first : word_of_rom rom r.at ≡ word_of_rom other r.at =
-          word_there r.earlier r.at lead r.at (takes_first (word_of_rom rom r.at) r.at) in
+      word_there r.earlier r.at lead r.at (takes_first (word_of_rom rom r.at) r.at) in
       let taken : Contains (taken_at rom r.at) t.0 = subst (λ (o : Option ℕ). Contains (fetches o r.at) t.0) (sym first) r.taken in
       t.1.differs (sym (word_there r.earlier r.at lead t.0 taken))

@@ -23,8 +23,12 @@ module _ (rom other : Rom) where
         pub goes_on : (format : Format) (instr : Instr) (next : ℕ) → cell_at (rom_word rom) at ≡ Holds format instr
             → next_address Shape (record { at = at; format = format; instr = instr }) ≡ Some next → Passed next
         goes_on format instr next is goes =
-            record { items = record { at = at; format = format; instr = instr } ∷ passed.items; leads = (passed.leads, is, goes); none =
-                (passed.none, none) }
+            record {
+              items = record { at = at; format = format; instr = instr } ∷ passed.items;
+              leads = (passed.leads, is, goes);
+              none =
+                  (passed.none, none);
+            }
 
         -- at the last item
         pub ends : (format : Format) (instr : Instr) → cell_at (rom_word rom) at ≡ Holds format instr
@@ -32,7 +36,7 @@ module _ (rom other : Rom) where
         ends format instr is last t =
             let r = t.1.reads in
             everywhere Shape (rom_word rom) addr (λ earlier p. TakesNone p) passed.items
-                (record { at = at; format = format; instr = instr }) passed.leads is last (passed.none, none)
+            (record { at = at; format = format; instr = instr }) passed.leads is last (passed.none, none)
             r.earlier r.at r.leads t.0 r.taken t.1.differs
 
         -- where no item stands
@@ -40,17 +44,21 @@ module _ (rom other : Rom) where
           no_longer : (earlier : List Item) (q : ℕ) → LeadsTo Shape (rom_word rom) addr earlier q → length earlier ≤ length passed.items
           no_longer [] q h = omega arith
           no_longer (j ∷ earlier) q h =
-              grind (arith, (no_longer earlier j.at h.0),
-              (same_lead Shape (rom_word rom) addr earlier passed.items j.at at h.0 passed.leads), (nothing j.format j.instr))
+              grind (
+                arith,
+                (no_longer earlier j.at h.0),
+                (same_lead Shape (rom_word rom) addr earlier passed.items j.at at h.0 passed.leads),
+                (nothing j.format j.instr),
+              )
 
           takes_none : (earlier : List Item) (q : ℕ) → LeadsTo Shape (rom_word rom) addr earlier q → TakesNone q
           takes_none earlier q h =
               ⊎_elim
               (λ less. shorter Shape (rom_word rom) addr (λ earlier p. TakesNone p) passed.items at passed.leads passed.none earlier q h
-                  less)
+              less)
               (λ le. here_same Shape (rom_word rom) addr (λ earlier p. TakesNone p) earlier passed.items q at
               (same_lead Shape (rom_word rom) addr earlier passed.items q at h passed.leads (omega (arith, le, no_longer earlier q h)))
-                  none)
+              none)
               (cases_lt (length earlier) (length passed.items))
 
       pub none_left : ((format : Format) (instr : Instr) → cell_at (rom_word rom) at ≡ Holds format instr → ⊥) → (o : Option ℕ)
@@ -75,8 +83,14 @@ module _ (rom other : Rom) where
     next : (new more : List TouchedEntry) → AreTouched rom other (get_or list i d ∷ []) new → more ≡ touched ++ new
         → AreTouched rom other (take (i + 1) list) more
     next new more k grown =
-        grind (arith, rules, common_steps, (take-suc list i d lt), (touched_on (take i list) (get_or list i d ∷ []) touched new h k),
-        take-suc)
+        grind (
+          arith,
+          rules,
+          common_steps,
+          (take-suc list i d lt),
+          (touched_on (take i list) (get_or list i d ∷ []) touched new h k),
+          take-suc,
+        )
 
     pub next_none : (IsTouched rom other (get_or list i d).addr → ⊥) → (more : List TouchedEntry) → more ≡ touched
         → AreTouched rom other (take (i + 1) list) more

@@ -29,5 +29,8 @@ entry_text map e = rw (append-nil (ended (entry_line e)), append_assoc) refl
 pub heading_length : (map : MemoryMap) → length (text_of map []) - 7 ≡ length (flat_map ended (heading map))
 unfolding begun_with
 heading_length map =
-    rw (append-nil (flat_map ended (heading map)), length-append (flat_map ended (heading map)) (ended (done_line 0)),
-    short_done 0 (omega arith)) (omega arith)
+    rw (
+      append-nil (flat_map ended (heading map)),
+      length-append (flat_map ended (heading map)) (ended (done_line 0)),
+      short_done 0 (omega arith),
+    ) (omega arith)

@@ -40,5 +40,10 @@ module _ (kind : Kind) (word : Source) (first : ℕ) where
     pub everywhere : (items : List Item) (i : Item) → LeadsTo kind word first items i.at → cell_at word i.at ≡ Holds i.format i.instr
         → next_address kind i ≡ None → AtEachOf P (i ∷ items) → AtEveryPlace kind word first P
     everywhere items i lead is last kept earlier q h =
-        grind (arith, (shorter items i.at lead kept.0 earlier q h), (too_long items i lead is last earlier q h),
-            (same_lead earlier items q i.at h lead), here_same)
+        grind (
+          arith,
+          (shorter items i.at lead kept.0 earlier q h),
+          (too_long items i lead is last earlier q h),
+          (same_lead earlier items q i.at h lead),
+          here_same,
+        )

@@ -33,8 +33,12 @@ spanning_is p q box x0 x1 y0 y1 e h k =
     let c = reach_second x0 x1 p.x p.x q.x q.x h in
     let d = reach_second y0 y1 p.y p.y q.y q.y k in
     let s : IsSpanning p q (Span x0 x1 y0 y1) =
-        record { first = record { left = a.0; right = a.1; bottom = b.0; top = b.1 }; second =
-        record { left = c.0; right = c.1; bottom = d.0; top = d.1 }; least = inside } in
+    record {
+      first = record { left = a.0; right = a.1; bottom = b.0; top = b.1 };
+      second =
+          record { left = c.0; right = c.1; bottom = d.0; top = d.1 };
+      least = inside;
+    } in
     subst (IsSpanning p q) (sym e) s
   where
     inside : (other : LitBox) → InBox other p → InBox other q → IsInside (Span x0 x1 y0 y1) other
@@ -71,7 +75,7 @@ pub joined_is : (a b box : LitBox) (a0 a1 b0 b1 c0 c1 d0 d1 x0 x1 y0 y1 : ℤ) �
 joined_is a b box a0 a1 b0 b1 c0 c1 d0 d1 x0 x1 y0 y1 e f g h k =
     let s : IsJoined (Span a0 a1 b0 b1) (Span c0 c1 d0 d1) (Span x0 x1 y0 y1) = joined_spans a0 a1 b0 b1 c0 c1 d0 d1 x0 x1 y0 y1 h k in
     subst (λ z. IsJoined z b box) (sym e)
-        (subst (λ z. IsJoined (Span a0 a1 b0 b1) z box) (sym f) (subst (IsJoined (Span a0 a1 b0 b1) (Span c0 c1 d0 d1)) (sym g) s))
+    (subst (λ z. IsJoined (Span a0 a1 b0 b1) z box) (sym f) (subst (IsJoined (Span a0 a1 b0 b1) (Span c0 c1 d0 d1)) (sym g) s))
 
 pub in_wider : (a b : LitBox) (p : Point) → IsInside a b → InBox a p → InBox b p
 in_wider a b p i h = grind (arith, ints)

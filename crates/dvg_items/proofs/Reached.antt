@@ -34,8 +34,13 @@ module _ (step : ℕ) where
   pub reached_shift : (m n all : ℕ) (p d : Point) → all ≡ m + n → IsReached step m p → IsReached step n d → IsReached step all (shift p d)
   reached_shift m n all p d is h k =
       let sum : step * all ≡ step * m + step * n = ap (λ x. step * x) is ∙ omega arith in
-      record { left = omega (arith, ints, h.left, k.left, sum); right = omega (arith, ints, h.right, k.right, sum); down =
-          omega (arith, ints, h.down, k.down, sum); up = omega (arith, ints, h.up, k.up, sum) }
+      record {
+        left = omega (arith, ints, h.left, k.left, sum);
+        right = omega (arith, ints, h.right, k.right, sum);
+        down =
+            omega (arith, ints, h.down, k.down, sum);
+        up = omega (arith, ints, h.up, k.up, sum);
+      }
 
   pub place_after : (m n all : ℕ) (place : End) (e : Effect) → all ≡ m + n → IsReachedPlace step m place → IsReachedEffect step n e
       → IsReachedPlace step all (place_past e place)

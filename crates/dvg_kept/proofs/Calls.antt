@@ -80,8 +80,16 @@ module _ (source : Source) (list : List Entry) (leaves : List Bool) (first : Pla
 
   pub begins : (old : Marks) → IsKey first.scale → Going old first old
   begins old key =
-      record { items = []; leads = refl; kind = refl; scale = refl; key = key; marked = tt; more =
-      more_none list leaves (Asks c source first.at) old }
+      record {
+        items = [];
+        leads = refl;
+        kind = refl;
+        scale = refl;
+        key = key;
+        marked = tt;
+        more =
+            more_none list leaves (Asks c source first.at) old;
+      }
 
   module _ (old : Marks) (here : Place) (m : Marks) (k : Going old here m) (format : Format) (instr : Instr)
       (is : cell_at source here.at ≡ Holds format instr) where
@@ -105,20 +113,32 @@ module _ (source : Source) (list : List Entry) (leaves : List Bool) (first : Pla
     marked_here new called (Some to) t h =
         let e = h.0 in
         let found : entry_at list to (scale_before c k.items) ≡ Some e =
-            subst (λ (x : Key). entry_at list to x ≡ Some e) k.scale h.2.found in
+        subst (λ (x : Key). entry_at list to x ≡ Some e) k.scale h.2.found in
         let l = listed_at list to here.scale e h.2.found in
         let own : entry_at list e.addr e.key ≡ Some e =
-            subst (λ (x : ℕ). entry_at list x e.key ≡ Some e) (sym l.addr_is)
-            (subst (λ (x : Key). entry_at list to x ≡ Some e) (sym l.key_is) h.2.found) in
+        subst (λ (x : ℕ). entry_at list x e.key ≡ Some e) (sym l.addr_is)
+        (subst (λ (x : Key). entry_at list to x ≡ Some e) (sym l.key_is) h.2.found) in
         record {
           named = h.1 ∙ sym (ap (λ (o : Option ℕ). callee_at list o (scale_before c k.items)) t
               ∙ exact_named list to (scale_before c k.items) e found);
-          marked = (all_grown m new h.2.position h.2.one k.items k.marked, λ x q. let same : to ≡ x = grind (arith, t, q) in
-              (e, subst (λ (y : ℕ). entry_at list y (scale_before c k.items) ≡ Some e) same found,
-              (h.2.position, h.2.one.marked, h.2.stands)));
+          marked = (
+            all_grown m new h.2.position h.2.one k.items k.marked,
+            λ x q. let same : to ≡ x = grind (arith, t, q) in (
+              e,
+              subst (λ (y : ℕ). entry_at list y (scale_before c k.items) ≡ Some e) same found,
+              (h.2.position, h.2.one.marked, h.2.stands),
+            ),
+          );
           more = more_one list leaves (Asks c source first.at) old m new k.more h.2.position e h.2.stands own
-              (record { earlier = k.items; item = item; leads = k.leads; stands = is; target_is = t ∙ ap Some (sym l.addr_is); scale_is =
-                  sym k.scale ∙ sym l.key_is })
+              (record {
+                earlier = k.items;
+                item = item;
+                leads = k.leads;
+                stands = is;
+                target_is = t ∙ ap Some (sym l.addr_is);
+                scale_is =
+                    sym k.scale ∙ sym l.key_is;
+              })
               (subst (λ (x : ℕ). MarksOne (slice_get leaves x ≡ Some true) h.2.position m new) (sym l.addr_is) h.2.one);
         }
 
@@ -145,8 +165,8 @@ module _ (source : Source) (list : List Entry) (leaves : List Bool) (first : Pla
       pub done : next_address here.kind item ≡ None → AllAskedMarked source list first new
       done last to scale a =
           let all = everywhere first.kind source first.at (PlaceMarked new) k.items item k.leads is
-              (subst (λ x. next_address x item ≡ None) k.kind last)
-              (each_marked new k.items here.at k.leads here_marked.marked.0, place_marked new k.items item is here_marked.marked.1) in
+          (subst (λ x. next_address x item ≡ None) k.kind last)
+          (each_marked new k.items here.at k.leads here_marked.marked.0, place_marked new k.items item is here_marked.marked.1) in
           let f = all a.earlier a.item.at a.leads a.item.format a.item.instr a.stands to a.target_is in
           (f.0, subst (λ (x : Key). entry_at list to x ≡ Some f.0) a.scale_is f.1, f.2)
 

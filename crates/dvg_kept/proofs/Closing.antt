@@ -84,8 +84,8 @@ module _ (rom : Rom) (words : List ℕ) (list : List Entry) (leaves : List Bool)
         ⊎_elim
         (λ c. inl (w.0, more.waits w.0 c, w.2))
         (λ c. let at : w.0 ≡ position = only w.0 c in let same : e ≡ f =
-            same_at list position e f stands (subst (λ (x : ℕ). slice_get list x ≡ Some f) at w.2) in
-            inr (subst (λ (x : Entry). AllAskedMarked (rom_word rom) list (shape_start x) new) same asked))
+        same_at list position e f stands (subst (λ (x : ℕ). slice_get list x ≡ Some f) at w.2) in
+        inr (subst (λ (x : Entry). AllAskedMarked (rom_word rom) list (shape_start x) new) same asked))
         (Contains-append_cases less.waiting (position ∷ []) w.0 (subst (λ (x : List ℕ). Contains x w.0) takes.waiting w.1))
       where
         only : (q : ℕ) → Contains (position ∷ []) q → q ≡ position
@@ -107,7 +107,7 @@ module _ (rom : Rom) (words : List ℕ) (list : List Entry) (leaves : List Bool)
               (λ a. inr (e, marked_on list m new kept e waited, asked_as h.0 f h.2 a)) (more.others h.0 h.1);
           closed = λ f h. ⊎_elim
               (λ old. ⊎_elim (λ w. still f w) (λ a. inr (all_on list m new kept (rom_word rom) (shape_start f) a))
-                  (marking.closed f (h.0, before h.0 old, h.2)))
+              (marking.closed f (h.0, before h.0 old, h.2)))
               (λ a. ⊎_elim (λ w. inl (h.0, w, h.2)) (λ l. inr (spared new f a.0 (same_at list h.0 a.0 f a.1 h.2) l)) a.4)
               (more.others h.0 h.1);
         }

@@ -39,8 +39,8 @@ module _ (w : Window) (rom : Rom) (a b : List Entry) (ext : Extends a b) (e : En
       by_cell (Holds format i) is h =
           let j : Item = record { at = p; format = format; instr = i } in
           subst (λ v. ShapeKeeps Exact w e v why)
-              (seen_matched rom.machine a b e.key earlier j
-              (matched earlier p lead, same_if a b _ ext (target Shape i) (made.keyed earlier j lead is))) h
+          (seen_matched rom.machine a b e.key earlier j
+          (matched earlier p lead, same_if a b _ ext (target Shape i) (made.keyed earlier j lead is))) h
 
 module _ (k : Kept) (kept : IsKept k) (made : List Entry) (also : IsKept (record { rom = k.rom; window = k.window; list = made }))
     (merged : List Entry) (is : IsMerged k.list made merged) (few : length k.list + length made ≤ MOST_ENTRIES) where
@@ -65,19 +65,25 @@ module _ (k : Kept) (kept : IsKept k) (made : List Entry) (also : IsKept (record
       by : (o : Option Entry) → entry_at k.list e.addr e.key ≡ o → From e
       by None none =
           let there : entry_at made e.addr e.key ≡ Some e =
-              sym (ap (λ o. option_or o (entry_at made e.addr e.key)) none) ∙ sym (is.found e.addr e.key)
-              ∙ found_listed merged e is.rising c in
+          sym (ap (λ o. option_or o (entry_at made e.addr e.key)) none) ∙ sym (is.found e.addr e.key)
+          ∙ found_listed merged e is.rising c in
           let l = listed_at made e.addr e.key e there in
-          record { made_is = made_grows k.rom made merged e second (also.each e l.listed); good_is =
-              good_grows k.window k.rom made merged second e (also.each e l.listed) (also.good e l.listed) }
+          record {
+            made_is = made_grows k.rom made merged e second (also.each e l.listed);
+            good_is =
+                good_grows k.window k.rom made merged second e (also.each e l.listed) (also.good e l.listed);
+          }
       by (Some f) some =
           let same : Some f ≡ Some e =
-              sym (ap (λ o. option_or o (entry_at made e.addr e.key)) some) ∙ sym (is.found e.addr e.key)
-              ∙ found_listed merged e is.rising c in
+          sym (ap (λ o. option_or o (entry_at made e.addr e.key)) some) ∙ sym (is.found e.addr e.key)
+          ∙ found_listed merged e is.rising c in
           let there : entry_at k.list e.addr e.key ≡ Some e = some ∙ same in
           let l = listed_at k.list e.addr e.key e there in
-          record { made_is = made_grows k.rom k.list merged e first (kept.each e l.listed); good_is =
-              good_grows k.window k.rom k.list merged first e (kept.each e l.listed) (kept.good e l.listed) }
+          record {
+            made_is = made_grows k.rom k.list merged e first (kept.each e l.listed);
+            good_is =
+                good_grows k.window k.rom k.list merged first e (kept.each e l.listed) (kept.good e l.listed);
+          }
 
   entry_is : (e : Entry) → Contains merged e → IsEntry k.rom.map.rom_first k.rom.map.rom_last e
   entry_is e c = by (entry_at k.list e.addr e.key) refl
@@ -85,24 +91,29 @@ module _ (k : Kept) (kept : IsKept k) (made : List Entry) (also : IsKept (record
       by : (o : Option Entry) → entry_at k.list e.addr e.key ≡ o → IsEntry k.rom.map.rom_first k.rom.map.rom_last e
       by None none =
           let there : entry_at made e.addr e.key ≡ Some e =
-              sym (ap (λ o. option_or o (entry_at made e.addr e.key)) none) ∙ sym (is.found e.addr e.key)
-              ∙ found_listed merged e is.rising c in
+          sym (ap (λ o. option_or o (entry_at made e.addr e.key)) none) ∙ sym (is.found e.addr e.key)
+          ∙ found_listed merged e is.rising c in
           listed_entry k.rom.map.rom_first k.rom.map.rom_last made e also.certificate.each (listed_at made e.addr e.key e there).listed
       by (Some f) some =
           let same : Some f ≡ Some e =
-              sym (ap (λ o. option_or o (entry_at made e.addr e.key)) some) ∙ sym (is.found e.addr e.key)
-              ∙ found_listed merged e is.rising c in
+          sym (ap (λ o. option_or o (entry_at made e.addr e.key)) some) ∙ sym (is.found e.addr e.key)
+          ∙ found_listed merged e is.rising c in
           listed_entry k.rom.map.rom_first k.rom.map.rom_last k.list e kept.certificate.each
-              (listed_at k.list e.addr e.key e (some ∙ same)).listed
+          (listed_at k.list e.addr e.key e (some ∙ same)).listed
 
   pub kept_again : IsKept (record { rom = k.rom; window = k.window; list = merged })
   kept_again =
       record {
         rom_is = kept.rom_is;
         certificate =
-            record { map_is = kept.certificate.map_is; each =
-            all_listed (IsEntry k.rom.map.rom_first k.rom.map.rom_last) merged entry_is; rising =
-            is.rising; few = omega (arith, is.few, few) };
+            record {
+              map_is = kept.certificate.map_is;
+              each =
+                  all_listed (IsEntry k.rom.map.rom_first k.rom.map.rom_last) merged entry_is;
+              rising =
+                  is.rising;
+              few = omega (arith, is.few, few);
+            };
         each = λ e c. (from e c).made_is;
         good = λ e c. (from e c).good_is;
       }
@@ -112,5 +123,10 @@ pub kept_made : (rom : Rom) (w : Window) (words : List ℕ) (list : List Entry) 
     → (budget : ℕ) (y : Yes) → VerdictByMade rom words w budget (Ok y) → IsKept (record { rom = rom; window = w; list = list })
 kept_made rom w words list rom_is made budget y v =
     let same : v.list ≡ list = one_frames_made rom [] (words ∷ []) v.list list v.made made in
-    record { rom_is = rom_is; certificate = made.certificate; each = made.each; good =
-        subst (λ (l : List Entry). Good Exact w rom l) same v.verdict.0 }
+    record {
+      rom_is = rom_is;
+      certificate = made.certificate;
+      each = made.each;
+      good =
+          subst (λ (l : List Entry). Good Exact w rom l) same v.verdict.0;
+    }

@@ -58,12 +58,12 @@ module _ (first second : List Entry) (n : ℕ) (merged : List Entry) (added : Ad
       by_is addr key true at =
           let there : (x.addr ≡ addr) × (x.key ≡ key) = at_means addr key x at in
           let here : entry_at merged addr key ≡ Some f =
-              subst (λ (y : ℕ). entry_at merged y key ≡ Some f) there.0
-              (subst (λ (y : Key). entry_at merged x.addr y ≡ Some f) there.1 has) in
+          subst (λ (y : ℕ). entry_at merged y key ≡ Some f) there.0
+          (subst (λ (y : Key). entry_at merged x.addr y ≡ Some f) there.1 has) in
           sym (ap (λ o. option_or (entry_at first addr key) o) (one_found addr key)
-              ∙ sym (or_or (entry_at first addr key) (entry_at (take n second) addr key) (entry_at (x ∷ []) addr key))
+          ∙ sym (or_or (entry_at first addr key) (entry_at (take n second) addr key) (entry_at (x ∷ []) addr key))
           ∙ ap (λ o. option_or o (entry_at (x ∷ []) addr key)) (sym (added.found addr key))
-              ∙ or_some (entry_at merged addr key) f (entry_at (x ∷ []) addr key) here)
+          ∙ or_some (entry_at merged addr key) f (entry_at (x ∷ []) addr key) here)
 
 pub some_of : {A : Type 0} (o : Option A) (b : Bool) → is_some o ≡ not b → b ≡ false → (x : A) × (o ≡ Some x)
 some_of (Some x) b h f = (x, refl)

@@ -34,8 +34,18 @@ pub frame_same : (machine : Machine) (a b : List Entry) → Extends a b → (ite
     → known_before (frame_context machine a) items ≡ known_before (frame_context machine b) items
 frame_same machine a b ext [] h = refl
 frame_same machine a b ext (i ∷ earlier) h =
-    grind (arith, (frame_same machine a b ext earlier h.0), target, scale_before, frame_context, callee_at, known_before, known_past,
-    entry_at, exact_named)
+    grind (
+      arith,
+      (frame_same machine a b ext earlier h.0),
+      target,
+      scale_before,
+      frame_context,
+      callee_at,
+      known_before,
+      known_past,
+      entry_at,
+      exact_named,
+    )
 
 abbrev pub KeepsAt : Window → Machine → List Entry → Entry → List Item → ℕ → ShapeWhy → Cell → Type 0
 KeepsAt w machine list e earlier p why cell =
@@ -120,11 +130,14 @@ module _ (k : Kept) (kept : IsKept k) (m : Marks) where
     made =
         let h = made_ends k.rom k.list e (kept.each e (listed e c)) in
         let same = gathered_same k.rom.machine k.list own e.key (h.stops.i ∷ h.stops.items)
-            (matched_with h.stops.items h.stops.i h.stops.leads h.stops.is) in
+        (matched_with h.stops.items h.stops.i h.stops.leads h.stops.is) in
         ends_made k.rom own e (record {
           stops = h.stops;
-          sums = record { known = ap (λ (x : Gathered). x.known) (sym same) ∙ h.sums.known; box =
-              subst (λ (x : Gathered). IsLeast x.lit e.lit) same h.sums.box };
+          sums = record {
+            known = ap (λ (x : Gathered). x.known) (sym same) ∙ h.sums.known;
+            box =
+                subst (λ (x : Gathered). IsLeast x.lit e.lit) same h.sums.box;
+          };
           fine = (
             fine_over h.stops.items h.stops.i.at h.stops.leads h.fine.0,
             record {
@@ -177,7 +190,7 @@ module _ (k : Kept) (kept : IsKept k) (words : List ℕ) (m : Marks) (marking : 
   needs e f h c a =
       let here = marked_own k kept m e h in
       let scale : scale_before (shape_context k.rom.machine (own k kept m) e) a.earlier ≡ f.key =
-          sym (scale_same k kept m e here (closed e h) a.earlier a.item.at a.leads) ∙ a.scale_is in
+      sym (scale_same k kept m e here (closed e h) a.earlier a.item.at a.leads) ∙ a.scale_is in
       record {
         earlier = a.earlier;
         item = a.item;
@@ -193,17 +206,32 @@ module _ (k : Kept) (kept : IsKept k) (words : List ℕ) (m : Marks) (marking : 
   made_list =
       record {
         certificate =
-            record { map_is = kept.certificate.map_is; each = picked_each _ m.marked k.list kept.certificate.each; rising =
-            picked_rising m.marked k.list kept.certificate.rising; few = omega (arith, picked_few m.marked k.list, kept.certificate.few) };
+            record {
+              map_is = kept.certificate.map_is;
+              each = picked_each _ m.marked k.list kept.certificate.each;
+              rising =
+                  picked_rising m.marked k.list kept.certificate.rising;
+              few = omega (arith, picked_few m.marked k.list, kept.certificate.few);
+            };
         each = each;
         rooted = λ addr key a. ⊎_elim (λ c. absurd (omega (arith, c.1)))
             (λ f. calls addr key (subst (λ (x : List ℕ). FrameAsksFor k.rom.machine x (own k kept m) addr key)
             (sym (only_listed words f.0 f.1)) f.2)) a;
         needed = λ f c. ⊎_elim
-            (λ a. inl (inr (words, (zero, omega arith, refl),
-                calls_shrink k.rom.machine words (own k kept m) k.list (extends k kept m) calls f.addr f.key
-                (record { earlier = a.earlier; item = a.item; leads = a.leads; stands = a.stands; target_is = a.target_is; scale_is =
-                a.scale_is }))))
+            (λ a. inl (inr (
+              words,
+              (zero, omega arith, refl),
+              calls_shrink k.rom.machine words (own k kept m) k.list (extends k kept m) calls f.addr f.key
+                  (record {
+                    earlier = a.earlier;
+                    item = a.item;
+                    leads = a.leads;
+                    stands = a.stands;
+                    target_is = a.target_is;
+                    scale_is =
+                        a.scale_is;
+                  }),
+            )))
             (λ e. inr (e.0, marked_own k kept m e.0 e.1, needs e.0 f e.1 c e.2))
             (marking.called f (own_marked k kept m f c));
       }

@@ -54,13 +54,13 @@ module _ (c : Context) (b : List Entry) where
   same_items forecast by_entry [] h = refl
   same_items forecast by_entry (i ∷ earlier) h =
       ap (λ o. plus (plus (forecast i.format i.instr (scale_before c earlier)) (callee_taken by_entry o))
-          (taken_before forecast by_entry c earlier)) (sym (same_called (target c.kind i.instr) (scale_before c earlier) h.1))
+      (taken_before forecast by_entry c earlier)) (sym (same_called (target c.kind i.instr) (scale_before c earlier) h.1))
       ∙ ap (λ (k : Known). plus (plus (forecast i.format i.instr k.scale)
-          (callee_taken by_entry (callee_at b (target c.kind i.instr) k.scale))) (taken_before forecast by_entry c earlier))
-          (sym (same_known earlier h.0))
+      (callee_taken by_entry (callee_at b (target c.kind i.instr) k.scale))) (taken_before forecast by_entry c earlier))
+      (sym (same_known earlier h.0))
       ∙ ap (λ r. plus (plus (forecast i.format i.instr (scale_before onto earlier))
-          (callee_taken by_entry (callee_at b (target c.kind i.instr) (scale_before onto earlier)))) r)
-          (same_items forecast by_entry earlier h.0)
+      (callee_taken by_entry (callee_at b (target c.kind i.instr) (scale_before onto earlier)))) r)
+      (same_items forecast by_entry earlier h.0)
 
 module _ (forecast : Forecast) (w : Window) (rom : Rom) (a b : List Entry) (ext : Extends a b)
     (each : (e : Entry) → Contains a e → MadeEntry rom a e) (good : Good Exact w rom a)
@@ -83,19 +83,21 @@ module _ (forecast : Forecast) (w : Window) (rom : Rom) (a b : List Entry) (ext 
           let in_a = shape_context rom.machine a f in
           entries_sum forecast Exact w rom a good f there k.items k.i k.lead k.is k.last
           ∙ same_taken forecast (sum_of forecast rom a) (sum_of forecast rom b) in_a (k.i ∷ k.items)
-              (λ g l lt. smaller g l (omega (arith, lt, k.few)))
-          ∙ same_items in_a b forecast (sum_of forecast rom b) (k.i ∷ k.items)
-              (shape_matched f there k.items k.i.at k.lead,
-              same_if a b _ ext (target Shape k.i.instr) ((each f there).keyed k.items k.i k.lead k.is))
+          (λ g l lt. smaller g l (omega (arith, lt, k.few)))
+          ∙ same_items in_a b forecast (sum_of forecast rom b) (k.i ∷ k.items) (
+            shape_matched f there k.items k.i.at k.lead,
+            same_if a b _ ext (target Shape k.i.instr) ((each f there).keyed k.items k.i k.lead k.is),
+          )
           ∙ sym (entries_sum forecast Exact w rom b good_b f (more f there) k.items k.i k.lead k.is k.last)
 
   module _ (words : List ℕ) (calls : HasCalls rom.machine words a) where
     frame_matched : (items : List Item) (p : ℕ) → LeadsTo Frame (frame_word rom.machine words) 0 items p
         → MatchedIn (frame_context rom.machine a) b items
     frame_matched [] p lead = tt
-    frame_matched (i ∷ earlier) p lead =
-        (frame_matched earlier i.at lead.0,
-        same_if a b _ ext (target Frame i.instr) (keyed_item rom.machine words a calls earlier i lead.0 lead.1))
+    frame_matched (i ∷ earlier) p lead = (
+      frame_matched earlier i.at lead.0,
+      same_if a b _ ext (target Frame i.instr) (keyed_item rom.machine words a calls earlier i lead.0 lead.1),
+    )
 
     -- what items of a frame take
     items_same : (items : List Item) → MatchedIn (frame_context rom.machine a) b items
@@ -115,8 +117,10 @@ module _ (forecast : Forecast) (w : Window) (rom : Rom) (a b : List Entry) (ext 
         → taken_before forecast (sum_of forecast rom a) (frame_context rom.machine a) (i ∷ items)
         ≡ taken_before forecast (sum_of forecast rom b) (frame_context rom.machine b) (i ∷ items)
     through_same items i lead is =
-        items_same (i ∷ items) (frame_matched items i.at lead,
-        same_if a b _ ext (target Frame i.instr) (keyed_item rom.machine words a calls items i lead is))
+        items_same (i ∷ items) (
+          frame_matched items i.at lead,
+          same_if a b _ ext (target Frame i.instr) (keyed_item rom.machine words a calls items i lead is),
+        )
 
     -- what a frame takes that is good over both
     pub frame_takes_same : (v : Window) (budget n d : ℕ) → (gf : GoodFrame v rom.machine words b budget n d)
@@ -151,7 +155,7 @@ module _ (k : Kept) (kept : IsKept k) (timing : Timing) (words : List ℕ) (budg
       → IsTimed timing k.rom words k.window budget (Ok (record { yes = yes; clocks = clocks }))
   timed_ok clocks sum within circuit =
       let same = frame_takes_same (clocks_known timing.states) k.window k.rom own.list k.list own.extends own.made.each own.good in_kept
-          kept.good words asked k.window budget yes.words yes.depth good in
+      kept.good words asked k.window budget yes.words yes.depth good in
       record {
         verdict = (judged.verdict, record { list = own.list; made = own.made; sum = sum ∙ sym same }, within);
         means = judged.means;
@@ -164,11 +168,11 @@ module _ (k : Kept) (kept : IsKept k) (timing : Timing) (words : List ℕ) (budg
       → IsTimed timing k.rom words k.window budget (Err (Slow at))
   timed_slow at over =
       let before =
-          before_same (clocks_known timing.states) k.window k.rom own.list k.list own.extends own.made.each own.good in_kept kept.good
-          words asked over.items over.item.at over.leads in
+      before_same (clocks_known timing.states) k.window k.rom own.list k.list own.extends own.made.each own.good in_kept kept.good
+      words asked over.items over.item.at over.leads in
       let through =
-          through_same (clocks_known timing.states) k.window k.rom own.list k.list own.extends own.made.each own.good in_kept kept.good
-          words asked over.items over.item over.leads over.stands in
+      through_same (clocks_known timing.states) k.window k.rom own.list k.list own.extends own.made.each own.good in_kept kept.good
+      words asked over.items over.item over.leads over.stands in
       record {
         verdict = record {
           yes = yes;

@@ -39,7 +39,7 @@ module _ (machine : Machine) (words : List ℕ) (a b : List Entry) (ext : Extend
   seen_same earlier i lead is =
       let known = frame_same machine a b ext earlier (keyed_all machine words a calls earlier i.at lead) in
       let same = callee_same a b ext (target Frame i.instr) (scale_before (frame_context machine a) earlier)
-          (keyed_item machine words a calls earlier i lead is) in
+      (keyed_item machine words a calls earlier i lead is) in
       ap (λ (x : Known). seen_with machine (callee_at b (target Frame i.instr) x.scale) x i) (sym known)
       ∙ ap (λ (o : Option Entry). seen_with machine o (known_before (frame_context machine a) earlier) i) same
 

@@ -30,8 +30,13 @@ module _ (labels : List Named) (l : Named) (at : ℕ) where
   on_end : (n : Nearest) (h : Names labels at n.name.now n.distance) → (may_name at l.addr ≡ true → l.addr ≤ h.addr)
       → Names (labels ++ l ∷ []) at n.name.now n.distance
   on_end n h le =
-      grind (arith, rules, common_steps, (append_assoc h.before (record { name = n.name.now; addr = h.addr } ∷ h.after) (l ∷ [])),
-      append_assoc)
+      grind (
+        arith,
+        rules,
+        common_steps,
+        (append_assoc h.before (record { name = n.name.now; addr = h.addr } ∷ h.after) (l ∷ [])),
+        append_assoc,
+      )
 
   pub keep_best : (best : Option Nearest) → may_name at l.addr ≡ false → IsNearest labels at best → IsNearest (labels ++ l ∷ []) at best
   keep_best None off h = All-push (λ (o : Named). may_name at o.addr ≡ false) labels l h off
@@ -65,8 +70,19 @@ one_more xs i x is lt = grind (arith, rules, common_steps, take-suc, map-append)
 pub two_of_all : (xs : List Label) (n : ℕ) (name : List ℕ) → StandsAtTwo (map named_of (take n xs)) name
     → StandsAtTwo (map named_of xs) name
 two_of_all xs n name h =
-    grind (arith, rules, common_steps, (map named_of (take n xs)), (map named_of (drop n xs)), (map named_of xs),
-    (map-append named_of (take n xs) (drop n xs)), (map named_of), (take-append-drop n xs), map, take-append-drop)
+    grind (
+      arith,
+      rules,
+      common_steps,
+      (map named_of (take n xs)),
+      (map named_of (drop n xs)),
+      (map named_of xs),
+      (map-append named_of (take n xs) (drop n xs)),
+      (map named_of),
+      (take-append-drop n xs),
+      map,
+      take-append-drop,
+    )
 
 pub address_of_found : (labels : List Named) (name : List ℕ) (found : Option ℕ) → IsFound labels name found
     → IsAddress labels name (ok_or found Unknown)

@@ -9,7 +9,7 @@ parts_behind p (x ∷ xs) = slice_split p xs
 
 by_first : {X : Type 0} (p : X → Bool) (x : X) (xs : List X) (b : Bool) (n : ℕ) → slice_split p xs ≡ take n xs ∷ parts_behind p (drop n xs)
     → cond b ([] ∷ slice_split p xs) (onto_first x (slice_split p xs))
-        ≡ take (cond (not b) (1 + n) 0) (x ∷ xs) ∷ parts_behind p (drop (cond (not b) (1 + n) 0) (x ∷ xs))
+    ≡ take (cond (not b) (1 + n) 0) (x ∷ xs) ∷ parts_behind p (drop (cond (not b) (1 + n) 0) (x ∷ xs))
 by_first p x xs b n h = grind (arith)
 
 -- the first part ends at the first element that passes

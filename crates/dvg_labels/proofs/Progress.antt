@@ -22,5 +22,9 @@ pub line_read : (text : List ℕ) (known now : Labelling) (n : ℕ) (rest : Opti
     → Progress text rest known n → lines_behind rest ≡ line ∷ lines_behind behind → with_line known line ≡ Some now
     → Progress text behind now (n + 1)
 line_read text known now n rest line behind h rest_is is =
-    grind (arith, (append_assoc h.before (line ∷ []) (lines_behind behind)), (length-append h.before (line ∷ [])),
-    (with_next (Some no_labels) known h.before line h.read))
+    grind (
+      arith,
+      (append_assoc h.before (line ∷ []) (lines_behind behind)),
+      (length-append h.before (line ∷ [])),
+      (with_next (Some no_labels) known h.before line h.read),
+    )

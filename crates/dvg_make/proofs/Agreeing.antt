@@ -27,9 +27,9 @@ module _ (rom : Rom) (a b : List Entry) (made_a : (e : Entry) → Contains a e �
         let l = made_ends rom a e made_e in
         let m = matched l.stops.items l.stops.i.at l.stops.leads in
         same_sums rom.machine a b (l.stops.i ∷ l.stops.items) e f addr key
-            (m, same_at l.stops.items l.stops.i l.stops.leads l.stops.is m (target Shape l.stops.i.instr) refl) l.sums
-            (sums_of rom b f made_f l.stops.items l.stops.i
-            (subst (λ x. LeadsTo Shape (rom_word rom) x l.stops.items l.stops.i.at) addr l.stops.leads) l.stops.is l.stops.last)
+        (m, same_at l.stops.items l.stops.i l.stops.leads l.stops.is m (target Shape l.stops.i.instr) refl) l.sums
+        (sums_of rom b f made_f l.stops.items l.stops.i
+        (subst (λ x. LeadsTo Shape (rom_word rom) x l.stops.items l.stops.i.at) addr l.stops.leads) l.stops.is l.stops.last)
 
   agree_up_to : (n : ℕ) → Agree n
   agree_up_to zero addr key e f p q lt = absurd (omega arith)
@@ -37,7 +37,7 @@ module _ (rom : Rom) (a b : List Entry) (made_a : (e : Entry) → Contains a e �
       let x = listed_at a addr key e p in
       let y = listed_at b addr key f q in
       same_entry e f (made_a e x.listed) (made_b f y.listed) (x.addr_is ∙ sym y.addr_is) (x.key_is ∙ sym y.key_is)
-          (λ to k g h u v less. agree_up_to n to k g h u v (omega (arith, lt, less)))
+      (λ to k g h u v less. agree_up_to n to k g h u v (omega (arith, lt, less)))
 
   pub agree : (addr : ℕ) (key : Key) (e f : Entry) → entry_at a addr key ≡ Some e → entry_at b addr key ≡ Some f → e ≡ f
   agree addr key e f p q = agree_up_to (e.words + 1) addr key e f p q (omega arith)

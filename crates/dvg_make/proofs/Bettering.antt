@@ -14,17 +14,25 @@ use Rattle.dvg_make.proofs.Merging.{scale_grows, fine_grows, same_made, only_lis
 widened : (box : LitBox) (p : Point) → (new : LitBox) × IsInside box new × InBox new p
     × ((other : LitBox) → IsInside box other → InBox other p → IsInside new other)
 widened Empty p = (Span p.x p.x p.y p.y, tt, grind (arith, ints), λ other h i. grind (arith, ints, h, i))
-widened (Span a b c d) p =
-    (Span (int_min a p.x) (int_max b p.x) (int_min c p.y) (int_max d p.y), grind (arith, ints, clamps), grind (arith, ints, clamps),
-    λ other h i. grind (arith, clamps, h, i))
+widened (Span a b c d) p = (
+  Span (int_min a p.x) (int_max b p.x) (int_min c p.y) (int_max d p.y),
+  grind (arith, ints, clamps),
+  grind (arith, ints, clamps),
+  λ other h i. grind (arith, clamps, h, i),
+)
 
 least_box : (ps : List Point) → (box : LitBox) × IsLeast ps box
 least_box [] = (Empty, record { holds = tt; least = λ other h. tt })
 least_box (p ∷ ps) =
     let r = least_box ps in
-    let w = widened r.0 p in
-    (w.0, record { holds = (w.2, all_map (InBox r.0) (InBox w.0) ps (λ q. in_wider r.0 w.0 q w.1) r.1.holds); least =
-        λ other h. w.3 other (r.1.least other h.1) h.0 })
+    let w = widened r.0 p in (
+      w.0,
+      record {
+        holds = (w.2, all_map (InBox r.0) (InBox w.0) ps (λ q. in_wider r.0 w.0 q w.1) r.1.holds);
+        least =
+            λ other h. w.3 other (r.1.least other h.1) h.0;
+      },
+    )
 
 least_ordered : (ps : List Point) (box : LitBox) → IsLeast ps box → IsOrdered box
 least_ordered [] box h = grind (arith, (h.least Empty tt))
@@ -52,15 +60,16 @@ call_of list to scale key loose named = grind (arith, entry_at, listed_at, optio
 pub callee_refines : (rom : Rom) (list made : List Entry) → AllMade rom made → (o : Option ℕ) (s t : Key) → Loosens s t
     → HasCallee o (callee_at list o s) → ((to : ℕ) → o ≡ Some to → HasEntry made to t)
     → ((to : ℕ) (f g : Entry) → entry_at made to t ≡ Some f → callee_at list o s ≡ Some g → Contains list g → Covers g to t
-        → Refines f g) → CalleeRefines (callee_at list o s) (callee_at made o t)
+    → Refines f g) → CalleeRefines (callee_at list o s) (callee_at made o t)
 callee_refines rom list made all None s t loose has keyed fits = tt
 callee_refines rom list made all (Some to) s t loose has keyed fits =
     let call = call_of list to s t loose has in
     let f = keyed to refl in
     subst (λ o. CalleeRefines o (callee_at made (Some to) t)) (sym call.is)
-        (subst (λ o. CalleeRefines (Some call.g) o) (sym (exact_named made to t f.0 f.1))
-        (fits to f.0 call.g f.1 call.is call.listed call.covers,
-        made_ordered rom made f.0 (all f.0 (listed_at made to t f.0 f.1).listed).made))
+    (subst (λ o. CalleeRefines (Some call.g) o) (sym (exact_named made to t f.0 f.1)) (
+      fits to f.0 call.g f.1 call.is call.listed call.covers,
+      made_ordered rom made f.0 (all f.0 (listed_at made to t f.0 f.1).listed).made,
+    ))
 
 -- ---- a shape of an upheld list
 
@@ -104,7 +113,7 @@ module _ (rom : Rom) (list : List Entry) (up : Upholds rom list) where
         → Loosens (scale_before c earlier) key → Call list to (scale_before c earlier) key
     called earlier i lead is to t key loose =
         call_of list to (scale_before c earlier) key loose
-            (subst (λ o. HasCallee o (callee_at list o (scale_before c earlier))) t (rule earlier i lead is shape.NoEntry (λ q. cc q)))
+        (subst (λ o. HasCallee o (callee_at list o (scale_before c earlier))) t (rule earlier i lead is shape.NoEntry (λ q. cc q)))
 
     -- along the items of this shape, what is known by the other list
     module _ (key : Key) where
@@ -117,11 +126,11 @@ module _ (rom : Rom) (list : List Entry) (up : Upholds rom list) where
           → cell_at (rom_word rom) i.at ≡ Holds i.format i.instr → Tracked made earlier
           → CalleeRefines (callee c earlier i.instr) (callee (keyed_context rom.machine made key) earlier i.instr)
           → LightsLess (extent c earlier i.instr) (extent (keyed_context rom.machine made key) earlier i.instr) (place_before c earlier)
-              (place_before (keyed_context rom.machine made key) earlier)
+          (place_before (keyed_context rom.machine made key) earlier)
       lights made earlier i lead is t refines =
           lights_less rom.machine i.instr (callee c earlier i.instr) (callee (keyed_context rom.machine made key) earlier i.instr)
-              (known_before c earlier) (known_before (keyed_context rom.machine made key) earlier) t.knows refines
-              (rule earlier i lead is shape.BeamUnknown (λ q. cc q)) (rule earlier i lead is shape.ScaleUnknown (λ q. cc q))
+          (known_before c earlier) (known_before (keyed_context rom.machine made key) earlier) t.knows refines
+          (rule earlier i lead is shape.BeamUnknown (λ q. cc q)) (rule earlier i lead is shape.ScaleUnknown (λ q. cc q))
 
       track_on : (made : List Entry) (earlier : List Item) (i : Item) → LeadsTo Shape (rom_word rom) e.addr earlier i.at
           → cell_at (rom_word rom) i.at ≡ Holds i.format i.instr → Tracked made earlier
@@ -131,9 +140,14 @@ module _ (rom : Rom) (list : List Entry) (up : Upholds rom list) where
       track_on made earlier i lead is t keyed refines =
           let less = lights made earlier i lead is t refines in
           record {
-            fine = (t.fine, record { straight =
-                record { no_halt = rule earlier i lead is shape.HaltInShape (λ q. cc q); place = less.known; scale = less.scale_known };
-                keyed = keyed });
+            fine = (
+              t.fine,
+              record {
+                straight =
+                    record { no_halt = rule earlier i lead is shape.HaltInShape (λ q. cc q); place = less.known; scale = less.scale_known };
+                keyed = keyed;
+              },
+            );
             knows = more_after rom.machine i (callee c earlier i.instr) (callee (keyed_context rom.machine made key) earlier i.instr)
                 (known_before c earlier) (known_before (keyed_context rom.machine made key) earlier) t.knows refines;
             holds = all_append (InBox e.lit)
@@ -145,18 +159,20 @@ module _ (rom : Rom) (list : List Entry) (up : Upholds rom list) where
       grow_tracked : (a b : List Entry) (items : List Item) → Extends a b → Tracked a items → Tracked b items
       grow_tracked a b items ext t =
           let same = gathered_same rom.machine a b key items (matched_fine rom.machine a b key ext items t.fine) in
-          search (fine_grows rom.machine a b key ext items t.fine,
-              subst (λ (g : Gathered). KnowsMore (known_before c items) g.known) same t.knows,
-              subst (λ (g : Gathered). HoldsAll e.lit g.lit) same t.holds)
+          search (
+            fine_grows rom.machine a b key ext items t.fine,
+            subst (λ (g : Gathered). KnowsMore (known_before c items) g.known) same t.knows,
+            subst (λ (g : Gathered). HoldsAll e.lit g.lit) same t.holds,
+          )
 
       refines_at : (made : List Entry) → AllMade rom made → (earlier : List Item) (i : Item)
           → LeadsTo Shape (rom_word rom) e.addr earlier i.at → cell_at (rom_word rom) i.at ≡ Holds i.format i.instr
           → Tracked made earlier → ((to : ℕ) → target Shape i.instr ≡ Some to
           → HasEntry made to (scale_before (keyed_context rom.machine made key) earlier))
           → ((to : ℕ) (f g : Entry) → entry_at made to (scale_before (keyed_context rom.machine made key) earlier) ≡ Some f
-              → callee c earlier i.instr ≡ Some g → Contains list g
-              → Covers g to (scale_before (keyed_context rom.machine made key) earlier) → Refines f g)
-              → CalleeRefines (callee c earlier i.instr) (callee (keyed_context rom.machine made key) earlier i.instr)
+          → callee c earlier i.instr ≡ Some g → Contains list g
+          → Covers g to (scale_before (keyed_context rom.machine made key) earlier) → Refines f g)
+          → CalleeRefines (callee c earlier i.instr) (callee (keyed_context rom.machine made key) earlier i.instr)
       refines_at made all earlier i lead is t keyed fits =
           callee_refines rom list made all (target Shape i.instr) (scale_before c earlier)
           (scale_before (keyed_context rom.machine made key) earlier) t.knows.scale (rule earlier i lead is shape.NoEntry (λ q. cc q))
@@ -187,29 +203,40 @@ module _ (rom : Rom) (list : List Entry) (up : Upholds rom list) where
                 let scale = scale_grows rom.machine w.made new key ext earlier w.tracked.fine in
                 let tracked = grow_tracked w.made new earlier ext w.tracked in
                 let keyed : (to : ℕ) → target Shape i.instr ≡ Some to
-                    → HasEntry new to (scale_before (keyed_context rom.machine new key) earlier) =
-                    λ to t. subst (λ (z : Key). HasEntry new to z) scale (has to t) in
-                record { made = new; all = all; tracked =
-                    track_on new earlier i lead is tracked keyed
-                    (refines_at new all earlier i lead is tracked keyed
-                    (λ to f x there named l v. refined_by rom new all to _ f x there v.addr
-                    (smaller x l _ v.key (fewer earlier i lead is x named)))) }
+                → HasEntry new to (scale_before (keyed_context rom.machine new key) earlier) =
+                λ to t. subst (λ (z : Key). HasEntry new to z) scale (has to t) in
+                record {
+                  made = new;
+                  all = all;
+                  tracked =
+                      track_on new earlier i lead is tracked keyed
+                      (refines_at new all earlier i lead is tracked keyed
+                      (λ to f x there named l v. refined_by rom new all to _ f x there v.addr
+                      (smaller x l _ v.key (fewer earlier i lead is x named))));
+                }
 
             call : (to : ℕ) × (target Shape i.instr ≡ Some to) → Walked (i ∷ earlier)
             call (to, t) =
                 let call = called earlier i lead is to t k w.tracked.knows.scale in
                 let b = smaller call.g call.listed k call.covers.key
-                    (fewer earlier i lead is call.g (ap (λ o. callee_at list o (scale_before c earlier)) t ∙ call.is)) in
+                (fewer earlier i lead is call.g (ap (λ o. callee_at list o (scale_before c earlier)) t ∙ call.is)) in
                 let there = extends_second rom w.made b.list w.all b.all to k b.f
-                    (subst (λ a. entry_at b.list a k ≡ Some b.f) call.covers.addr b.found_it) in
+                (subst (λ a. entry_at b.list a k ≡ Some b.f) call.covers.addr b.found_it) in
                 further (w.made ++ b.list) (all_merged rom w.made b.list w.all b.all) (extends_more w.made b.list)
-                    (λ other q. (b.f, subst (λ a. entry_at (w.made ++ b.list) a k ≡ Some b.f) (let same : to ≡ other = cc (t, q) in same)
-                    there))
+                (λ other q. (
+                  b.f,
+                  subst (λ a. entry_at (w.made ++ b.list) a k ≡ Some b.f) (let same : to ≡ other = cc (t, q) in same)
+                      there,
+                ))
 
         walked : (items : List Item) (p : ℕ) → LeadsTo Shape (rom_word rom) e.addr items p → Walked items
         walked [] p lead =
-            record { made = []; all = λ x h. absurd (omega (arith, h.1)); tracked =
-            record { fine = tt; knows = record { place = refl; scale = loose; words = omega arith; depth = omega arith }; holds = tt } }
+            record {
+              made = [];
+              all = λ x h. absurd (omega (arith, h.1));
+              tracked =
+                  record { fine = tt; knows = record { place = refl; scale = loose; words = omega arith; depth = omega arith }; holds = tt };
+            }
         walked (i ∷ earlier) p lead = walk_on earlier i lead.0 lead.1 (walked earlier i.at lead.0)
 
         module _ (h : Stops rom e.addr) (w : Walked (h.i ∷ h.items)) where
@@ -226,8 +253,16 @@ module _ (rom : Rom) (list : List Entry) (up : Upholds rom list) where
           refines =
               let keeps = rule h.items h.i h.leads h.is in
               let known : KnowsMore (known_of e) (known_of f) =
-                  grind (arith, h.last, w.tracked.knows, (keeps shape.EndDiffers (λ q. cc q)), (keeps shape.ScaleDiffers (λ q. cc q)),
-                  (keeps shape.TooManyWords (λ q. cc q)), (keeps shape.TooDeep (λ q. cc q)), (held_depth h.items h.i.at h.leads)) in
+              grind (
+                arith,
+                h.last,
+                w.tracked.knows,
+                (keeps shape.EndDiffers (λ q. cc q)),
+                (keeps shape.ScaleDiffers (λ q. cc q)),
+                (keeps shape.TooManyWords (λ q. cc q)),
+                (keeps shape.TooDeep (λ q. cc q)),
+                (held_depth h.items h.i.at h.leads),
+              ) in
               record { known = known; lit = box.1.least e.lit w.tracked.holds }
 
           found_last : (o : Option Entry) → entry_at w.made e.addr key ≡ o → entry_at (w.made ++ f ∷ []) e.addr key ≡ Some f
@@ -240,8 +275,12 @@ module _ (rom : Rom) (list : List Entry) (up : Upholds rom list) where
           finish : Better rom e.addr key e
           finish =
               let is_made : IsMade rom w.made f =
-                  record { made = made_f; words = omega (arith, refines.known.words, (up e listed).0.words_high); depth =
-                  omega (arith, refines.known.depth, (up e listed).0.depth) } in
+              record {
+                made = made_f;
+                words = omega (arith, refines.known.words, (up e listed).0.words_high);
+                depth =
+                    omega (arith, refines.known.depth, (up e listed).0.depth);
+              } in
               record {
                 list = w.made ++ f ∷ [];
                 all = λ x m. ⊎_elim (λ a. is_made_grows rom w.made (w.made ++ f ∷ []) x (extends_more w.made (f ∷ [])) (w.all x a))
@@ -256,7 +295,7 @@ module _ (rom : Rom) (list : List Entry) (up : Upholds rom list) where
         better_here : Better rom e.addr key e
         better_here =
             let s = stops rom c e.addr e.words (stands_at Bound rom list e (up e listed).1)
-                (λ earlier i lead is. rule earlier i lead is shape.TooManyWords (λ q. cc q)) in
+            (λ earlier i lead is. rule earlier i lead is shape.TooManyWords (λ q. cc q)) in
             finish s (walk_on s.items s.i s.leads s.is (walked s.items s.i.at s.leads))
 
   -- ---- every entry
@@ -277,7 +316,7 @@ module _ (rom : Rom) (list : List Entry) (up : Upholds rom list) where
       → Covers e f.addr f.key → (earlier : List Item) (i : Item) → LeadsTo Shape (rom_word rom) e.addr earlier i.at
       → cell_at (rom_word rom) i.at ≡ Holds i.format i.instr → Tracked e listed f.key made earlier
       → CalleeRefines (callee (shape_context rom.machine list e) earlier i.instr)
-          (callee (keyed_context rom.machine made f.key) earlier i.instr)
+      (callee (keyed_context rom.machine made f.key) earlier i.instr)
   made_refines made all f in_made e listed covers earlier i lead is t =
       refines_at e listed f.key made all earlier i lead is t
       ((all f in_made).made.keyed earlier i (subst (λ a. LeadsTo Shape (rom_word rom) a earlier i.at) covers.addr lead) is)
@@ -292,5 +331,5 @@ module _ (rom : Rom) (list : List Entry) (up : Upholds rom list) where
   tracks made all f in_made e listed covers (i ∷ earlier) p lead =
       let t = tracks made all f in_made e listed covers earlier i.at lead.0 in
       track_on e listed f.key made earlier i lead.0 lead.1 t
-          ((all f in_made).made.keyed earlier i (subst (λ a. LeadsTo Shape (rom_word rom) a earlier i.at) covers.addr lead.0) lead.1)
-          (made_refines made all f in_made e listed covers earlier i lead.0 lead.1 t)
+      ((all f in_made).made.keyed earlier i (subst (λ a. LeadsTo Shape (rom_word rom) a earlier i.at) covers.addr lead.0) lead.1)
+      (made_refines made all f in_made e listed covers earlier i lead.0 lead.1 t)

@@ -30,7 +30,7 @@ of_call : (rom : Rom) (words : List ℕ) (call : FrameCall) (why : EntryFault)
 of_call rom words call why h =
     retold rom [] (words ∷ []) (record { call = Some call; why = why }) (Some (record { frame = 0; at = call.at })) why refl h
     (λ t. subst (λ (n : ℕ). IsTold rom [] (words ∷ []) (Some (record { frame = n; at = call.at })) h.chain h.at h.before h.cause)
-        (let first : call.frame ≡ 0 = grind (arith, t.named.1) in first) t)
+    (let first : call.frame ≡ 0 = grind (arith, t.named.1) in first) t)
 
 pub call_cause : (rom : Rom) (words : List ℕ) (call : Option FrameCall) (why : EntryFault)
     → HasCause rom [] (words ∷ []) (record { call = call; why = why }) → HasCallCause rom words (refusal_at call why)

@@ -59,20 +59,20 @@ module _ (rom : Rom) (from : List Entry) (root : ℕ × Key) (done : List Entry)
         let key_is : new.key ≡ p.0.key = w.same_key ∙ sym l.key_is in
         let i : Item = w.item in
         let lead : LeadsTo Shape (rom_word rom) p.0.addr w.partial.items i.at =
-            subst (λ x. LeadsTo Shape (rom_word rom) p.0.addr w.partial.items x) (sym w.at)
-            (subst (λ x. LeadsTo Shape (rom_word rom) x w.partial.items new.cursor.at) addr_is w.partial.leads) in
+        subst (λ x. LeadsTo Shape (rom_word rom) p.0.addr w.partial.items x) (sym w.at)
+        (subst (λ x. LeadsTo Shape (rom_word rom) x w.partial.items new.cursor.at) addr_is w.partial.leads) in
         let g = is.keyed w.partial.items i lead w.stands addr w.target_is in
         let scale : scale_before (shape_context rom.machine made p.0) w.partial.items ≡ at_key =
         ap (λ (x : Key). scale_before (keyed_context rom.machine made x) w.partial.items) (sym key_is)
-            ∙ sym (scale_grows rom.machine done made new.key f.0 w.partial.items w.partial.knows.fine)
-            ∙ sym (ap (λ (x : Known). x.scale) w.partial.knows.known_is)
+        ∙ sym (scale_grows rom.machine done made new.key f.0 w.partial.items w.partial.knows.fine)
+        ∙ sym (ap (λ (x : Known). x.scale) w.partial.knows.known_is)
         in
         let there : entry_at made addr at_key ≡ Some g.0 = subst (λ (x : Key). entry_at made addr x ≡ Some g.0) scale g.1 in
         let some = made_some rom made g.0 (m.all g.0 (listed_at made addr at_key g.0 there).listed).made in
         let less = callee_less rom made p.0 is w.partial.items i lead w.stands addr g.0 w.target_is g.1 in
         let found_new : entry_at made new.addr new.key ≡ Some p.0 =
-            subst (λ x. entry_at made x new.key ≡ Some p.0) (sym w.same_addr)
-            (subst (λ x. entry_at made partial.addr x ≡ Some p.0) (sym w.same_key) p.1) in
+        subst (λ x. entry_at made x new.key ≡ Some p.0) (sym w.same_addr)
+        (subst (λ x. entry_at made partial.addr x ≡ Some p.0) (sym w.same_key) p.1) in
         (g.0, there, omega (arith, some), chain_push made (MOST_WORDS + 1) g.0.words stack new p.0 found_new less p.2)
 
     -- it is being made already
@@ -195,13 +195,20 @@ module _ (rom : Rom) (from : List Entry) (root : ℕ × Key) (done : List Entry)
         let p = chain_pop made (MOST_WORDS + 1) 0 stack partial (h.forced made m).1 in
         let pl = listed_at made partial.addr partial.key p.0 p.1 in
         let same : e ≡ p.0 =
-            same_made rom done made e p.0 (h.forced made m).0 f.made (m.all p.0 pl.listed).made (f.addr ∙ sym pl.addr_is)
-            (f.key ∙ sym pl.key_is) in
+        same_made rom done made e p.0 (h.forced made m).0 f.made (m.all p.0 pl.listed).made (f.addr ∙ sym pl.addr_is)
+        (f.key ∙ sym pl.key_is) in
         grind (arith, entry_at, option_or, entry_at-append, (h.forced made m).0, pl, listed_at)
 
     ends_at : entry_at (done ++ e ∷ []) partial.addr partial.key ≡ Some e
-    ends_at = grind (arith, (apart_pop done stack partial h.apart), (entry_at (e ∷ []) partial.addr partial.key),
-        (at_holds partial.addr partial.key e f.addr f.key), f, (entry_at-append done (e ∷ []) partial.addr partial.key), option_or)
+    ends_at = grind (
+      arith,
+      (apart_pop done stack partial h.apart),
+      (entry_at (e ∷ []) partial.addr partial.key),
+      (at_holds partial.addr partial.key e f.addr f.key),
+      f,
+      (entry_at-append done (e ∷ []) partial.addr partial.key),
+      option_or,
+    )
 
     pub present_finished : (addr : ℕ) (key : Key) → IsPresent done (stack ++ partial ∷ []) addr key
         → IsPresent (done ++ e ∷ []) stack addr key

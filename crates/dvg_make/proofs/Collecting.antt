@@ -16,9 +16,11 @@ in_taken xs n x c = subst (λ l. Contains l x) (take-append-drop n xs) (Contains
 -- an element of what is taken stands at the same place in the whole, and those before it are taken, too
 stands_taken : {A : Type 0} (xs : List A) (n : ℕ) (x : A) → Contains (take n xs) x → (i : ℕ) × (slice_get xs i ≡ Some x)
     × ((z : A) → Contains (take i xs) z → Contains (take n xs) z)
-stands_taken xs n x (i, lt, is) =
-    (i, slice_get_read xs (length xs) i x refl (grind (arith, common_steps)) (grind (arith, common_steps)),
-    λ z c. grind (arith, common_steps))
+stands_taken xs n x (i, lt, is) = (
+  i,
+  slice_get_read xs (length xs) i x refl (grind (arith, common_steps)) (grind (arith, common_steps)),
+  λ z c. grind (arith, common_steps),
+)
 
 -- ---- roots
 
@@ -33,8 +35,11 @@ module _ (rom : Rom) (roots : List (ℕ × Key)) (i : ℕ) (d : ℕ × Key) (don
   -- a certificate that has all roots has what is made so far, and this root
   aims : (list : List Entry) → AllMade rom list → HasAll roots list → IsAim rom done ((get_or roots i d).0, (get_or roots i d).1) list
   aims list all has =
-      search (all, h.forced list all (λ a k c. has a k (in_taken roots i (a, k) c)),
-      has (get_or roots i d).0 (get_or roots i d).1 (Contains-get_or roots i d lt))
+      search (
+        all,
+        h.forced list all (λ a k c. has a k (in_taken roots i (a, k) c)),
+        has (get_or roots i d).0 (get_or roots i d).1 (Contains-get_or roots i d lt),
+      )
 
   none_made : (frames : List (List ℕ)) → NoAim rom done ((get_or roots i d).0, (get_or roots i d).1) → NoFramesMade rom roots frames
   none_made frames b list m =
@@ -52,8 +57,10 @@ module _ (rom : Rom) (roots : List (ℕ × Key)) (i : ℕ) (d : ℕ × Key) (don
       let r = m.rooted (get_or roots i d).0 (get_or roots i d).1 (inl (Contains-get_or roots i d lt)) in
       let l = listed_at list (get_or roots i d).0 (get_or roots i d).1 r.0 r.1 in
       let e = listed_entry rom.map.rom_first rom.map.rom_last list r.0 m.certificate.each l.listed in
-      not ((subst (λ a. rom.map.rom_first ≤ a) l.addr_is e.addr_low, subst (λ a. a ≤ rom.map.rom_last) l.addr_is e.addr_high),
-          subst IsKey l.key_is e.key)
+      not (
+        (subst (λ a. rom.map.rom_first ≤ a) l.addr_is e.addr_low, subst (λ a. a ≤ rom.map.rom_last) l.addr_is e.addr_high),
+        subst IsKey l.key_is e.key,
+      )
 
 -- ---- what is needed
 
@@ -113,7 +120,7 @@ root_told : (rom : Rom) (roots : List (ℕ × Key)) (i : ℕ) (d : ℕ × Key) (
 root_told rom roots i d done lt h chain obstacle b frames =
     let before : HasAll (take i roots) b.list = λ a k c. let f = h.rooted a k c in (f.0, b.extends a k f.0 f.1) in
     let here : IsNamedBy rom.machine roots frames b.list None (asked_shape (get_or roots i d)) =
-        (i, slice_get-get_or roots i d lt, λ a k. ⊎_elim (λ r. before a k r) (λ x. absurd (omega (arith, x.1.1)))) in
+    (i, slice_get-get_or roots i d lt, λ a k. ⊎_elim (λ r. before a k r) (λ x. absurd (omega (arith, x.1.1)))) in
     let was : (a : ℕ) (k : Key) → HasEntry done a k → IsNamed rom.machine roots frames b.list a k ⊎ IsCalled rom done [] a k =
     λ a k has. ⊎_elim (λ c. inl (named_taken rom.machine roots frames b.list i before a k c)) (λ c. inr c) (h.needed a k has) in
     record {
@@ -143,10 +150,14 @@ module _ (rom : Rom) (roots : List (ℕ × Key)) (i : ℕ) (d : ℕ × Key) (don
   pub root_refused : (blocked : Blocked) → IsBlocked rom done ((get_or roots i d).0, (get_or roots i d).1) blocked
       → (frames : List (List ℕ)) → IsRefused rom roots frames blocked
   root_refused blocked b frames =
-      grind (arith, (obstacle_fault blocked.obstacle), root_barred,
-      (unless blocked.obstacle.cause (IsToldOf rom roots frames None blocked.chain blocked.obstacle)
-      (root_told rom roots i d done lt h blocked.chain blocked.obstacle b.told frames)),
-      (root_told rom roots i d done lt h blocked.chain blocked.obstacle b.told frames))
+      grind (
+        arith,
+        (obstacle_fault blocked.obstacle),
+        root_barred,
+        (unless blocked.obstacle.cause (IsToldOf rom roots frames None blocked.chain blocked.obstacle)
+            (root_told rom roots i d done lt h blocked.chain blocked.obstacle b.told frames)),
+        (root_told rom roots i d done lt h blocked.chain blocked.obstacle b.told frames),
+      )
 
   -- a root outside the ROM, or with a key over 15
   pub outside_refused : (r : Bool) → r ≡ false → (IsTrue r ↔ (InRom rom.map (get_or roots i d).0 × IsKey (get_or roots i d).1))
@@ -173,17 +184,17 @@ call_told : (rom : Rom) (roots : List (ℕ × Key)) (frames : List (List ℕ)) (
 call_told rom roots frames i d old lt h at chain obstacle t =
     let rooted : HasAll roots t.list = λ a k r. let f = h.rooted a k r in (f.0, t.extends a k f.0 f.1) in
     let before : HasAsked rom.machine roots (take i frames) t.list =
-        λ a k. ⊎_elim (λ r. rooted a k r) (λ c. has_calls_grow rom.machine c.0 old t.list t.extends (h.has_calls c.0 c.1) a k c.2) in
+    λ a k. ⊎_elim (λ r. rooted a k r) (λ c. has_calls_grow rom.machine c.0 old t.list t.extends (h.has_calls c.0 c.1) a k c.2) in
     let asked_before : (a : ℕ) (k : Key) → IsAskedFor rom.machine roots (take i frames) old a k
-        → IsNamed rom.machine roots frames t.list a k =
+    → IsNamed rom.machine roots frames t.list a k =
     λ a k.
     ⊎_elim (λ r. named_root rom.machine roots frames t.list rooted a k r)
     (λ c. named_before rom.machine roots frames t.list i c.0 c.1 before a k
-        (call_grows rom.machine c.0 old t.list t.extends a k (keyed_call rom.machine c.0 old (h.has_calls c.0 c.1) a k c.2))) in
+    (call_grows rom.machine c.0 old t.list t.extends a k (keyed_call rom.machine c.0 old (h.has_calls c.0 c.1) a k c.2))) in
     let asked_here : (a : ℕ) (k : Key) → IsGivenHere rom.machine (get_or frames i d) h.asked t.list a k
-        → IsNamed rom.machine roots frames t.list a k =
+    → IsNamed rom.machine roots frames t.list a k =
     λ a k. ⊎_elim (λ c. asked_before a k (h.asked_for a k c))
-        (λ c. named_call rom.machine roots frames t.list i (get_or frames i d) (slice_get-get_or frames i d lt) before a k c) in
+    (λ c. named_call rom.machine roots frames t.list i (get_or frames i d) (slice_get-get_or frames i d lt) before a k c) in
     record {
       list = t.list;
       within = t.within;
@@ -260,9 +271,14 @@ module _ (rom : Rom) (roots : List (ℕ × Key)) (frames : List (List ℕ)) (i :
   pub call_refused : (blocked : Blocked) → BlocksHere rom i now old blocked → IsRefused rom roots frames blocked
   call_refused blocked b =
       let told = call_told rom roots frames i d old lt h b.at blocked.chain blocked.obstacle b.told in
-      grind (arith, (frame_refused b.at (obstacle_fault blocked.obstacle) b.bars), (obstacle_fault blocked.obstacle),
-          (unless blocked.obstacle.cause
-          (IsToldOf rom roots frames (Some (record { frame = i; at = b.at })) blocked.chain blocked.obstacle) told), told)
+      grind (
+        arith,
+        (frame_refused b.at (obstacle_fault blocked.obstacle) b.bars),
+        (obstacle_fault blocked.obstacle),
+        (unless blocked.obstacle.cause
+            (IsToldOf rom roots frames (Some (record { frame = i; at = b.at })) blocked.chain blocked.obstacle) told),
+        told,
+      )
 
 -- what a refusal says where there is no frame
 pub as_make_fault : (rom : Rom) (roots : List (ℕ × Key)) (why : EntryFault) → BarsList rom roots [] why

@@ -44,8 +44,13 @@ pub allows_at : (rom : Rom) (list : List Entry) (e : Entry) → MadeEntry rom li
     → Allows e (seen_at (shape_context rom.machine list e) earlier i)
 allows_at rom list e made earlier i lead is =
     let k = rule_at Exact rom list e made.keeps earlier i lead is screen in
-    search (k shape.HaltInShape (λ q. cc q), k shape.BeamUnknown (λ q. cc q), k shape.ScaleUnknown (λ q. cc q),
-        k shape.TooDeep (λ q. cc q), k shape.TooManyWords (λ q. cc q))
+    search (
+      k shape.HaltInShape (λ q. cc q),
+      k shape.BeamUnknown (λ q. cc q),
+      k shape.ScaleUnknown (λ q. cc q),
+      k shape.TooDeep (λ q. cc q),
+      k shape.TooManyWords (λ q. cc q),
+    )
 
 -- a called entry has fewer words
 pub callee_less : (rom : Rom) (list : List Entry) (e : Entry) → MadeEntry rom list e → (earlier : List Item) (i : Item)
@@ -54,9 +59,18 @@ pub callee_less : (rom : Rom) (list : List Entry) (e : Entry) → MadeEntry rom 
     → g.words < e.words
 callee_less rom list e made earlier i lead is to g t h =
     let allows = allows_at rom list e made earlier i lead is in
-    grind (arith, allows, (scale_before (shape_context rom.machine list e) earlier), (shape_context rom.machine list e),
-        (callee (shape_context rom.machine list e) earlier i.instr), callee_at, exact_named,
-        (callee_words (callee (shape_context rom.machine list e) earlier i.instr)), callee_words, (word_count-some i.format))
+    grind (
+      arith,
+      allows,
+      (scale_before (shape_context rom.machine list e) earlier),
+      (shape_context rom.machine list e),
+      (callee (shape_context rom.machine list e) earlier i.instr),
+      callee_at,
+      exact_named,
+      (callee_words (callee (shape_context rom.machine list e) earlier i.instr)),
+      callee_words,
+      (word_count-some i.format),
+    )
 
 -- ---- at the end
 
@@ -71,8 +85,14 @@ pub sums_of : (rom : Rom) (list : List Entry) (e : Entry) → MadeEntry rom list
 sums_of rom list e made earlier i lead is last =
     let k = rule_at Exact rom list e made.keeps earlier i lead is screen in
     let known : known_before (shape_context rom.machine list e) (i ∷ earlier) ≡ known_of e =
-        grind (arith, last, (k shape.EndDiffers (λ q. cc q)), (k shape.ScaleDiffers (λ q. cc q)), (k shape.WordsDiffer (λ q. cc q)),
-        (k shape.DepthDiffers (λ q. cc q))) in
+    grind (
+      arith,
+      last,
+      (k shape.EndDiffers (λ q. cc q)),
+      (k shape.ScaleDiffers (λ q. cc q)),
+      (k shape.WordsDiffer (λ q. cc q)),
+      (k shape.DepthDiffers (λ q. cc q)),
+    ) in
     record { known = known; box = made.box earlier i lead is last }
 
 both_inside : (a b : LitBox) → IsInside a b → IsInside b a → a ≡ b
@@ -109,7 +129,7 @@ module _ (rom : Rom) (c : Context) (addr most : ℕ) (stands : Stands rom addr)
       let h = stands items p lead in
       let i : Item = record { at = p; format = h.0; instr = h.1 } in
       ⊎_elim (λ is. record { items = items; i = i; leads = lead; is = h.2; last = is })
-          (λ q. find_last n (i ∷ items) q.0 (lead, h.2, q.1) (omega (arith, le, word_count-some h.0))) (none_or_some (next_address Shape i))
+      (λ q. find_last n (i ∷ items) q.0 (lead, h.2, q.1) (omega (arith, le, word_count-some h.0))) (none_or_some (next_address Shape i))
 
   pub stops : Stops rom addr
   stops = find_last most [] addr refl (omega arith)
@@ -126,16 +146,21 @@ all_fine : (rom : Rom) (list : List Entry) (e : Entry) → MadeEntry rom list e 
     → AllFine (shape_context rom.machine list e) (i ∷ items)
 all_fine rom list e made [] i lead is =
     (tt, record { straight = (allows_at rom list e made [] i lead is).straight; keyed = made.keyed [] i lead is })
-all_fine rom list e made (j ∷ items) i lead is =
-    (all_fine rom list e made items j lead.0 lead.1,
-    record { straight = (allows_at rom list e made (j ∷ items) i lead is).straight; keyed = made.keyed (j ∷ items) i lead is })
+all_fine rom list e made (j ∷ items) i lead is = (
+  all_fine rom list e made items j lead.0 lead.1,
+  record { straight = (allows_at rom list e made (j ∷ items) i lead is).straight; keyed = made.keyed (j ∷ items) i lead is },
+)
 
 pub made_ends : (rom : Rom) (list : List Entry) (e : Entry) → MadeEntry rom list e → Ends rom list e
 made_ends rom list e made =
     let s = stops rom (shape_context rom.machine list e) e.addr e.words (stands_at Exact rom list e made.keeps)
-        (λ earlier i lead is. (allows_at rom list e made earlier i lead is).many) in
-    record { stops = s; sums = sums_of rom list e made s.items s.i s.leads s.is s.last; fine =
-        all_fine rom list e made s.items s.i s.leads s.is }
+    (λ earlier i lead is. (allows_at rom list e made earlier i lead is).many) in
+    record {
+      stops = s;
+      sums = sums_of rom list e made s.items s.i s.leads s.is s.last;
+      fine =
+          all_fine rom list e made s.items s.i s.leads s.is;
+    }
 
 -- a made entry has words
 pub made_some : (rom : Rom) (list : List Entry) (e : Entry) → MadeEntry rom list e → 1 ≤ e.words
@@ -172,9 +197,16 @@ module _ (rom : Rom) (list : List Entry) (e : Entry) where
       → cell_at (rom_word rom) i.at ≡ Holds i.format i.instr → AllFine c (i ∷ items) → depth_before c (i ∷ items) ≤ e.depth
       → words_before c (i ∷ items) ≤ e.words → HoldsAll e.lit (lit_points c (i ∷ items))
       → AtLast (next_address Shape i) (Sums rom.machine list (i ∷ items) e) → AtEachOf At (i ∷ items)
-  at_items [] i lead is fine deep many holds ends =
-      (tt, (i.format, i.instr, is, search
-      (rules, fine.1, many, ends, all_left (InBox e.lit) (relative_corners (extent c [] i.instr) (place_before c [])) [] holds)))
+  at_items [] i lead is fine deep many holds ends = (
+    tt,
+    (
+      i.format,
+      i.instr,
+      is,
+      search
+          (rules, fine.1, many, ends, all_left (InBox e.lit) (relative_corners (extent c [] i.instr) (place_before c [])) [] holds),
+    ),
+  )
   at_items (j ∷ items) i lead is fine deep many holds ends =
       let corners = relative_corners (extent c (j ∷ items) i.instr) (place_before c (j ∷ items)) in (
         at_items items j lead.0 lead.1 fine.0 (omega (arith, deep)) (omega (arith, many))
@@ -186,14 +218,14 @@ module _ (rom : Rom) (list : List Entry) (e : Entry) where
   pub ends_made : Ends rom list e → MadeEntry rom list e
   ends_made h =
       let all : AtEveryPlace Shape (rom_word rom) e.addr At =
-          everywhere Shape (rom_word rom) e.addr At h.stops.items h.stops.i h.stops.leads h.stops.is h.stops.last
+      everywhere Shape (rom_word rom) e.addr At h.stops.items h.stops.i h.stops.leads h.stops.is h.stops.last
       (at_items h.stops.items h.stops.i h.stops.leads h.stops.is h.fine (omega (arith, ap (λ (k : Known). k.depth) h.sums.known))
-          (omega (arith, ap (λ (k : Known). k.words) h.sums.known)) h.sums.box.holds
-          (subst (λ o. AtLast o (Sums rom.machine list (h.stops.i ∷ h.stops.items) e)) (sym h.stops.last) h.sums)) in
+      (omega (arith, ap (λ (k : Known). k.words) h.sums.known)) h.sums.box.holds
+      (subst (λ o. AtLast o (Sums rom.machine list (h.stops.i ∷ h.stops.items) e)) (sym h.stops.last) h.sums)) in
       let each : EachItem rom e.addr AtItem =
-          λ earlier j l k. let a =
-          all earlier j.at l in subst (AtItem earlier)
-          (let same : record { at = j.at; format = a.0; instr = a.1 } ≡ j = grind (arith, a.2, k) in same) a.3 in
+      λ earlier j l k. let a =
+      all earlier j.at l in subst (AtItem earlier)
+      (let same : record { at = j.at; format = a.0; instr = a.1 } ≡ j = grind (arith, a.2, k) in same) a.3 in
       record {
         keeps = λ earlier p l. let a = all earlier p l in kept_place earlier (record { at = p; format = a.0; instr = a.1 }) a.2 a.3;
         keyed = λ earlier j l k. (each earlier j l k).fine.keyed;

@@ -19,13 +19,30 @@ module _ (rom : Rom) (roots : List (ℕ × Key)) (frames : List (List ℕ)) (don
 
   pub is_certificate : IsMap rom.map → IsCertificate rom.map list
   is_certificate is =
-      record { map_is = is; each = all_listed (IsEntry rom.map.rom_first rom.map.rom_last) list
-      (λ e c. h.collected.is_done.entries e (done_listed e c)); rising = rises; few = omega (arith, h.collected.is_done.room, long) }
+      record {
+        map_is = is;
+        each = all_listed (IsEntry rom.map.rom_first rom.map.rom_last) list
+            (λ e c. h.collected.is_done.entries e (done_listed e c));
+        rising = rises;
+        few = omega (arith, h.collected.is_done.room, long);
+      }
 
   needs_it : (f : Entry) → Contains list f → IsCalled rom done [] f.addr f.key → (e : Entry) × Contains list e × Needs rom list e f
   needs_it f listed_f c =
-      grind (arith, listed_at, ext, scale_before, shape_context, keyed_context, scale_grows, fine_taken, callee_at, exact_named,
-      found_listed, rom_word)
+      grind (
+        arith,
+        listed_at,
+        ext,
+        scale_before,
+        shape_context,
+        keyed_context,
+        scale_grows,
+        fine_taken,
+        callee_at,
+        exact_named,
+        found_listed,
+        rom_word,
+      )
 
   asked_has : (addr : ℕ) (key : Key) → IsAskedFor rom.machine roots frames list addr key → HasEntry list addr key
   asked_has addr key a =
@@ -50,11 +67,21 @@ module _ (rom : Rom) (roots : List (ℕ × Key)) (frames : List (List ℕ)) (don
 -- where no frame is asked for, the list is that of the roots
 pub made_roots : (rom : Rom) (roots : List (ℕ × Key)) (list : List Entry) → FramesMade rom roots [] list → Made rom roots list
 made_roots rom roots list m =
-    record { certificate = m.certificate; each = m.each; rooted = λ addr key r. m.rooted addr key (inl r); needed =
-    λ f c. ⊎_elim (λ a. inl (⊎_elim (λ r. r) (λ b. absurd (omega (arith, b.1.1))) a)) (λ n. inr n) (m.needed f c) }
+    record {
+      certificate = m.certificate;
+      each = m.each;
+      rooted = λ addr key r. m.rooted addr key (inl r);
+      needed =
+          λ f c. ⊎_elim (λ a. inl (⊎_elim (λ r. r) (λ b. absurd (omega (arith, b.1.1))) a)) (λ n. inr n) (m.needed f c);
+    }
 
 pub roots_made : (rom : Rom) (roots : List (ℕ × Key)) (list : List Entry) → Made rom roots list → FramesMade rom roots [] list
 roots_made rom roots list m =
-    record { certificate = m.certificate; each = m.each; rooted =
-    λ addr key a. ⊎_elim (λ r. m.rooted addr key r) (λ b. absurd (omega (arith, b.1.1))) a; needed =
-    λ f c. ⊎_elim (λ r. inl (inl r)) (λ n. inr n) (m.needed f c) }
+    record {
+      certificate = m.certificate;
+      each = m.each;
+      rooted =
+          λ addr key a. ⊎_elim (λ r. m.rooted addr key r) (λ b. absurd (omega (arith, b.1.1))) a;
+      needed =
+          λ f c. ⊎_elim (λ r. inl (inl r)) (λ n. inr n) (m.needed f c);
+    }

@@ -20,8 +20,12 @@ module _ (rom : Rom) (done : List Entry) (is : IsDone rom done) (to : ℕ) (scal
   pub entry_barred : NoAim rom done (to, scale) → Barred rom to scale
   entry_barred none list all has =
       let mine = done_made rom done is in
-      none (done ++ list) (record { all = all_merged rom done list mine all; extends = extends_more done list; has =
-      (has.0, extends_second rom done list mine all to scale has.0 has.1) })
+      none (done ++ list) (record {
+        all = all_merged rom done list mine all;
+        extends = extends_more done list;
+        has =
+            (has.0, extends_second rom done list mine all to scale has.0 has.1);
+      })
 
   pub bars_entry : (why : EntryFault) → Bars rom done (to, scale) why → BarsEntry rom to scale why
   bars_entry TooManyEntries b = tt
@@ -40,9 +44,10 @@ module _ (machine : Machine) (words : List ℕ) (list : List Entry) where
 
   each_there : (items : List Item) (p : ℕ) → LeadsTo Frame word 0 items p → AllKeyed machine list items → AtEachOf KeyedThere items
   each_there [] p lead keyed = tt
-  each_there (i ∷ earlier) p lead keyed =
-      (each_there earlier i.at lead.0 keyed.0,
-      λ j at is. subst (IsKeyed machine list earlier) (item_same i j (sym at) (sym lead.1 ∙ is)) keyed.1)
+  each_there (i ∷ earlier) p lead keyed = (
+    each_there earlier i.at lead.0 keyed.0,
+    λ j at is. subst (IsKeyed machine list earlier) (item_same i j (sym at) (sym lead.1 ∙ is)) keyed.1,
+  )
 
   -- what stands here, if anything does, is the last and is keyed
   module _ (items : List Item) (p : ℕ) (lead : LeadsTo Frame word 0 items p) (keyed : AllKeyed machine list items)
@@ -54,7 +59,7 @@ module _ (machine : Machine) (words : List ℕ) (list : List Entry) where
         ⊎_elim
         (λ less. none_past earlier j.at h.0 less)
         (λ le. let s = same_lead Frame word 0 earlier items j.at p h.0 lead (omega (arith, lt, le)) in let no : Some q ≡ None =
-            sym h.2 ∙ (last j s.place (sym (ap (cell_at word) s.place) ∙ h.1)).0 in cc no)
+        sym h.2 ∙ (last j s.place (sym (ap (cell_at word) s.place) ∙ h.1)).0 in cc no)
         (cases_lt (length items) (length earlier))
 
     pub ends : HasCalls machine words list
@@ -67,7 +72,7 @@ module _ (machine : Machine) (words : List ℕ) (list : List Entry) where
             (λ le. ⊎_elim
             (λ more. absurd (none_past c.earlier c.item.at c.leads more))
             (λ ge. here_same Frame word 0 KeyedThere c.earlier items c.item.at p
-                (same_lead Frame word 0 c.earlier items c.item.at p c.leads lead (omega (arith, le, ge))) (λ i at is. (last i at is).1))
+            (same_lead Frame word 0 c.earlier items c.item.at p c.leads lead (omega (arith, le, ge))) (λ i at is. (last i at is).1))
             (cases_lt (length items) (length c.earlier)))
             (cases_lt (length c.earlier) (length items))
 
@@ -81,12 +86,22 @@ collected_more rom asked old new addr key h m has =
       rooted = λ a k c. ⊎_elim (λ x. let f = h.rooted a k x in (f.0, m.extends a k f.0 f.1))
           (λ x. subst (λ (r : ℕ × Key). HasEntry new r.0 r.1) (only_listed (addr, key) (a, k) x) has)
           (Contains-append_cases asked ((addr, key) ∷ []) (a, k) c);
-      needed = λ a k x. grind (arith, (m.needed a k (inl x)), (h.needed a k), Contains-append_left, Contains-append_right,
-          (called_grows rom old new [] [] m.extends));
+      needed = λ a k x. grind (
+        arith,
+        (m.needed a k (inl x)),
+        (h.needed a k),
+        Contains-append_left,
+        Contains-append_right,
+        (called_grows rom old new [] [] m.extends),
+      );
       forced = λ made all has_all. (m.forced made
-          (record { all = all; extends =
-          h.forced made all (λ a k c. has_all a k (Contains-append_left asked ((addr, key) ∷ []) (a, k) c)); has =
-          has_all addr key (Contains-append_right asked ((addr, key) ∷ []) (addr, key) (0, omega arith, refl)) })).0;
+          (record {
+            all = all;
+            extends =
+                h.forced made all (λ a k c. has_all a k (Contains-append_left asked ((addr, key) ∷ []) (a, k) c));
+            has =
+                has_all addr key (Contains-append_right asked ((addr, key) ∷ []) (addr, key) (0, omega arith, refl));
+          })).0;
     }
 
 -- ---- what is needed
@@ -122,15 +137,25 @@ walk_of rom words old done at scale d g p k n c a = record { is_done = d; grows 
 framed : (rom : Rom) (words : List ℕ) (old done : List Entry) (calls : List (ℕ × Key)) → Asked rom words old done calls
     → HasCalls rom.machine words done → IsFramed rom words old done
 framed rom words old done calls a has =
-    record { has_calls = has; calls = calls; calls_are = λ to key x. (a.calls_are to key x).calls; collected = a.collected; forced =
-    a.forced }
+    record {
+      has_calls = has;
+      calls = calls;
+      calls_are = λ to key x. (a.calls_are to key x).calls;
+      collected = a.collected;
+      forced =
+          a.forced;
+    }
 
 pub starts : (rom : Rom) (words : List ℕ) (done : List Entry) → IsDone rom done → FrameWalk rom words done done 0 Any
 starts rom words done h =
     walk_of rom words done done 0 Any h (λ a k e q. q) (record { items = []; leads = refl; keyed = tt; scale_is = refl }) tt
-        (omega arith) []
-    (record { calls_are = λ to key c. absurd (omega (arith, c.1)); collected =
-        λ asked c. subst (λ a. Collected rom a done) (sym (append-nil asked)) c; forced = λ list all ext has. ext })
+    (omega arith) []
+    (record {
+      calls_are = λ to key c. absurd (omega (arith, c.1));
+      collected =
+          λ asked c. subst (λ a. Collected rom a done) (sym (append-nil asked)) c;
+      forced = λ list all ext has. ext;
+    })
 
 module _ (rom : Rom) (words : List ℕ) (old done : List Entry) (at : ℕ) (scale : Key) (w : FrameWalk rom words old done at scale)
     (format : Format) (instr : Instr) (is : cell_at (frame_word rom.machine words) at ≡ Holds format instr) where
@@ -151,7 +176,7 @@ module _ (rom : Rom) (words : List ℕ) (old done : List Entry) (at : ℕ) (scal
     call_made : (new : List Entry) → InProgress rom done (to, scale) new [] → HasEntry new to scale → FrameWalk rom words old new at scale
     call_made new m has =
         walk_of rom words old new at scale m.is_done (λ a k e q. m.extends a k e (w.grows a k e q))
-            (path_grows rom.machine words done new m.extends at scale w.path) w.is_key w.near (w.calls ++ (to, scale) ∷ [])
+        (path_grows rom.machine words done new m.extends at scale w.path) w.is_key w.near (w.calls ++ (to, scale) ∷ [])
         (record {
           calls_are = λ a k c. ⊎_elim (λ x. call_grows rom.machine words done new m.extends a k (w.asked.calls_are a k x))
               (λ x. subst (λ (r : ℕ × Key). KeyedCall rom.machine words new r.0 r.1) (only_listed (to, scale) (a, k) x)
@@ -166,25 +191,34 @@ module _ (rom : Rom) (words : List ℕ) (old done : List Entry) (at : ℕ) (scal
     stops : (why : EntryFault) → BarsEntry rom to scale why → CallBarredAt rom words at why
     stops why b =
         let k = call_of_path rom.machine words done item to scale w.path is t in
-        record { list = done; made = done_made rom done w.is_done; to = to; scale = scale; call =
-            record { calls = k.calls; at_is = refl; before = k.keyed }; barred = b }
+        record {
+          list = done;
+          made = done_made rom done w.is_done;
+          to = to;
+          scale = scale;
+          call =
+              record { calls = k.calls; at_is = refl; before = k.keyed };
+          barred = b;
+        }
 
     module _ (no : NoAim rom done (to, scale)) where
       none_accepts : NoneAccepts rom words
       none_accepts v mode list budget count depth a =
           let up = upheld rom list v a.certificate (in_bound v rom list mode a.good) in
           let cover = frame_cover rom list up words v budget a.frame.keeps done (done_made rom done w.is_done) to scale
-              (call_of_path rom.machine words done item to scale w.path is t) in
+          (call_of_path rom.machine words done item to scale w.path is t) in
           let b = better rom list up cover.0 cover.1 scale cover.2.key in
           entry_barred rom done w.is_done to scale no b.list b.all
-              (b.f, subst (λ a. entry_at b.list a scale ≡ Some b.f) cover.2.addr b.found_it)
+          (b.f, subst (λ a. entry_at b.list a scale ≡ Some b.f) cover.2.addr b.found_it)
 
     call_barred : (why : EntryFault) → Bars rom done (to, scale) why → BarsHere rom words old at why
     call_barred TooManyEntries b = ((λ list all ext has_calls. b list (aim list all ext has_calls)), stops TooManyEntries tt, tt)
     call_barred Memory b = (tt, stops Memory tt, tt)
-    call_barred why b =
-        ((λ list all ext has_calls. b list (aim list all ext has_calls)), stops why (entry_barred rom done w.is_done to scale b),
-        none_accepts b)
+    call_barred why b = (
+      (λ list all ext has_calls. b list (aim list all ext has_calls)),
+      stops why (entry_barred rom done w.is_done to scale b),
+      none_accepts b,
+    )
 
   -- ---- past the item
 
@@ -199,11 +233,15 @@ module _ (rom : Rom) (words : List ℕ) (old done : List Entry) (at : ℕ) (scal
       → Called new callee
   called last new callee c =
       let partial : FrameWalk rom words old new at scale =
-          ⊎_elim (λ t. subst (λ d. FrameWalk rom words old d at scale) (sym (c.none t).0) w)
-          (λ t. let m = c.some t.0 t.1 in call_made t.0 t.1 new m.0 m.1) (none_or_some (target Frame instr)) in
+      ⊎_elim (λ t. subst (λ d. FrameWalk rom words old d at scale) (sym (c.none t).0) w)
+      (λ t. let m = c.some t.0 t.1 in call_made t.0 t.1 new m.0 m.1) (none_or_some (target Frame instr)) in
       let named : callee ≡ callee_at new (target Frame instr) scale = grind (arith, exact_named) in
-      record { partial = partial; its = λ to t. subst (HasEntry new to) (sym partial.path.scale_is) (c.some to t).1; callee_is = named;
-          claim = claim_at rom new (target Frame instr) scale callee last partial.is_done.entries named }
+      record {
+        partial = partial;
+        its = λ to t. subst (HasEntry new to) (sym partial.path.scale_is) (c.some to t).1;
+        callee_is = named;
+        claim = claim_at rom new (target Frame instr) scale callee last partial.is_done.entries named;
+      }
 
   module _ (last : rom.map.rom_last < ADDRESS_END) (new : List Entry) (callee : Option Entry)
       (c : IsCalledBy rom done instr scale new callee) where
@@ -212,20 +250,25 @@ module _ (rom : Rom) (words : List ℕ) (old done : List Entry) (at : ℕ) (scal
     goes_on past past_is key near fits next goes =
         let h = called last new callee c in
         let scale_is : scale_before (frame_context rom.machine new) (item ∷ h.partial.path.items) ≡ past =
-            grind (arith, h.partial.path.scale_is, h.callee_is) in
+        grind (arith, h.partial.path.scale_is, h.callee_is) in
         let path : Path rom.machine words new next past =
-            record { items = item ∷ h.partial.path.items; leads = (h.partial.path.leads, is, goes); keyed =
-            (h.partial.path.keyed, h.its); scale_is = scale_is } in
+        record {
+          items = item ∷ h.partial.path.items;
+          leads = (h.partial.path.leads, is, goes);
+          keyed =
+              (h.partial.path.keyed, h.its);
+          scale_is = scale_is;
+        } in
         walk_of rom words old new next past h.partial.is_done h.partial.grows path key
-            (next_near Frame at format instr next near fits goes) h.partial.calls h.partial.asked
+        (next_near Frame at format instr next near fits goes) h.partial.calls h.partial.asked
 
     pub at_last : next_address Frame item ≡ None → IsFramed rom words old new
     at_last none =
         let h = called last new callee c in
         framed rom words old new h.partial.calls h.partial.asked
-            (ends rom.machine words new h.partial.path.items at h.partial.path.leads h.partial.path.keyed
+        (ends rom.machine words new h.partial.path.items at h.partial.path.leads h.partial.path.keyed
         (λ i here it. let same : item ≡ i = item_same item i (sym here) (sym is ∙ it) in
-            (subst (λ (j : Item). next_address Frame j ≡ None) same none, subst (IsKeyed rom.machine new h.partial.path.items) same h.its)))
+        (subst (λ (j : Item). next_address Frame j ≡ None) same none, subst (IsKeyed rom.machine new h.partial.path.items) same h.its)))
 
 pub at_nothing : (rom : Rom) (words : List ℕ) (old done : List Entry) (at : ℕ) (scale : Key) → FrameWalk rom words old done at scale
     → ((format : Format) (instr : Instr) → cell_at (frame_word rom.machine words) at ≡ Holds format instr → ⊥) → IsFramed rom words old done
@@ -238,15 +281,20 @@ pub target_blocked : (rom : Rom) (words : List ℕ) (old done : List Entry) (at 
     → (format : Format) (instr : Instr) → cell_at (frame_word rom.machine words) at ≡ Holds format instr → (blocked : Blocked)
     → BlocksTarget rom done instr scale blocked → (index : ℕ)
     → BlocksHere rom index words old
-        (record { call = Some (record { frame = index; at = at }); chain = blocked.chain; obstacle = blocked.obstacle })
+    (record { call = Some (record { frame = index; at = at }); chain = blocked.chain; obstacle = blocked.obstacle })
 target_blocked rom words old done at scale w format instr is blocked b index =
     let t : IsToldFrom rom done (b.0, scale) blocked.chain blocked.obstacle = b.2.told in
     let call : KeyedCall rom.machine words t.list b.0 scale =
-        called_by rom words old done at scale w format instr is b.0 b.1 t.list t.extends in
+    called_by rom words old done at scale w format instr is b.0 b.1 t.list t.extends in
     let given : (asked : List (ℕ × Key)) → Collected rom asked old → (a : ℕ) (k : Key) → HasEntry done a k
-        → IsGivenHere rom.machine words asked t.list a k ⊎ IsCalled rom done [] a k =
-    λ asked h a k has. grind (arith, ((w.asked.collected asked h).needed a k has), (Contains-append_cases asked w.calls (a, k)),
-        (call_grows rom.machine words done t.list t.extends a k), (w.asked.calls_are a k)) in
+    → IsGivenHere rom.machine words asked t.list a k ⊎ IsCalled rom done [] a k =
+    λ asked h a k has. grind (
+      arith,
+      ((w.asked.collected asked h).needed a k has),
+      (Contains-append_cases asked w.calls (a, k)),
+      (call_grows rom.machine words done t.list t.extends a k),
+      (w.asked.calls_are a k),
+    ) in
     record {
       at = at;
       call = refl;

@@ -96,9 +96,9 @@ module _ (rom : Rom) (list : List Entry) (key : Key) (before : List Item) (t : E
       ap (λ (v : Seen). relative_corners v.extent v.place ++ lit_points c (rest ++ before)) (seen_on rest i (knows_on rest))
       ∙ ap (λ ps. relative_corners (extent behind rest i.instr) (place_over here.place (place_before behind rest)) ++ ps) (lit_through rest)
       ∙ sym (append_assoc (relative_corners (extent behind rest i.instr) (place_over here.place (place_before behind rest)))
-          (over here.place (lit_points behind rest)) (lit_points c before))
+      (over here.place (lit_points behind rest)) (lit_points c before))
       ∙ ap (λ ps. ps ++ lit_points c before)
-          (over_next (extent behind rest i.instr) here.place (place_before behind rest) (lit_points behind rest))
+      (over_next (extent behind rest i.instr) here.place (place_before behind rest) (lit_points behind rest))
 
 -- ---- the entry
 
@@ -119,11 +119,11 @@ joined rom list done w h t tail at key e ends =
       fine = fine_through rom list w.key h.items t here is (sym key) ends.place rest h.knows.fine m.fine m.sums.box.holds;
     } in
     let leads = leads_through rom list w.key h.items t here is (sym key) w.addr m.stops.i.at m.stops.items
-        (subst (LeadsTo Shape (rom_word rom) w.addr h.items) (sym at) h.leads) m.stops.leads in
+    (subst (LeadsTo Shape (rom_word rom) w.addr h.items) (sym at) h.leads) m.stops.leads in
     subst (IsFinished rom list w) (sym ends.entry_is)
     (finished rom list done w (m.stops.items ++ h.items) m.stops.i ends.known ends.lit leads m.stops.is m.stops.last knows ends.words
-        (omega (arith, ap (λ (k : Known). k.depth) ends.known_is, h.shallow, tail.entry.depth)) h.keyed
-        (subst (λ (k : Known). IsKey k.scale) (sym ends.known_is) tail.entry.scale))
+    (omega (arith, ap (λ (k : Known). k.depth) ends.known_is, h.shallow, tail.entry.depth)) h.keyed
+    (subst (λ (k : Known). IsKey k.scale) (sym ends.known_is) tail.entry.scale))
 
 -- by one of the tails that are kept
 pub joined_one : (rom : Rom) (list tails : List Entry) → IsDone rom list → AreTails rom list tails → (w : PartialEntry)
@@ -138,7 +138,7 @@ pub ends_by : (machine : Machine) (w : PartialEntry) (t : Entry) (to : ℕ) (lit
     → words ≡ last.words - 1 → e ≡ entry_of w.addr w.key (record last { words = words }) lit → EndsBy w t e
 ends_by machine w t to lit last words e p goes less is =
     let after : last ≡ (seen_with machine (Some t) w.cursor.known (record { at = w.cursor.at; format = Short; instr = Jmpl to })).after =
-        cc goes in
+    cc goes in
     let count : words ≡ t.words + w.cursor.known.words = omega (arith, less, ap (λ (k : Known). k.words) after) in
     search (rules, lit, is)
 

@@ -69,11 +69,19 @@ box_less : (a b : LitBox) (p q : End) → IsInside b a → IsOrdered b → Loose
 box_less a Empty p q i o l known = none_lit (box_extent a) p q
 box_less Empty (Span c0 c1 d0 d1) p q i o l known = absurd i
 box_less (Span a0 a1 b0 b1) (Span c0 c1 d0 d1) (Rel x y) q i o l known =
-    rw l (record { known = λ e. cc e; scale_known = tt; shown = λ w h. tt;
-    boxed = λ box h. part_in_box box x y a0 a1 b0 b1 c0 c1 d0 d1 o i h })
+    rw l (record {
+      known = λ e. cc e;
+      scale_known = tt;
+      shown = λ w h. tt;
+      boxed = λ box h. part_in_box box x y a0 a1 b0 b1 c0 c1 d0 d1 o i h;
+    })
 box_less (Span a0 a1 b0 b1) (Span c0 c1 d0 d1) (Abs x y) q i o l known =
-    rw l (record { known = λ e. cc e; scale_known = tt; shown = λ w h. part_in_window w x y a0 a1 b0 b1 c0 c1 d0 d1 o i h;
-    boxed = λ box h. tt })
+    rw l (record {
+      known = λ e. cc e;
+      scale_known = tt;
+      shown = λ w h. part_in_window w x y a0 a1 b0 b1 c0 c1 d0 d1 o i h;
+      boxed = λ box h. tt;
+    })
 box_less (Span a0 a1 b0 b1) (Span c0 c1 d0 d1) Lost q i o l known = absurd (known refl)
 
 called_less : (o p : Option Entry) (a b : End) → CalleeRefines o p → LoosensPlace a b → PlaceKnown (callee_extent o) a

@@ -34,8 +34,19 @@ pub gathered_same : (machine : Machine) (a b : List Entry) (key : Key) (items : 
     → gathered (keyed_context machine a key) items ≡ gathered (keyed_context machine b key) items
 gathered_same machine a b key [] h = refl
 gathered_same machine a b key (i ∷ earlier) h =
-    grind (arith, gathered, known_before, known_past, lit_points, relative_corners, keyed_context, exact_named, callee_at, target,
-    (gathered_same machine a b key earlier h.0))
+    grind (
+      arith,
+      gathered,
+      known_before,
+      known_past,
+      lit_points,
+      relative_corners,
+      keyed_context,
+      exact_named,
+      callee_at,
+      target,
+      (gathered_same machine a b key earlier h.0),
+    )
 
 pub seen_matched : (machine : Machine) (a b : List Entry) (key : Key) (earlier : List Item) (i : Item)
     → Matched machine a b key (i ∷ earlier)

@@ -18,33 +18,48 @@ module _ (machine : Machine) (a b : List Entry) (key : Key) (ext : Extends a b) 
 
   pub fine_grows : (items : List Item) → AllFine (keyed_context machine a key) items → AllFine (keyed_context machine b key) items
   fine_grows [] h = tt
-  fine_grows (i ∷ earlier) h =
-      (fine_grows earlier h.0, grind
-      (arith, (seen_matched machine a b key earlier i (matched_fine machine a b key ext (i ∷ earlier) h)), (scale_grows earlier h.0), ext))
+  fine_grows (i ∷ earlier) h = (
+    fine_grows earlier h.0,
+    grind
+        (arith, (seen_matched machine a b key earlier i (matched_fine machine a b key ext (i ∷ earlier) h)), (scale_grows earlier h.0), ext),
+  )
 
   pub taken_grows : (items : List Item) → AllTaken (keyed_context machine a key) items → AllTaken (keyed_context machine b key) items
   taken_grows [] h = tt
   taken_grows (i ∷ earlier) h =
-      let f = fine_taken (keyed_context machine a key) (i ∷ earlier) h in
-      (taken_grows earlier h.0, grind
-      (arith, (seen_matched machine a b key earlier i (matched_fine machine a b key ext (i ∷ earlier) f)), (fine_grows (i ∷ earlier) f)))
+      let f = fine_taken (keyed_context machine a key) (i ∷ earlier) h in (
+        taken_grows earlier h.0,
+        grind
+            (arith, (seen_matched machine a b key earlier i (matched_fine machine a b key ext (i ∷ earlier) f)), (fine_grows (i ∷ earlier) f)),
+      )
 
   knows_grows : (items : List Item) (known : Known) (lit : LitBox) → KnowsAt (keyed_context machine a key) items known lit
       → KnowsAt (keyed_context machine b key) items known lit
   knows_grows items known lit k =
-      grind (arith, (gathered_same machine a b key items (matched_fine machine a b key ext items k.fine)),
-      (matched_fine machine a b key ext items k.fine), (fine_grows items k.fine))
+      grind (
+        arith,
+        (gathered_same machine a b key items (matched_fine machine a b key ext items k.fine)),
+        (matched_fine machine a b key ext items k.fine),
+        (fine_grows items k.fine),
+      )
 
 pub walk_grows : (rom : Rom) (a b : List Entry) (w : PartialEntry) → Extends a b → IsPartial rom a w → IsPartial rom b w
 walk_grows rom a b w ext h =
-    record { items = h.items; leads = h.leads; knows = knows_grows rom.machine a b w.key ext h.items w.cursor.known w.lit h.knows;
-        sound = h.sound; shallow = h.shallow; few = h.few; keyed = h.keyed }
+    record {
+      items = h.items;
+      leads = h.leads;
+      knows = knows_grows rom.machine a b w.key ext h.items w.cursor.known w.lit h.knows;
+      sound = h.sound;
+      shallow = h.shallow;
+      few = h.few;
+      keyed = h.keyed;
+    }
 
 pub made_grows : (rom : Rom) (a b : List Entry) (e : Entry) → Extends a b → MadeEntry rom a e → MadeEntry rom b e
 made_grows rom a b e ext made =
     let h = made_ends rom a e made in
     let k = knows_grows rom.machine a b e.key ext (h.stops.i ∷ h.stops.items) (known_of e) e.lit
-        (record { known_is = sym h.sums.known; least = h.sums.box; fine = h.fine }) in
+    (record { known_is = sym h.sums.known; least = h.sums.box; fine = h.fine }) in
     ends_made rom b e (record { stops = h.stops; sums = record { known = sym k.known_is; box = k.least }; fine = k.fine })
 
 -- two made entries of a shape
@@ -53,9 +68,9 @@ pub same_made : (rom : Rom) (a b : List Entry) (e f : Entry) → Extends a b →
 same_made rom a b e f ext made other addr key =
     let h = made_ends rom a e made in
     same_sums rom.machine a b (h.stops.i ∷ h.stops.items) e f addr key
-        (matched_fine rom.machine a b e.key ext (h.stops.i ∷ h.stops.items) h.fine) h.sums
-        (sums_of rom b f other h.stops.items h.stops.i
-        (subst (λ x. LeadsTo Shape (rom_word rom) x h.stops.items h.stops.i.at) addr h.stops.leads) h.stops.is h.stops.last)
+    (matched_fine rom.machine a b e.key ext (h.stops.i ∷ h.stops.items) h.fine) h.sums
+    (sums_of rom b f other h.stops.items h.stops.i
+    (subst (λ x. LeadsTo Shape (rom_word rom) x h.stops.items h.stops.i.at) addr h.stops.leads) h.stops.is h.stops.last)
 
 -- ---- frames
 
@@ -71,8 +86,18 @@ known_same : (machine : Machine) (a b : List Entry) → Extends a b → (items :
     → (known_before (frame_context machine a) items ≡ known_before (frame_context machine b) items) × AllKeyed machine b items
 known_same machine a b ext [] h = (refl, tt)
 known_same machine a b ext (i ∷ earlier) h =
-    grind (arith, (known_same machine a b ext earlier h.0), target, scale_before, frame_context, callee_at, known_before, known_past,
-    entry_at, exact_named)
+    grind (
+      arith,
+      (known_same machine a b ext earlier h.0),
+      target,
+      scale_before,
+      frame_context,
+      callee_at,
+      known_before,
+      known_past,
+      entry_at,
+      exact_named,
+    )
 
 pub path_grows : (machine : Machine) (words : List ℕ) (a b : List Entry) → Extends a b → (at : ℕ) (scale : Key)
     → Path machine words a at scale → Path machine words b at scale
@@ -85,16 +110,19 @@ abbrev pub call_of_path : (machine : Machine) (words : List ℕ) (list : List En
     → Path machine words list i.at scale → cell_at (frame_word machine words) i.at ≡ Holds i.format i.instr
     → target Frame i.instr ≡ Some to → KeyedCall machine words list to scale
 call_of_path machine words list i to scale p is t =
-    record { calls = record { earlier = p.items; item = i; leads = p.leads; stands = is; target_is = t; scale_is = p.scale_is }; keyed =
-    p.keyed }
+    record {
+      calls = record { earlier = p.items; item = i; leads = p.leads; stands = is; target_is = t; scale_is = p.scale_is };
+      keyed =
+          p.keyed;
+    }
 
 pub call_grows : (machine : Machine) (words : List ℕ) (a b : List Entry) → Extends a b → (to : ℕ) (scale : Key)
     → KeyedCall machine words a to scale → KeyedCall machine words b to scale
 call_grows machine words a b ext to scale c =
     let p : Path machine words a c.calls.item.at scale =
-        record { items = c.calls.earlier; leads = c.calls.leads; keyed = c.keyed; scale_is = c.calls.scale_is } in
+    record { items = c.calls.earlier; leads = c.calls.leads; keyed = c.keyed; scale_is = c.calls.scale_is } in
     call_of_path machine words b c.calls.item to scale (path_grows machine words a b ext c.calls.item.at scale p) c.calls.stands
-        c.calls.target_is
+    c.calls.target_is
 
 -- where each call of a frame has its entry
 module _ (machine : Machine) (words : List ℕ) (list : List Entry) (has : HasCalls machine words list) where
@@ -150,4 +178,4 @@ module _ (rom : Rom) (a b : List Entry) (all_a : AllMade rom a) (all_b : AllMade
   pub all_merged : AllMade rom (a ++ b)
   all_merged e c =
       ⊎_elim (λ h. is_made_grows rom a (a ++ b) e (extends_more a b) (all_a e h))
-          (λ h. is_made_grows rom b (a ++ b) e extends_second (all_b e h)) (Contains-append_cases a b e c)
+      (λ h. is_made_grows rom b (a ++ b) e extends_second (all_b e h)) (Contains-append_cases a b e c)

@@ -27,8 +27,8 @@ same_rising (x ∷ a) [] rises rises' h k = let c = h x (zero, omega arith, refl
 same_rising (x ∷ a) (y ∷ b) rises rises' h k =
     let first : x ≡ y = same_first x y a b rises rises' (h x (zero, omega arith, refl)) (k y (zero, omega arith, refl)) in
     let rest : a ≡ b =
-        same_rising a b (rising_tail x a rises) (rising_tail y b rises') (in_rest x y a b first rises h)
-        (in_rest y x b a (sym first) rises' k) in
+    same_rising a b (rising_tail x a rises) (rising_tail y b rises') (in_rest x y a b first rises h)
+    (in_rest y x b a (sym first) rises' k) in
     λ i. first i ∷ rest i
 
 -- ---- each entry of the one list is in the other
@@ -41,7 +41,7 @@ needs_at rom P list m e f c n =
     let made = m.each e c in
     let scale : Key = scale_before (shape_context rom.machine list e) n.earlier in
     let t : (to : ℕ) × (target Shape n.item.instr ≡ Some to) × (entry_at list to scale ≡ Some f) =
-        grind (arith, exact_named, (made.keyed n.earlier n.item n.leads n.stands), n.callee_is) in
+    grind (arith, exact_named, (made.keyed n.earlier n.item n.leads n.stands), n.callee_is) in
     let l = listed_at list t.0 scale f t.2 in
     (t.1 ∙ ap Some (sym l.addr_is), sym l.key_is, callee_less rom list e made n.earlier n.item n.leads n.stands t.0 f t.1 t.2)
 
@@ -70,15 +70,19 @@ module _ (rom : Rom) (P Q : ℕ → Key → Type 0) (a b : List Entry) (made_a :
       let e_b = made_b.each e in_b in
       let at = needs_at rom P a made_a e f in_a n in
       let same : f.key ≡ scale_before (shape_context rom.machine b e) n.earlier =
-          sym at.1 ∙ ap (λ (x : Gathered). x.known.scale)
-          (gathered_same rom.machine a b e.key n.earlier
-          (matched_made rom a b made_a.each made_b.each e (made_a.each e in_a) e_b n.earlier n.item.at n.leads)) in
+      sym at.1 ∙ ap (λ (x : Gathered). x.known.scale)
+      (gathered_same rom.machine a b e.key n.earlier
+      (matched_made rom a b made_a.each made_b.each e (made_a.each e in_a) e_b n.earlier n.item.at n.leads)) in
       subst (λ (k : Key). HasEntry b f.addr k) (sym same) (e_b.keyed n.earlier n.item n.leads n.stands f.addr at.0)
 
   in_both : (f : Entry) → Contains a f → HasEntry b f.addr f.key → Contains b f
   in_both f in_a has =
-      grind (arith, (agree rom a b made_a.each made_b.each f.addr f.key f has.0 (found_listed a f made_a.certificate.rising in_a) has.1),
-      (found_listed a f made_a.certificate.rising in_a), (listed_at b f.addr f.key has.0 has.1))
+      grind (
+        arith,
+        (agree rom a b made_a.each made_b.each f.addr f.key f has.0 (found_listed a f made_a.certificate.rising in_a) has.1),
+        (found_listed a f made_a.certificate.rising in_a),
+        (listed_at b f.addr f.key has.0 has.1),
+      )
 
   all_there : (f : Entry) → Contains a f → Contains b f
   all_there = by_need rom P a made_a (λ f. Contains b f) (λ f in_a root. in_both f in_a (asked f.addr f.key root))
@@ -88,8 +92,11 @@ module _ (rom : Rom) (P Q : ℕ → Key → Type 0) (a b : List Entry) (made_a :
 pub one_made_for : (rom : Rom) (P Q : ℕ → Key → Type 0) (a b : List Entry) → MadeFor rom P a → MadeFor rom Q b
     → ((addr : ℕ) (key : Key) → P addr key → HasEntry b addr key) → ((addr : ℕ) (key : Key) → Q addr key → HasEntry a addr key) → a ≡ b
 one_made_for rom P Q a b made_a made_b to_b to_a =
-    grind (arith, (same_rising a b made_a.certificate.rising made_b.certificate.rising (all_there rom P Q a b made_a made_b to_b)
-    (all_there rom Q P b a made_b made_a to_a)))
+    grind (
+      arith,
+      (same_rising a b made_a.certificate.rising made_b.certificate.rising (all_there rom P Q a b made_a made_b to_b)
+          (all_there rom Q P b a made_b made_a to_a)),
+    )
 
 -- ---- with frames
 
@@ -102,12 +109,18 @@ module _ (rom : Rom) (roots : List (ℕ × Key)) (frames : List (List ℕ)) (a b
       let all_a = made_all rom (IsAskedFor rom.machine roots frames a) a made_a in
       let all_b = made_all rom (IsAskedFor rom.machine roots frames b) b made_b in
       let both = calls_grow rom.machine c.0 a (a ++ b) (extends_more a b)
-          (λ to scale calls. made_a.rooted to scale (inr (c.0, c.1, calls))) addr key c.2 in
-      made_b.rooted addr key (inr (c.0, c.1,
-          calls_shrink rom.machine c.0 b (a ++ b) (extends_second rom a b all_a all_b)
-          (λ to scale calls. made_b.rooted to scale (inr (c.0, c.1, calls))) addr key both))
+      (λ to scale calls. made_a.rooted to scale (inr (c.0, c.1, calls))) addr key c.2 in
+      made_b.rooted addr key (inr (
+        c.0,
+        c.1,
+        calls_shrink rom.machine c.0 b (a ++ b) (extends_second rom a b all_a all_b)
+            (λ to scale calls. made_b.rooted to scale (inr (c.0, c.1, calls))) addr key both,
+      ))
 
 pub one_frames_made : OneFramesMade
 one_frames_made rom roots frames a b made_a made_b =
-    grind (arith, (one_made_for rom (IsAskedFor rom.machine roots frames a) (IsAskedFor rom.machine roots frames b) a b made_a made_b
-    (asked rom roots frames a b made_a made_b) (asked rom roots frames b a made_b made_a)))
+    grind (
+      arith,
+      (one_made_for rom (IsAskedFor rom.machine roots frames a) (IsAskedFor rom.machine roots frames b) a b made_a made_b
+          (asked rom roots frames a b made_a made_b) (asked rom roots frames b a made_b made_a)),
+    )

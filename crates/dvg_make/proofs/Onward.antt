@@ -37,7 +37,7 @@ module _ (rom : Rom) (list : List Entry) (w : PartialEntry) where
   none_there items lead not made all ext has =
       let t = listed_at made w.addr w.key has.0 has.1 in
       let h = stands_at Exact rom made has.0 (all has.0 t.listed).made.keeps items w.cursor.at
-          (subst (λ a. LeadsTo Shape (rom_word rom) a items w.cursor.at) (sym t.addr_is) lead) in
+      (subst (λ a. LeadsTo Shape (rom_word rom) a items w.cursor.at) (sym t.addr_is) lead) in
       not h.0 h.1 h.2
 
   -- the item is not as it is asked
@@ -50,13 +50,13 @@ module _ (rom : Rom) (list : List Entry) (w : PartialEntry) where
       let t = listed_at made w.addr w.key has.0 has.1 in
       let its = all has.0 t.listed in
       let allows =
-          allows_at rom made has.0 its.made items i (subst (λ a. LeadsTo Shape (rom_word rom) a items i.at) (sym t.addr_is) lead) is in
+      allows_at rom made has.0 its.made items i (subst (λ a. LeadsTo Shape (rom_word rom) a items i.at) (sym t.addr_is) lead) is in
       let match : Matched rom.machine list made w.key (i ∷ items) =
-          (matched_fine rom.machine list made w.key ext items k.fine, same_if list made _ ext (target Shape i.instr) n.keyed) in
+      (matched_fine rom.machine list made w.key ext items k.fine, same_if list made _ ext (target Shape i.instr) n.keyed) in
       let v : seen_at (shape_context rom.machine made has.0) items i ≡ seen_with rom.machine o w.cursor.known i =
-          ap (λ (x : Key). seen_at (keyed_context rom.machine made x) items i) t.key_is
-          ∙ sym (seen_matched rom.machine list made w.key items i match)
-          ∙ sym (seen_same (keyed_context rom.machine list w.key) items i o w.cursor.known n.value k.known_is) in
+      ap (λ (x : Key). seen_at (keyed_context rom.machine made x) items i) t.key_is
+      ∙ sym (seen_matched rom.machine list made w.key items i match)
+      ∙ sym (seen_same (keyed_context rom.machine list w.key) items i o w.cursor.known n.value k.known_is) in
       let here : Allows has.0 (seen_with rom.machine o w.cursor.known i) = subst (Allows has.0) v allows in
       not (record { straight = here.straight; deep = omega (arith, here.deep, its.depth); many = omega (arith, here.many, its.words) })
 
@@ -96,12 +96,18 @@ pub finished : (rom : Rom) (list : List Entry) → IsDone rom list
     → IsFinished rom list w (entry_of w.addr w.key known lit)
 finished rom list done w items i known lit leads is last k words depth key scale =
     let entry = made_is_entry rom list done.made w.addr w.key items i lit leads is k.fine k.least
-        (subst (λ (x : Known). x.words ≤ MOST_WORDS) k.known_is words) (subst (λ (x : Known). x.depth ≤ MOST_DEPTH) k.known_is depth) key
-        (subst (λ (x : Known). IsKey x.scale) k.known_is scale) in
-    search (subst (λ (x : Known). IsEntry rom.map.rom_first rom.map.rom_last (entry_of w.addr w.key x lit)) (sym k.known_is) entry,
-        ends_made rom list (entry_of w.addr w.key known lit)
-        (record { stops = record { items = items; i = i; leads = leads; is = is; last = last }; sums =
-        record { known = sym k.known_is; box = k.least }; fine = k.fine }))
+    (subst (λ (x : Known). x.words ≤ MOST_WORDS) k.known_is words) (subst (λ (x : Known). x.depth ≤ MOST_DEPTH) k.known_is depth) key
+    (subst (λ (x : Known). IsKey x.scale) k.known_is scale) in
+    search (
+      subst (λ (x : Known). IsEntry rom.map.rom_first rom.map.rom_last (entry_of w.addr w.key x lit)) (sym k.known_is) entry,
+      ends_made rom list (entry_of w.addr w.key known lit)
+          (record {
+            stops = record { items = items; i = i; leads = leads; is = is; last = last };
+            sums =
+                record { known = sym k.known_is; box = k.least };
+            fine = k.fine;
+          }),
+    )
 
 -- ---- the walk
 
@@ -116,7 +122,7 @@ module _ (rom : Rom) (list : List Entry) (from w : PartialEntry) (h : Walking ro
       → CauseAt rom list [] w.cursor.at w.cursor.known obstacle.cause → IsStopped rom list from obstacle
   stops_here obstacle here n why =
       let never : NeverAt rom list from.addr from.key =
-          subst (NeverAt rom list from.addr) h.key (subst (λ a. NeverAt rom list a w.key) h.addr n) in
+      subst (NeverAt rom list from.addr) h.key (subst (λ a. NeverAt rom list a w.key) h.addr n) in
       grind (arith, shape_of, reached)
 
   pub stops_absent : (obstacle : Obstacle) → obstacle.cursor ≡ w.cursor
@@ -130,8 +136,18 @@ module _ (rom : Rom) (list : List Entry) (from w : PartialEntry) (h : Walking ro
 
     pub waits : (addr : ℕ) → InstrFits instr → LacksCallee list instr w.cursor.known.scale addr → IsWaiting rom list from w addr
     waits addr fits m =
-        record { same_addr = h.addr; same_key = h.key; partial = h.partial; item = i; at = refl; stands = is; target_is = m.target_is;
-            none = m.none; near = grind (arith, m.target_is); scale = h.partial.sound.scale }
+        record {
+          same_addr = h.addr;
+          same_key = h.key;
+          partial = h.partial;
+          item = i;
+          at = refl;
+          stands = is;
+          target_is = m.target_is;
+          none = m.none;
+          near = grind (arith, m.target_is);
+          scale = h.partial.sound.scale;
+        }
 
     module _ (o : Option Entry) (nm : IsCallee list instr w.cursor.known.scale o) where
       known : IsCallee list instr (scale_before (keyed_context rom.machine list w.key) h.partial.items) o
@@ -142,7 +158,7 @@ module _ (rom : Rom) (list : List Entry) (from w : PartialEntry) (h : Walking ro
       stops_said obstacle here says =
           let not : IsAsked (seen_with rom.machine o w.cursor.known i) → ⊥ = λ a. grind (arith, says, a) in
           stops_here obstacle here (none_asked rom list w h.partial.items i o h.partial.leads is h.partial.knows known not)
-              (said_at rom list [] w.cursor.at w.cursor.known i o obstacle.cause refl is nm says)
+          (said_at rom list [] w.cursor.at w.cursor.known i o obstacle.cause refl is nm says)
 
       -- what the rules see of the instruction here
       abbrev seen : Seen
@@ -177,19 +193,27 @@ module _ (rom : Rom) (list : List Entry) (from w : PartialEntry) (h : Walking ro
         ended step last step_is goes done fits claim =
             let end = ends_at Shape seen step last step_is goes in
             let knows = subst (λ (k : Known). KnowsAt (keyed_context rom.machine list w.key) (i ∷ h.partial.items) k lit) (sym end.1)
-                knows_next in
+            knows_next in
             let key : IsKey (unwrap_or (scale_set instr o) w.cursor.known.scale) = grind (arith, fits, claim, h.partial.sound.scale) in
             let f = finished rom list done w h.partial.items i last lit h.partial.leads is end.0 knows
-                (omega (arith, ap (λ (k : Known). k.words) end.1, s.asked.many))
-                (omega (arith, ap (λ (k : Known). k.depth) end.1, s.asked.deep, h.partial.shallow)) h.partial.keyed
-                (subst (λ (k : Known). IsKey k.scale) (sym end.1) key) in
+            (omega (arith, ap (λ (k : Known). k.words) end.1, s.asked.many))
+            (omega (arith, ap (λ (k : Known). k.depth) end.1, s.asked.deep, h.partial.shallow)) h.partial.keyed
+            (subst (λ (k : Known). IsKey k.scale) (sym end.1) key) in
             search (rules, f.entry, f.made, h.addr, h.key)
 
 -- an entry is within the limits
 pub entry_claim : (first last : ℕ) (e : Entry) → last < ADDRESS_END → IsEntry first last e → IsClaim e
 entry_claim first last e high is =
-    record { key = is.key; stop = is.stop; lit = is.lit; depth = is.depth; words = is.words_high; scale = is.scale; addr =
-    omega (arith, is.addr_high, high) }
+    record {
+      key = is.key;
+      stop = is.stop;
+      lit = is.lit;
+      depth = is.depth;
+      words = is.words_high;
+      scale = is.scale;
+      addr =
+          omega (arith, is.addr_high, high);
+    }
 
 -- and so is a called one
 pub found_claim : (first last : ℕ) (list : List Entry) (addr : ℕ) (key : Key) (e : Entry) → addr < ADDRESS_END
@@ -197,8 +221,16 @@ pub found_claim : (first last : ℕ) (list : List Entry) (addr : ℕ) (key : Key
 found_claim first last list addr key e near each found =
     let at = listed_at list addr key e found in
     let is = each e at.listed in
-    record { key = is.key; stop = is.stop; lit = is.lit; depth = is.depth; words = is.words_high; scale = is.scale; addr =
-        omega (arith, at.addr_is, near) }
+    record {
+      key = is.key;
+      stop = is.stop;
+      lit = is.lit;
+      depth = is.depth;
+      words = is.words_high;
+      scale = is.scale;
+      addr =
+          omega (arith, at.addr_is, near);
+    }
 
 pub claim_at : (rom : Rom) (list : List Entry) (t : Option ℕ) (scale : Key) (o : Option Entry) → rom.map.rom_last < ADDRESS_END
     → ((e : Entry) → Contains list e → IsEntry rom.map.rom_first rom.map.rom_last e) → o ≡ callee_at list t scale → IfSome o IsClaim

@@ -15,7 +15,7 @@ module _ (machine : Machine) (w : Window) (words : List ℕ) (list : List Entry)
   raised : (a b count depth : ℕ) → a ≤ b → GoodFrame w machine words list a count depth → GoodFrame w machine words list b count depth
   raised a b count depth le g =
       let keeps : AllKeep Frame (frame_word machine words) 0 (FramePlaceKeeps w machine words list b) =
-          λ earlier p lead why. grind (arith, seen_at, frame_context, (g.keeps earlier p lead why)) in
+      λ earlier p lead why. grind (arith, seen_at, frame_context, (g.keeps earlier p lead why)) in
       search keeps
 
 -- ---- the verdict

@@ -45,8 +45,17 @@ rounded_few n le = omega (arith, le)
 small_move : (machine : Machine) (size : ℤ) (local global : ℕ) → IsUpTo 1023 size → IsUpTo WORD_REACH (axis_move machine size local global)
 small_move Profile size local global h = small_product size (factor local global) h (small_factor local global)
 small_move Board size local global h =
-    grind (arith, (nat_le (effective_scale local global) 9), (pos (factor local global)), (pos 0), pos, rounded_few, negsuc,
-    (small_product size (factor local global) h (small_factor local global)), (small_factor local global))
+    grind (
+      arith,
+      (nat_le (effective_scale local global) 9),
+      (pos (factor local global)),
+      (pos 0),
+      pos,
+      rounded_few,
+      negsuc,
+      (small_product size (factor local global) h (small_factor local global)),
+      (small_factor local global),
+    )
 
 small_displacement : (machine : Machine) (d : DrawFields) (g : ℕ) → IsSmallDraw d → IsReached WORD_REACH 1 (displacement machine d g)
 unfolding displacement
@@ -70,16 +79,23 @@ small_labs machine first second = grind (arith, nat_le, pos, negsuc, nat_tests)
 by_opcode : (machine : Machine) (format : Format) (a b c d e f z : Bool) (v s : DrawFields) (x y g t : ℕ) → IsSmallDraw v → IsSmallDraw s
     → (b ≡ true → IsSmallInstr machine format (Labs x y g))
     → IfSome (if a then Some (Draws v) else if b then (if z then Some (Labs x y g) else None) else if c then Some Halt else if d then
-        Some (Jsrl t) else if e then Some Rtsl else if f then Some (Jmpl t) else Some (Draws s)) (IsSmallInstr machine format)
+    Some (Jsrl t) else if e then Some Rtsl else if f then Some (Jmpl t) else Some (Draws s)) (IsSmallInstr machine format)
 by_opcode machine format a b c d e f z v s x y g t h k l = grind (arith)
 
 small_instr : (machine : Machine) (format : Format) (first second : ℕ) → ((opcode first == 10) ≡ true → 2 ≤ word_count format)
     → IfSome (instruction_of machine first second) (IsSmallInstr machine format)
 unfolding instruction_of
 small_instr machine format first second long =
-    search (rules, by_opcode, (small_size (second / 1024 % 2) (second % 1024) (omega arith)),
-    (small_size (first / 1024 % 2) (first % 1024) (omega arith)), (small_size (first / 4 % 2) (256 * (first % 4)) (omega arith)),
-    (small_size (first / 1024 % 2) (256 * (first / 256 % 4)) (omega arith)), (reached_more WORD_REACH), (small_labs machine first second))
+    search (
+      rules,
+      by_opcode,
+      (small_size (second / 1024 % 2) (second % 1024) (omega arith)),
+      (small_size (first / 1024 % 2) (first % 1024) (omega arith)),
+      (small_size (first / 4 % 2) (256 * (first % 4)) (omega arith)),
+      (small_size (first / 1024 % 2) (256 * (first / 256 % 4)) (omega arith)),
+      (reached_more WORD_REACH),
+      (small_labs machine first second),
+    )
 
 abbrev IsSmallCell : Machine → Cell → Type 0
 IsSmallCell machine (Holds format i) = IsSmallInstr machine format i
@@ -139,8 +155,8 @@ module _ (machine : Machine) (list : List Entry) (key : Key) where
   place_small [] h = small_origin 0
   place_small (i ∷ earlier) h =
       place_after WORD_REACH (words_before c earlier) (word_count i.format + callee_words (callee c earlier i.instr))
-          (words_before c (i ∷ earlier)) (place_before c earlier)
-          (effect_of machine i.instr (scale_before c earlier) (callee c earlier i.instr)) (omega arith)
+      (words_before c (i ∷ earlier)) (place_before c earlier)
+      (effect_of machine i.instr (scale_before c earlier) (callee c earlier i.instr)) (omega arith)
       (place_small earlier h.0)
       (small_effect machine i.format i.instr (scale_before c earlier) (callee c earlier i.instr) h.1.fields h.1.callee)
 
@@ -148,14 +164,14 @@ module _ (machine : Machine) (list : List Entry) (key : Key) where
   points_small [] h = tt
   points_small (i ∷ earlier) h =
       all_append (IsReached WORD_REACH (words_before c (i ∷ earlier)))
-          (relative_corners (extent c earlier i.instr) (place_before c earlier)) (lit_points c earlier)
+      (relative_corners (extent c earlier i.instr) (place_before c earlier)) (lit_points c earlier)
       (corners_reached WORD_REACH (words_before c earlier) (word_count i.format + callee_words (callee c earlier i.instr))
-          (words_before c (i ∷ earlier)) (extent c earlier i.instr) (place_before c earlier) (omega arith)
+      (words_before c (i ∷ earlier)) (extent c earlier i.instr) (place_before c earlier) (omega arith)
       (place_small earlier h.0)
       (small_extent machine i.format i.instr (scale_before c earlier) (callee c earlier i.instr) h.1.fields h.1.callee))
       (all_map (IsReached WORD_REACH (words_before c earlier)) (IsReached WORD_REACH (words_before c (i ∷ earlier)))
-          (lit_points c earlier) (λ p. reached_more WORD_REACH (words_before c earlier) (words_before c (i ∷ earlier)) p (omega arith))
-          (points_small earlier h.0))
+      (lit_points c earlier) (λ p. reached_more WORD_REACH (words_before c earlier) (words_before c (i ∷ earlier)) p (omega arith))
+      (points_small earlier h.0))
 
 -- ---- the least box
 
@@ -166,8 +182,12 @@ record IsGoodBox (n : ℕ) (box : LitBox) : Type 0 where
 least_good : (n : ℕ) (ps : List Point) (box : LitBox) → AllByRecursion (IsReached WORD_REACH n) ps → IsLeast ps box → IsGoodBox n box
 least_good n [] box h k = grind (arith, (k.least Empty tt))
 least_good n (p ∷ ps) box h k =
-    search (rules, h.0, k.holds.0,
-    k.least (wall WORD_REACH n) (all_map (IsReached WORD_REACH n) (InBox (wall WORD_REACH n)) (p ∷ ps) (in_wall WORD_REACH n) h))
+    search (
+      rules,
+      h.0,
+      k.holds.0,
+      k.least (wall WORD_REACH n) (all_map (IsReached WORD_REACH n) (InBox (wall WORD_REACH n)) (p ∷ ps) (in_wall WORD_REACH n) h),
+    )
 
 -- ---- made entries
 
@@ -183,16 +203,18 @@ before_small : (rom : Rom) (list : List Entry) (addr : ℕ) (key : Key) → Smal
     → LeadsTo Shape (rom_word rom) addr items p → AllFine (keyed_context rom.machine list key) items
     → AllSmall (keyed_context rom.machine list key) items
 before_small rom list addr key calls [] p lead fine = tt
-before_small rom list addr key calls (j ∷ earlier) p lead fine =
-    (before_small rom list addr key calls earlier j.at lead.0 fine.0,
-    grind (arith, (small_held (rom_word rom) j), exact_named, (calls earlier j)))
+before_small rom list addr key calls (j ∷ earlier) p lead fine = (
+  before_small rom list addr key calls earlier j.at lead.0 fine.0,
+  grind (arith, (small_held (rom_word rom) j), exact_named, (calls earlier j)),
+)
 
 all_small : (rom : Rom) (list : List Entry) (addr : ℕ) (key : Key) → SmallCalls rom list addr key → (items : List Item) (i : Item)
     → LeadsTo Shape (rom_word rom) addr items i.at → cell_at (rom_word rom) i.at ≡ Holds i.format i.instr
     → AllFine (keyed_context rom.machine list key) (i ∷ items) → AllSmall (keyed_context rom.machine list key) (i ∷ items)
-all_small rom list addr key calls items i lead is fine =
-    (before_small rom list addr key calls items i.at lead fine.0,
-    grind (arith, (small_held (rom_word rom) i), exact_named, (calls items i)))
+all_small rom list addr key calls items i lead is fine = (
+  before_small rom list addr key calls items i.at lead fine.0,
+  grind (arith, (small_held (rom_word rom) i), exact_named, (calls items i)),
+)
 
 -- by the number of words
 small_up_to : (rom : Rom) (list : List Entry) → ((e : Entry) → Contains list e → MadeEntry rom list e) → (n : ℕ) (e : Entry)
@@ -201,19 +223,22 @@ small_up_to rom list all zero e made lt = absurd (omega (arith, lt))
 small_up_to rom list all (suc n) e made lt =
     let h = made_ends rom list e made in
     let calls : SmallCalls rom list e.addr e.key =
-        λ earlier j l k to g t f. small_up_to rom list all n g (all g (listed_at list to _ g f).listed)
-        (let less : g.words < e.words = callee_less rom list e made earlier j l k to g t f in omega (arith, lt, less)) in
+    λ earlier j l k to g t f. small_up_to rom list all n g (all g (listed_at list to _ g f).listed)
+    (let less : g.words < e.words = callee_less rom list e made earlier j l k to g t f in omega (arith, lt, less)) in
     let small = all_small rom list e.addr e.key calls h.stops.items h.stops.i h.stops.leads h.stops.is h.fine in
     let place : IsReachedPlace WORD_REACH e.words e.stop =
-        subst (λ (k : Known). IsReachedPlace WORD_REACH k.words k.place) h.sums.known
-        (place_small rom.machine list e.key (h.stops.i ∷ h.stops.items) small) in
+    subst (λ (k : Known). IsReachedPlace WORD_REACH k.words k.place) h.sums.known
+    (place_small rom.machine list e.key (h.stops.i ∷ h.stops.items) small) in
     let many : words_before (shape_context rom.machine list e) (h.stops.i ∷ h.stops.items) ≡ e.words =
-        ap (λ (k : Known). k.words) h.sums.known in
+    ap (λ (k : Known). k.words) h.sums.known in
     let points =
-        subst (λ n. AllByRecursion (IsReached WORD_REACH n) (lit_points (shape_context rom.machine list e) (h.stops.i ∷ h.stops.items)))
-        many (points_small rom.machine list e.key (h.stops.i ∷ h.stops.items) small) in
-    record { stop = place; lit = (least_good e.words (lit_points (shape_context rom.machine list e) (h.stops.i ∷ h.stops.items)) e.lit
-        points h.sums.box).small }
+    subst (λ n. AllByRecursion (IsReached WORD_REACH n) (lit_points (shape_context rom.machine list e) (h.stops.i ∷ h.stops.items)))
+    many (points_small rom.machine list e.key (h.stops.i ∷ h.stops.items) small) in
+    record {
+      stop = place;
+      lit = (least_good e.words (lit_points (shape_context rom.machine list e) (h.stops.i ∷ h.stops.items)) e.lit
+          points h.sums.box).small;
+    }
 
 -- ---- within the limits
 
@@ -249,12 +274,21 @@ pub made_is_entry : (rom : Rom) (list : List Entry) → ((e : Entry) → Contain
     → IsEntry rom.map.rom_first rom.map.rom_last (entry_of addr key (known_before (keyed_context rom.machine list key) (i ∷ items)) lit)
 made_is_entry rom list made addr key items i lit lead is fine least words depth key_is scale_is =
     let small = all_small rom list addr key
-        (λ earlier j l k to g t f. small_up_to rom list made (g.words + 1) g (made g (listed_at list to _ g f).listed) (omega arith))
-        items i lead is fine in
+    (λ earlier j l k to g t f. small_up_to rom list made (g.words + 1) g (made g (listed_at list to _ g f).listed) (omega arith))
+    items i lead is fine in
     let n : ℕ = words_before (keyed_context rom.machine list key) (i ∷ items) in
     let box = least_good n (lit_points (keyed_context rom.machine list key) (i ∷ items)) lit
-        (points_small rom.machine list key (i ∷ items) small) least in
+    (points_small rom.machine list key (i ∷ items) small) least in
     let there = first_in_rom rom addr items i.at i.format i.instr lead is in
-    search (rules, there.0, there.1, key_is,
-        place_within n (place_before (keyed_context rom.machine list key) (i ∷ items)) words
-        (place_small rom.machine list key (i ∷ items) small), box_within n lit words box, depth, words, scale_is)
+    search (
+      rules,
+      there.0,
+      there.1,
+      key_is,
+      place_within n (place_before (keyed_context rom.machine list key) (i ∷ items)) words
+          (place_small rom.machine list key (i ∷ items) small),
+      box_within n lit words box,
+      depth,
+      words,
+      scale_is,
+    )

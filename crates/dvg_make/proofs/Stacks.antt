@@ -24,8 +24,16 @@ module _ (addr : ℕ) (key : Key) where
   pub making_found : (ps : Pairs) → All IsOwnPartial ps → IsMaking (values_of ps) addr key → is_some (lookup test ps) ≡ true
   making_found [] own m = absurd m
   making_found (p ∷ ps) own m =
-      grind (arith, is_some, cond, lookup, at_holds, pair_test, (All-head IsOwnPartial p ps own),
-      (making_found ps (All-tail IsOwnPartial p ps own)))
+      grind (
+        arith,
+        is_some,
+        cond,
+        lookup,
+        at_holds,
+        pair_test,
+        (All-head IsOwnPartial p ps own),
+        (making_found ps (All-tail IsOwnPartial p ps own)),
+      )
 
   pub none_found : (ps : Pairs) → All IsOwnPartial ps → (IsMaking (values_of ps) addr key → ⊥) → lookup test ps ≡ None
   none_found ps own not = grind (arith, found_own)
@@ -45,25 +53,30 @@ pub set_last : (ps : Pairs) (n : ℕ) (rest : List PartialEntry) (old w : Partia
     → values_of ps ≡ rest ++ old ∷ [] → (values_of (set_value_at ps n w) ≡ rest ++ w ∷ [])
     × (old.addr ≡ w.addr → old.key ≡ w.key → All IsOwnPartial ps → All IsOwnPartial (set_value_at ps n w))
 set_last [] n rest old w long e = not_nil old rest [] e
-set_last (p ∷ []) zero [] old w long e =
-    (refl, λ a k own. All-cons IsOwnPartial (p.0, w) []
-        (All-head IsOwnPartial p [] own ∙ (let same : p.1 ≡ old = cc e in ap (λ (x : PartialEntry). (x.addr, x.key)) same)
-        ∙ (λ j. (a j, k j))) (All-nil IsOwnPartial))
+set_last (p ∷ []) zero [] old w long e = (
+  refl,
+  λ a k own. All-cons IsOwnPartial (p.0, w) []
+      (All-head IsOwnPartial p [] own ∙ (let same : p.1 ≡ old = cc e in ap (λ (x : PartialEntry). (x.addr, x.key)) same)
+      ∙ (λ j. (a j, k j))) (All-nil IsOwnPartial),
+)
 set_last (p ∷ []) zero (r ∷ rest) old w long e = not_nil old rest [] (cc e)
 set_last (p ∷ q ∷ ps) (suc n) [] old w long e = absurd (cc e)
 set_last (p ∷ q ∷ ps) (suc n) (r ∷ rest) old w long e =
     let first : p.1 ≡ r = cc e in
-    let more = set_last (q ∷ ps) n rest old w (omega (arith, long)) (cc e) in
-    ((λ j. first j ∷ more.0 j), λ a k own. All-cons IsOwnPartial p (set_value_at (q ∷ ps) n w) (All-head IsOwnPartial p (q ∷ ps) own)
-        (more.1 a k (All-tail IsOwnPartial p (q ∷ ps) own)))
+    let more = set_last (q ∷ ps) n rest old w (omega (arith, long)) (cc e) in (
+      (λ j. first j ∷ more.0 j),
+      λ a k own. All-cons IsOwnPartial p (set_value_at (q ∷ ps) n w) (All-head IsOwnPartial p (q ∷ ps) own)
+          (more.1 a k (All-tail IsOwnPartial p (q ∷ ps) own)),
+    )
 set_last ps n rest old w long e = absurd (omega (arith, long))
 
 -- the last of them
 pub top_is : (ps : Pairs) (p : (ℕ × Key) × PartialEntry) → slice_get ps (length ps - 1) ≡ Some p → 0 < length ps
     → (rest : List PartialEntry) × (values_of ps ≡ rest ++ p.1 ∷ [])
-top_is ps p at some =
-    (values_of (slice_range ps 0 (length ps - 1)),
-    ap values_of (split_last ps p at some) ∙ values_push (slice_range ps 0 (length ps - 1)) (p ∷ []))
+top_is ps p at some = (
+  values_of (slice_range ps 0 (length ps - 1)),
+  ap values_of (split_last ps p at some) ∙ values_push (slice_range ps 0 (length ps - 1)) (p ∷ []),
+)
 
 pub one_less : (ps : Pairs) (rest : List PartialEntry) (old : PartialEntry) → values_of ps ≡ rest ++ old ∷ []
     → length ps - 1 + 1 ≡ length ps

@@ -52,9 +52,13 @@ module _ (rom : Rom) (from : List Entry) (root : ℕ × Key) (done : List Entry)
     crowded_out : NotBegun done (stack ++ new ∷ []) addr new.cursor.known.scale cause.TooManyEntries
         → CauseAt rom done (shapes (stack ++ new ∷ [])) new.cursor.at new.cursor.known cause.TooManyEntries
     crowded_out b =
-        grind (arith, common_steps, (calls_it rom from root done stack partial h new addr w),
-        (contained (stack ++ new ∷ []) (start addr new.cursor.known.scale)),
-        (are_unmade done (stack ++ new ∷ []) (apart_moved rom from root done stack partial h new addr w)))
+        grind (
+          arith,
+          common_steps,
+          (calls_it rom from root done stack partial h new addr w),
+          (contained (stack ++ new ∷ []) (start addr new.cursor.known.scale)),
+          (are_unmade done (stack ++ new ∷ []) (apart_moved rom from root done stack partial h new addr w)),
+        )
 
     not_begun : (why : EntryCause) → NotBegun done (stack ++ new ∷ []) addr new.cursor.known.scale why
         → CauseAt rom done (shapes (stack ++ new ∷ [])) new.cursor.at new.cursor.known why

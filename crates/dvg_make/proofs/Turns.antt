@@ -18,8 +18,12 @@ abbrev same : Entry → Entry → Bool
 same e f = is_at e.addr e.key f
 
 same_law : IsEquivalence same
-same_law = record { refl = λ e. at_holds e.addr e.key e refl refl; symm = λ e f. grind (arith, at_means, at_holds); congr =
-    λ e f g is. grind (arith, at_means, at_holds) }
+same_law = record {
+  refl = λ e. at_holds e.addr e.key e refl refl;
+  symm = λ e f. grind (arith, at_means, at_holds);
+  congr =
+      λ e f g is. grind (arith, at_means, at_holds);
+}
 
 member_is : (l : List Entry) (e : Entry) → is_member same l e ≡ is_some (entry_at l e.addr e.key)
 member_is [] e = refl
@@ -47,9 +51,10 @@ distinct : (done : List Entry) (stack : List PartialEntry) → IsUnique done →
 unfolding IsDistinct
 distinct [] [] unique apart = tt
 distinct (e ∷ done) [] unique apart = (none_same done e unique.0, distinct done [] unique.1 tt)
-distinct done (w ∷ stack) unique apart =
-    (none_same (whole done stack) (entry_of w.addr w.key w.cursor.known w.lit) (grind (arith, (present done stack w.addr w.key))),
-    distinct done stack unique apart.2)
+distinct done (w ∷ stack) unique apart = (
+  none_same (whole done stack) (entry_of w.addr w.key w.cursor.known w.lit) (grind (arith, (present done stack w.addr w.key))),
+  distinct done stack unique apart.2,
+)
 
 making_found : (made : List Entry) (most n : ℕ) (stack : List PartialEntry) (addr : ℕ) (key : Key) → Chain made most stack n
     → IsMaking stack addr key → HasEntry made addr key
@@ -60,8 +65,14 @@ crowded : (done made : List Entry) (most n : ℕ) (stack : List PartialEntry) �
     → Chain made most stack n → length done + length stack ≤ length made
 crowded done made most n stack unique apart ext chain =
     let few = length-le_from_is_member same_law (whole done stack) made (distinct done stack unique apart)
-        (λ e m. grind (arith, member_is, is_some, (present done stack e.addr e.key), ext,
-        (making_found made most n stack e.addr e.key chain))) in
+    (λ e m. grind (
+      arith,
+      member_is,
+      is_some,
+      (present done stack e.addr e.key),
+      ext,
+      (making_found made most n stack e.addr e.key chain),
+    )) in
     omega (arith, few, length_whole done stack)
 
 -- ---- what begins, and what each turn gives
@@ -118,21 +129,32 @@ module _ (rom : Rom) (from : List Entry) (root : ℕ × Key) (done : List Entry)
   pub called_moved : (chain : List PartialEntry) → chain ≡ stack ++ new ∷ [] → AllCalled rom from root done chain
   called_moved chain e =
       subst (AllCalled rom from root done) (sym e)
-          (λ a k p. needed_grows rom from root done done (stack ++ partial ∷ []) (stack ++ new ∷ []) (λ y z e q. q) present_moved a k
-          (h.needed a k (grind (arith, was_begun))))
+      (λ a k p. needed_grows rom from root done done (stack ++ partial ∷ []) (stack ++ new ∷ []) (λ y z e q. q) present_moved a k
+      (h.needed a k (grind (arith, was_begun))))
 
   called_begun : IsCalled rom done ((stack ++ new ∷ []) ++ start addr at_key ∷ []) addr at_key
   called_begun =
-      grind (arith, (reached rom done new w.partial),
-      (making_left (stack ++ new ∷ []) (start addr at_key ∷ []) new.addr new.key (making_last stack new new.addr new.key refl refl)),
-      (start addr at_key), (making_last stack new new.addr new.key refl refl), (rom_word rom))
+      grind (
+        arith,
+        (reached rom done new w.partial),
+        (making_left (stack ++ new ∷ []) (start addr at_key ∷ []) new.addr new.key (making_last stack new new.addr new.key refl refl)),
+        (start addr at_key),
+        (making_last stack new new.addr new.key refl refl),
+        (rom_word rom),
+      )
 
   needed_begun : (a : ℕ) (k : Key) → IsPresent done ((stack ++ new ∷ []) ++ start addr at_key ∷ []) a k
       → IsNeeded rom from root done ((stack ++ new ∷ []) ++ start addr at_key ∷ []) a k
   needed_begun a k p =
-      grind (arith, was_begun, start, called_begun, making_append,
-      (needed_grows rom from root done done (stack ++ partial ∷ []) ((stack ++ new ∷ []) ++ start addr at_key ∷ []) (λ y z e q. q)
-      present_begun a k))
+      grind (
+        arith,
+        was_begun,
+        start,
+        called_begun,
+        making_append,
+        (needed_grows rom from root done done (stack ++ partial ∷ []) ((stack ++ new ∷ []) ++ start addr at_key ∷ []) (λ y z e q. q)
+            present_begun a k),
+      )
 
   -- the item at which it waits
   pub calls_it : CallsAt rom new.cursor.at new.cursor.known (shape_of (start addr at_key))
@@ -145,9 +167,9 @@ module _ (rom : Rom) (from : List Entry) (root : ℕ × Key) (done : List Entry)
       → InProgress rom from root done ((stack ++ new ∷ []) ++ start addr at_key ∷ [])
   making_begun other few =
       let long : length ((stack ++ new ∷ []) ++ start addr at_key ∷ []) ≡ length (stack ++ new ∷ []) + 1 =
-          length-append (stack ++ new ∷ []) (start addr at_key ∷ []) in
+      length-append (stack ++ new ∷ []) (start addr at_key ∷ []) in
       let precedes : Precedes rom done (shape_of new) (shape_of (start addr at_key)) =
-          record { at = new.cursor.at; before = new.cursor.known; reaches = reached rom done new w.partial; calls = calls_it } in
+      record { at = new.cursor.at; before = new.cursor.known; reaches = reached rom done new w.partial; calls = calls_it } in
       record {
         is_done = h.is_done;
         extends = h.extends;
@@ -168,9 +190,9 @@ module _ (rom : Rom) (from : List Entry) (root : ℕ × Key) (done : List Entry)
   none_large le other made m =
       let f = forced_begun rom from root done stack partial h new addr w made m in
       let full = crowded done made (MOST_WORDS + 1) 0 ((stack ++ new ∷ []) ++ start addr at_key ∷ []) h.is_done.unique
-          (apart_push done (stack ++ new ∷ []) (start addr at_key) apart_moved w.none other) f.0 f.1 in
+      (apart_push done (stack ++ new ∷ []) (start addr at_key) apart_moved w.none other) f.0 f.1 in
       let long : length ((stack ++ new ∷ []) ++ start addr at_key ∷ []) ≡ length (stack ++ new ∷ []) + 1 =
-          length-append (stack ++ new ∷ []) (start addr at_key ∷ []) in
+      length-append (stack ++ new ∷ []) (start addr at_key ∷ []) in
       omega (arith, le, full, long)
 
   pub refuses : (at : ℕ) (why : EntryCause) → NotBegun done (stack ++ new ∷ []) addr at_key why → Bars rom from root (entry_fault at why)
@@ -227,8 +249,8 @@ pub first_fault : (rom : Rom) (done : List Entry) (addr : ℕ) (key : Key) → I
 first_fault rom done addr key h none old e at why b =
     let large : MOST_ENTRIES ≤ length done → (made : List Entry) → IsAim rom done (addr, key) made → MOST_ENTRIES < length made =
     λ le made m. let full =
-        crowded done made (MOST_WORDS + 1) 0 (start addr key ∷ []) h.unique (none, λ x. x, tt) m.extends
-        (first_chain rom done made (addr, key) m) in omega (arith, full, le) in
+    crowded done made (MOST_WORDS + 1) 0 (start addr key ∷ []) h.unique (none, λ x. x, tt) m.extends
+    (first_chain rom done made (addr, key) m) in omega (arith, full, le) in
     grind (arith, slice_get, large)
 
 pub first_present : (done : List Entry) (addr : ℕ) (key : Key) (old begun : List PartialEntry) → old ≡ []

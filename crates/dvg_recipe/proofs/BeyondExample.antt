@@ -48,7 +48,7 @@ beyond_leads = ((refl, place_there, refl), call_there, refl)
 beyond_belongs : (p : ColumnParts (pos 257)) → Belongs (rom_for Board) (column_recipe p) beyond_words
 beyond_belongs p =
     belongs_by 257 beyond_words (pos 257) p (record { some = omega arith; few = omega arith }) beyond_leads halt_there
-        (record { low = omega (arith, ints); high = omega (arith, ints) })
+    (record { low = omega (arith, ints); high = omega (arith, ints) })
 
 -- ---- what holds of each item
 
@@ -64,17 +64,20 @@ module _ (P : List Item → Item → Type 0) where
   stroke_items : P [] draw_item → P (draw_item ∷ []) return_item → EachItem rom 2048 P
   stroke_items first last earlier i lead is =
       all_kept Shape (rom_word rom) 2048 Item (Here (rom_word rom) P) (draw_item ∷ []) return_item (refl, draw_there Board, refl)
-          (return_there Board) refl
-      ((tt, here (rom_word rom) P [] draw_item (draw_there Board) first),
-          here (rom_word rom) P (draw_item ∷ []) return_item (return_there Board) last) earlier i.at lead i refl is
+      (return_there Board) refl (
+        (tt, here (rom_word rom) P [] draw_item (draw_there Board) first),
+        here (rom_word rom) P (draw_item ∷ []) return_item (return_there Board) last,
+      ) earlier i.at lead i refl is
 
   frame_items : P [] (place_item 0 257) → P (place_item 0 257 ∷ []) (call_item 0x800)
       → P (call_item 0x800 ∷ place_item 0 257 ∷ []) halt_item
       → (earlier : List Item) (i : Item) → LeadsTo Frame frame 0 earlier i.at → cell_at frame i.at ≡ Holds i.format i.instr → P earlier i
   frame_items first second last earlier i lead is =
       all_kept Frame frame 0 Item (Here frame P) (call_item 0x800 ∷ place_item 0 257 ∷ []) halt_item beyond_leads halt_there refl (
-        ((tt, here frame P [] (place_item 0 257) place_there first),
-            here frame P (place_item 0 257 ∷ []) (call_item 0x800) call_there second),
+        (
+          (tt, here frame P [] (place_item 0 257) place_there first),
+          here frame P (place_item 0 257 ∷ []) (call_item 0x800) call_there second,
+        ),
         here frame P (call_item 0x800 ∷ place_item 0 257 ∷ []) halt_item halt_there last,
       ) earlier i.at lead i refl is
 
@@ -121,7 +124,7 @@ asked_keyed : (addr : ℕ) (key : Key) → FrameAsksFor Board beyond_words examp
 asked_keyed addr key asks =
     subst (HasEntry example_list addr) asks.scale_is
     (frame_items (IsKeyed Board example_list) (λ to e. cc e) called_keyed (λ to e. cc e) asks.earlier asks.item asks.leads asks.stands
-        addr asks.target_is)
+    addr asks.target_is)
 
 all_keyed : (addr : ℕ) (key : Key) → IsAskedFor Board [] (beyond_words ∷ []) example_list addr key → HasEntry example_list addr key
 all_keyed addr key (inl c) = absurd (omega (arith, c.1))
@@ -133,8 +136,14 @@ stroke_asked =
     inr (
       beyond_words,
       (0, omega arith, refl),
-      record { earlier = place_item 0 257 ∷ []; item = call_item 0x800; leads = (refl, place_there, refl); stands = call_there;
-          target_is = refl; scale_is = refl },
+      record {
+        earlier = place_item 0 257 ∷ [];
+        item = call_item 0x800;
+        leads = (refl, place_there, refl);
+        stands = call_there;
+        target_is = refl;
+        scale_is = refl;
+      },
     )
 
 beyond_made : FrameMade rom beyond_words example_list
@@ -162,5 +171,8 @@ beyond_fault =
 
 pub beyond_refused : (p : ColumnParts (pos 257)) → WorkedRefusal (column_recipe p)
 beyond_refused p =
-    record { belongs = beyond_belongs p; judged =
-        record { list = example_list; made = beyond_made; verdict = ((worked_example Board).exact, beyond_fault) } }
+    record {
+      belongs = beyond_belongs p;
+      judged =
+          record { list = example_list; made = beyond_made; verdict = ((worked_example Board).exact, beyond_fault) };
+    }

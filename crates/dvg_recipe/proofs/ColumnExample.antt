@@ -53,10 +53,24 @@ belongs_by y words top p whole leads halts there =
         between = items;
         spelled = row_of (column_piece top ∷ call_piece p.targets.0 ∷ []) p.row (rom_for Board) [] items (
           place_item 0 y ∷ [],
-          record { item = place_item 0 y; one_more = refl; taken =
-              (record { low = omega (arith, ints); high = omega (arith, ints) }, there, refl); arrives = tt },
-          (items, record { item = call_item 0x800; one_more = refl; taken =
-              subst (λ (l : List ℕ). Contains l 0x800) (sym p.targets.1) (0, omega arith, refl); arrives = tt }, refl),
+          record {
+            item = place_item 0 y;
+            one_more = refl;
+            taken =
+                (record { low = omega (arith, ints); high = omega (arith, ints) }, there, refl);
+            arrives = tt;
+          },
+          (
+            items,
+            record {
+              item = call_item 0x800;
+              one_more = refl;
+              taken =
+                  subst (λ (l : List ℕ). Contains l 0x800) (sym p.targets.1) (0, omega arith, refl);
+              arrives = tt;
+            },
+            refl,
+          ),
         );
         jumped = refl;
       };
@@ -73,7 +87,7 @@ edge_halts = refl
 edge_belongs : (p : ColumnParts (pos 256)) → Belongs (rom_for Board) (column_recipe p) edge_words
 edge_belongs p =
     belongs_by 256 edge_words (pos 256) p (record { some = omega arith; few = omega arith }) edge_leads edge_halts
-        (record { low = omega (arith, ints); high = omega (arith, ints) })
+    (record { low = omega (arith, ints); high = omega (arith, ints) })
 
 -- ---- the shapes
 
@@ -89,14 +103,14 @@ stroke_good : GoodShape Exact screen (rom_for Board) both example_entry
 unfolding cell_at instruction_of displacement
 stroke_good =
     all_kept Shape (rom_word (rom_for Board)) 2048 ShapeWhy (ShapePlaceKeeps Exact screen (rom_for Board) both example_entry)
-        (draw_item ∷ []) return_item (refl, draw_there Board, refl) (return_there Board) refl
-        ((tt, λ why. grind (arith, ints)), λ why. grind (arith, ints))
+    (draw_item ∷ []) return_item (refl, draw_there Board, refl) (return_there Board) refl
+    ((tt, λ why. grind (arith, ints)), λ why. grind (arith, ints))
 
 return_good : GoodShape Exact screen (rom_for Board) both return_entry
 unfolding cell_at instruction_of displacement
 return_good =
     all_kept Shape (rom_word (rom_for Board)) 2050 ShapeWhy (ShapePlaceKeeps Exact screen (rom_for Board) both return_entry) []
-        return_item refl (return_there Board) refl (tt, λ why. grind (arith, ints))
+    return_item refl (return_there Board) refl (tt, λ why. grind (arith, ints))
 
 shapes_good : Good Exact screen (rom_for Board) both
 shapes_good e (zero, lt, is) = subst (GoodShape Exact screen (rom_for Board) both) is stroke_good
@@ -173,17 +187,19 @@ at_place : (words : List ℕ) (earlier : List Item) (i : Item) → cell_at (fram
     → FramePlaceKeeps screen Board words both 20000 earlier i.at why
 at_place words earlier i is keeps why =
     subst (λ (cell : Cell). CellKeeps rule.Unmapped rule.Odd
-        (λ j. FrameKeeps screen 20000 (seen_at (frame_context Board both) earlier j)) i.at cell why) (sym is) (keeps why)
+    (λ j. FrameKeeps screen 20000 (seen_at (frame_context Board both) earlier j)) i.at cell why) (sym is) (keeps why)
 
 member : (words : List ℕ) (x y to : ℕ) → IsInColumn x y → IsCalled to
     → LeadsTo Frame (frame_word Board words) 0 (call_item to ∷ place_item x y ∷ []) 3
     → cell_at (frame_word Board words) 3 ≡ Holds Short Halt
     → GoodFrame screen Board words both 20000 (words_before (frame_context Board both) (call_item to ∷ place_item x y ∷ []) + 1)
-        (depth_before (frame_context Board both) (call_item to ∷ place_item x y ∷ []))
+    (depth_before (frame_context Board both) (call_item to ∷ place_item x y ∷ []))
 member words x y to place call leads halts =
     accepted Board words both (call_item to ∷ place_item x y ∷ []) 3 leads halts (
-      ((tt, at_place words [] (place_item x y) leads.0.1 (place_keeps x y)),
-          at_place words (place_item x y ∷ []) (call_item to) leads.1 (call.keeps x y place)),
+      (
+        (tt, at_place words [] (place_item x y) leads.0.1 (place_keeps x y)),
+        at_place words (place_item x y ∷ []) (call_item to) leads.1 (call.keeps x y place),
+      ),
       at_place words (call_item to ∷ place_item x y ∷ []) halt_item halts (halt_keeps x y to (call.few x y)),
     )
 
@@ -256,15 +272,15 @@ module _ (p : ColumnParts (pos 256)) (words : List ℕ) (b : Belongs (rom_for Bo
   labs_and_call l c are labs call =
       let lead_there = subst (λ (items : List Item). LeadsTo Frame source 0 items b.at) are b.leads in
       let long : l.format ≡ Long =
-          subst (λ (i : Instr). HasFormat l.format i) labs.is (format_there source l.at l.format l.instr lead_there.0.1) in
+      subst (λ (i : Instr). HasFormat l.format i) labs.is (format_there source l.at l.format l.instr lead_there.0.1) in
       let first : l ≡ place_item labs.x labs.y = item_is l 0 Long (Labs labs.x labs.y 0) lead_there.0.0 long labs.is in
       let short : c.format ≡ Short =
-          subst (λ (i : Instr). HasFormat c.format i) call.is (format_there source c.at c.format c.instr lead_there.1) in
+      subst (λ (i : Instr). HasFormat c.format i) call.is (format_there source c.at c.format c.instr lead_there.1) in
       let second : c.at ≡ 2 = sym (some_same 2 c.at (subst (λ (i : Item). next_address Frame i ≡ Some c.at) first lead_there.0.2)) in
       let last : c ≡ call_item call.to = item_is c 2 Short (Jsrl call.to) second short call.is in
       let lead : LeadsTo Frame source 0 (call_item call.to ∷ place_item labs.x labs.y ∷ []) b.at =
-          subst (λ (i : Item). LeadsTo Frame source 0 (call_item call.to ∷ i ∷ []) b.at) first
-          (subst (λ (i : Item). LeadsTo Frame source 0 (i ∷ l ∷ []) b.at) last lead_there) in
+      subst (λ (i : Item). LeadsTo Frame source 0 (call_item call.to ∷ i ∷ []) b.at) first
+      (subst (λ (i : Item). LeadsTo Frame source 0 (i ∷ l ∷ []) b.at) last lead_there) in
       let end : b.at ≡ 3 = sym (some_same 3 b.at lead.2) in
       let format : b.format ≡ Short = format_there source b.at b.format Halt b.halts in
       record {
@@ -282,8 +298,8 @@ module _ (p : ColumnParts (pos 256)) (words : List ℕ) (b : Belongs (rom_for Bo
       let l = row.1.item in
       let c = row.2.1.item in
       labs_and_call l c (b.spelled.jumped ∙ row.2.2 ∙ row.2.1.one_more
-          ∙ ap (λ (items : List Item). c ∷ items) (row.1.one_more ∙ ap (λ (items : List Item). l ∷ items) starts))
-          (labs_of l.instr row.1.taken)
+      ∙ ap (λ (items : List Item). c ∷ items) (row.1.one_more ∙ ap (λ (items : List Item). l ∷ items) starts))
+      (labs_of l.instr row.1.taken)
       (call_of (0x800 ∷ 0x802 ∷ []) c.instr (subst (λ (targets : List ℕ). TakesCall targets c.instr) p.targets.1 row.2.1.taken))
 
 every : (p : ColumnParts (pos 256)) (words : List ℕ) → Belongs (rom_for Board) (column_recipe p) words
@@ -305,5 +321,8 @@ whole = grind (arith, ints)
 
 pub column_accepted : (p : ColumnParts (pos 256)) → WorkedAcceptance (column_recipe p)
 column_accepted p =
-    record { member = edge_belongs p; accepted =
-        every_means (rom_for Board) both screen 20000 (column_recipe p) 7 1 judged (inl whole) refl (every p) }
+    record {
+      member = edge_belongs p;
+      accepted =
+          every_means (rom_for Board) both screen 20000 (column_recipe p) 7 1 judged (inl whole) refl (every p);
+    }

@@ -88,11 +88,27 @@ pub draw_is : (low high d : DrawFields) (into : Option Rectangle) (scale : Key) 
     → IsChange None scale (draw_change format low high into scale) (record { at = at; format = format; instr = Draws d })
 draw_is low high d into (At g) at format h =
     let inside = between_moves low high d g h in
-    record { motion = inside; light = light_at low high d d.bright high.bright g h.bright inside; scale_after = refl; words =
-        omega arith; depth = omega arith; named_one = λ t. tt; keyed = λ t. tt }
+    record {
+      motion = inside;
+      light = light_at low high d d.bright high.bright g h.bright inside;
+      scale_after = refl;
+      words =
+          omega arith;
+      depth = omega arith;
+      named_one = λ t. tt;
+      keyed = λ t. tt;
+    }
 draw_is low high d into Any at format h =
-    record { motion = tt; light = light_any low high d d.bright high.bright h.bright; scale_after = refl; words = omega arith; depth =
-        omega arith; named_one = λ t. tt; keyed = λ t. tt }
+    record {
+      motion = tt;
+      light = light_any low high d d.bright high.bright h.bright;
+      scale_after = refl;
+      words = omega arith;
+      depth =
+          omega arith;
+      named_one = λ t. tt;
+      keyed = λ t. tt;
+    }
 
 -- ---- a LABS
 
@@ -100,10 +116,22 @@ pub place_is : (r : PlaceRange) (x y s : ℕ) (scale : Key) (at : ℕ) (format :
     → IsChange None scale (place_change (places_of r) s) (record { at = at; format = format; instr = Labs x y s })
 place_is r x y s scale at format h is =
     let inside : IsInRectangle (places_of r) (labs_place Board x y) =
-        record { left = omega (arith, ints, h.0.low); right = omega (arith, ints, h.0.high); bottom = omega (arith, ints, h.1.low); top =
-        omega (arith, ints, h.1.high) } in
-    record { motion = inside; light = tt; scale_after = refl; words = grind (arith, is); depth = omega arith; named_one = λ t. tt;
-        keyed = λ t. tt }
+    record {
+      left = omega (arith, ints, h.0.low);
+      right = omega (arith, ints, h.0.high);
+      bottom = omega (arith, ints, h.1.low);
+      top =
+          omega (arith, ints, h.1.high);
+    } in
+    record {
+      motion = inside;
+      light = tt;
+      scale_after = refl;
+      words = grind (arith, is);
+      depth = omega arith;
+      named_one = λ t. tt;
+      keyed = λ t. tt;
+    }
 
 -- ---- calls and jumps
 
@@ -128,17 +156,40 @@ same_keys Any Any h = refl
 pub call_is : (named : Option Entry) (to : ℕ) (scale : Key) (at : ℕ) (format : Format) → format ≡ Short
     → IsChange named scale (call_change named scale) (record { at = at; format = format; instr = Jsrl to })
 call_is None to scale at format is =
-    record { motion = at_itself origin; light = tt; scale_after = refl; words = grind (arith, is); depth = omega arith; named_one =
-    not_named to; keyed = λ t. tt }
+    record {
+      motion = at_itself origin;
+      light = tt;
+      scale_after = refl;
+      words = grind (arith, is);
+      depth = omega arith;
+      named_one =
+          not_named to;
+      keyed = λ t. tt;
+    }
 call_is (Some e) to scale at format is =
-    record { motion = stop_is e.stop; light = box_is e.lit; scale_after = refl; words = grind (arith, is); depth = omega arith;
-    named_one = λ t. tt; keyed = same_keys e.key scale }
+    record {
+      motion = stop_is e.stop;
+      light = box_is e.lit;
+      scale_after = refl;
+      words = grind (arith, is);
+      depth = omega arith;
+      named_one = λ t. tt;
+      keyed = same_keys e.key scale;
+    }
 
 pub still_is : (to : ℕ) (scale : Key) (at : ℕ) (format : Format) → format ≡ Short
     → IsChange None scale (still scale) (record { at = at; format = format; instr = Jmpl to })
 still_is to scale at format is =
-    record { motion = at_itself origin; light = tt; scale_after = refl; words = grind (arith, is); depth = omega arith; named_one =
-    λ t. tt; keyed = λ t. tt }
+    record {
+      motion = at_itself origin;
+      light = tt;
+      scale_after = refl;
+      words = grind (arith, is);
+      depth = omega arith;
+      named_one =
+          λ t. tt;
+      keyed = λ t. tt;
+    }
 
 pub jump_is : (list : List Entry) (scale : Key) (known : Known) (i : Item) → IsJump known i → HasFormat i.format i.instr
     → IsChange (callee_at list (target Frame i.instr) scale) scale (still scale) i
@@ -148,8 +199,8 @@ jump_is list scale known i jump format = each i.at i.format i.instr jump.0 jump.
         → IsChange (callee_at list (target Frame instr) scale) scale (still scale) (record { at = at; format = format; instr = instr })
     each at format instr to jumps is =
         subst (λ (j : Instr). HasFormat format j
-            → IsChange (callee_at list (target Frame j) scale) scale (still scale) (record { at = at; format = format; instr = j }))
-            (sym jumps)
+        → IsChange (callee_at list (target Frame j) scale) scale (still scale) (record { at = at; format = format; instr = j }))
+        (sym jumps)
         (λ short. still_is to scale at format short) is
 
 -- ---- limits
@@ -179,10 +230,20 @@ at_near p h = (h, h)
 
 pub places_near : (r : PlaceRange) → PieceFits (Place r) → IsNearRectangle 1 (places_of r)
 places_near r fits = (
-  record { left = omega (arith, ints, fits.0.least, fits.0.ordered); right = omega (arith, ints, fits.0.greatest, fits.0.ordered); down =
-      omega (arith, ints, fits.1.least, fits.1.ordered); up = omega (arith, ints, fits.1.greatest, fits.1.ordered) },
-  record { left = omega (arith, ints, fits.0.least, fits.0.ordered); right = omega (arith, ints, fits.0.greatest, fits.0.ordered); down =
-      omega (arith, ints, fits.1.least, fits.1.ordered); up = omega (arith, ints, fits.1.greatest, fits.1.ordered) },
+  record {
+    left = omega (arith, ints, fits.0.least, fits.0.ordered);
+    right = omega (arith, ints, fits.0.greatest, fits.0.ordered);
+    down =
+        omega (arith, ints, fits.1.least, fits.1.ordered);
+    up = omega (arith, ints, fits.1.greatest, fits.1.ordered);
+  },
+  record {
+    left = omega (arith, ints, fits.0.least, fits.0.ordered);
+    right = omega (arith, ints, fits.0.greatest, fits.0.ordered);
+    down =
+        omega (arith, ints, fits.1.least, fits.1.ordered);
+    up = omega (arith, ints, fits.1.greatest, fits.1.ordered);
+  },
 )
 
 pub place_sound : (places : Rectangle) (scale : ℕ) → IsNearRectangle 1 places → scale ≤ 15 → IsSoundChange (place_change places scale)
@@ -191,8 +252,13 @@ place_sound places scale near le =
 
 number_near : (x y : ℤ) → IsNumber x → IsNumber y → IsNear 1 (record { x = x; y = y })
 number_near x y h k =
-    record { left = omega (arith, ints, h.0); right = omega (arith, ints, h.1); down = omega (arith, ints, k.0); up =
-    omega (arith, ints, k.1) }
+    record {
+      left = omega (arith, ints, h.0);
+      right = omega (arith, ints, h.1);
+      down = omega (arith, ints, k.0);
+      up =
+          omega (arith, ints, k.1);
+    }
 
 stop_near : (stop : End) → IsEnd stop → IsNearMotion (stop_motion stop)
 stop_near (Rel x y) h = at_near _ (number_near x y h.0 h.1)
@@ -207,16 +273,28 @@ pub call_sound : (named : Option Entry) (scale : Key) → IfSome named IsClaim �
 call_sound None scale claim key =
     record { motion = origin_near; light = tt; into = tt; scale = key; some = omega arith; few = omega arith; depth = omega arith }
 call_sound (Some e) scale claim key =
-    record { motion = stop_near e.stop claim.stop; light = box_near e.lit claim.lit; into = tt; scale = claim.scale; some = omega arith;
-    few = omega (arith, claim.words); depth = omega (arith, claim.depth) }
+    record {
+      motion = stop_near e.stop claim.stop;
+      light = box_near e.lit claim.lit;
+      into = tt;
+      scale = claim.scale;
+      some = omega arith;
+      few = omega (arith, claim.words);
+      depth = omega (arith, claim.depth);
+    }
 
 -- ---- one change of all
 
 -- no further than a draw is near
 pub within_near : (p : Point) → IsWithin (2 ^ 31) p → IsNear 1 p
 within_near p h =
-    record { left = omega (arith, ints, h.left); right = omega (arith, ints, h.right); down = omega (arith, ints, h.down); up =
-    omega (arith, ints, h.up) }
+    record {
+      left = omega (arith, ints, h.left);
+      right = omega (arith, ints, h.right);
+      down = omega (arith, ints, h.down);
+      up =
+          omega (arith, ints, h.up);
+    }
 
 -- a call leads anywhere
 pub call_into : (named : Option Entry) (scale : Key) (known : Known) (i : Item) → IsInto (call_change named scale).into known i
@@ -236,24 +314,42 @@ holds_act : (list : List Entry) (act : Act) (format : Format) (instr : Instr)
     → (known : Known) (i : Item) → ((scale : Key) → IsInto (act_change list act scale).into known i)
     → Holds format instr ≡ Holds i.format i.instr → IsAct list act known i
 holds_act list act format instr does known i into same =
-    record { each = subst (λ (j : Item). (scale : Key) → HasFormat j.format j.instr
-        → IsChange (callee_at list (target Frame j.instr) scale) scale (act_change list act scale) j)
-        (item_same (record { at = i.at; format = format; instr = instr }) i refl same) (λ scale has. does scale i.at has); into = into }
+    record {
+      each = subst (λ (j : Item). (scale : Key) → HasFormat j.format j.instr
+          → IsChange (callee_at list (target Frame j.instr) scale) scale (act_change list act scale) j)
+          (item_same (record { at = i.at; format = format; instr = instr }) i refl same) (λ scale has. does scale i.at has);
+      into = into;
+    }
 
 module _ (list : List Entry) (format : Format) (known : Known) (i : Item) where
   -- a draw does what draws between itself and itself do
   pub draw_alone : (d : DrawFields) → Holds format (Draws d) ≡ Holds i.format i.instr → IsAct list (DrawsAct format d d None) known i
   draw_alone d same = holds_act list (DrawsAct format d d None) format (Draws d)
       (λ scale at has. draw_is d d d None scale at format
-          (record { lscale_low = refl; lscale_high = refl; dx_low = omega (arith, ints); dx_high = omega (arith, ints); dy_low =
-          omega (arith, ints); dy_high = omega (arith, ints); bright = omega arith })) known i
-          (λ scale. draw_into format d d None scale known i tt) same
+      (record {
+        lscale_low = refl;
+        lscale_high = refl;
+        dx_low = omega (arith, ints);
+        dx_high = omega (arith, ints);
+        dy_low =
+            omega (arith, ints);
+        dy_high = omega (arith, ints);
+        bright = omega arith;
+      })) known i
+      (λ scale. draw_into format d d None scale known i tt) same
 
   pub labs_alone : (x y s : ℕ) → Holds format (Labs x y s) ≡ Holds i.format i.instr
       → IsAct list (PlaceAct (at_point (labs_place Board x y)) s) known i
   labs_alone x y s same = holds_act list (PlaceAct (at_point (labs_place Board x y)) s) format (Labs x y s)
-      (λ scale at long. record { motion = at_itself (labs_place Board x y); light = tt; scale_after = refl; words = grind (arith, long);
-          depth = omega arith; named_one = λ t. tt; keyed = λ t. tt }) known i (λ scale. tt) same
+      (λ scale at long. record {
+        motion = at_itself (labs_place Board x y);
+        light = tt;
+        scale_after = refl;
+        words = grind (arith, long);
+        depth = omega arith;
+        named_one = λ t. tt;
+        keyed = λ t. tt;
+      }) known i (λ scale. tt) same
 
   pub jsrl_alone : (to : ℕ) → Holds format (Jsrl to) ≡ Holds i.format i.instr → IsAct list (CallAct to) known i
   jsrl_alone to same =
@@ -266,13 +362,29 @@ module _ (list : List Entry) (format : Format) (known : Known) (i : Item) where
 
   pub halt_alone : Holds format Halt ≡ Holds i.format i.instr → IsAct list StillAct known i
   halt_alone same = holds_act list StillAct format Halt
-      (λ scale at short. record { motion = at_itself origin; light = tt; scale_after = refl; words = grind (arith, short); depth =
-          omega arith; named_one = λ t. tt; keyed = λ t. tt }) known i (λ scale. tt) same
+      (λ scale at short. record {
+        motion = at_itself origin;
+        light = tt;
+        scale_after = refl;
+        words = grind (arith, short);
+        depth =
+            omega arith;
+        named_one = λ t. tt;
+        keyed = λ t. tt;
+      }) known i (λ scale. tt) same
 
   pub rtsl_alone : Holds format Rtsl ≡ Holds i.format i.instr → IsAct list StillAct known i
   rtsl_alone same = holds_act list StillAct format Rtsl
-      (λ scale at short. record { motion = at_itself origin; light = tt; scale_after = refl; words = grind (arith, short); depth =
-          omega arith; named_one = λ t. tt; keyed = λ t. tt }) known i (λ scale. tt) same
+      (λ scale at short. record {
+        motion = at_itself origin;
+        light = tt;
+        scale_after = refl;
+        words = grind (arith, short);
+        depth =
+            omega arith;
+        named_one = λ t. tt;
+        keyed = λ t. tt;
+      }) known i (λ scale. tt) same
 
 -- ---- the draws of a range
 
@@ -338,8 +450,10 @@ pub draws_are : (r : DrawRange) (low high : DrawFields) → IsCorner r r.dx.low 
     → (list : List Entry) (known : Known) (i : Item) → IsTaken (Draw r) known i
     → IsAct list (DrawsAct r.format low high (into_of r.to)) known i
 draws_are r low high l h list known i taken =
-    record { each = λ scale has. each scale i.at i.format i.instr taken.0 has;
-    into = λ scale. draw_into r.format low high (into_of r.to) scale known i (leads i.instr refl taken.0.1) }
+    record {
+      each = λ scale has. each scale i.at i.format i.instr taken.0 has;
+      into = λ scale. draw_into r.format low high (into_of r.to) scale known i (leads i.instr refl taken.0.1);
+    }
   where
     between : (d : DrawFields) → TakesDraw r (Draws d) → IsDrawBetween low high d
     between d t = record {
@@ -377,10 +491,20 @@ pub span_near : (format : Format) (to : Option PlaceSpan) → ToFits format to �
 span_near format None fits = tt
 span_near Short (Some span) fits = absurd fits
 span_near Long (Some span) fits = (
-  record { left = omega (arith, ints, fits.0.least, fits.0.ordered); right = omega (arith, ints, fits.0.greatest, fits.0.ordered); down =
-      omega (arith, ints, fits.1.least, fits.1.ordered); up = omega (arith, ints, fits.1.greatest, fits.1.ordered) },
-  record { left = omega (arith, ints, fits.0.least, fits.0.ordered); right = omega (arith, ints, fits.0.greatest, fits.0.ordered); down =
-      omega (arith, ints, fits.1.least, fits.1.ordered); up = omega (arith, ints, fits.1.greatest, fits.1.ordered) },
+  record {
+    left = omega (arith, ints, fits.0.least, fits.0.ordered);
+    right = omega (arith, ints, fits.0.greatest, fits.0.ordered);
+    down =
+        omega (arith, ints, fits.1.least, fits.1.ordered);
+    up = omega (arith, ints, fits.1.greatest, fits.1.ordered);
+  },
+  record {
+    left = omega (arith, ints, fits.0.least, fits.0.ordered);
+    right = omega (arith, ints, fits.0.greatest, fits.0.ordered);
+    down =
+        omega (arith, ints, fits.1.least, fits.1.ordered);
+    up = omega (arith, ints, fits.1.greatest, fits.1.ordered);
+  },
 )
 
 -- ---- the instruction of two words

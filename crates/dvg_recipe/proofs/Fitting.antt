@@ -26,7 +26,7 @@ pub jumps_once : (jumps : List Jump) (word n k l : ℕ) → JumpsFit jumps word 
 jumps_once [] word n k l h g = h ∙ sym g
 jumps_once (jump ∷ jumps) word n k l (i, fits, h, h') (j, other, g, g') =
     jumps_once jumps (suc jump.area.last) i k l h'
-        (subst (λ m. JumpsFit jumps (suc jump.area.last) m l) (sym (numbered_once jump.body (suc n) i j h g)) g')
+    (subst (λ m. JumpsFit jumps (suc jump.area.last) m l) (sym (numbered_once jump.body (suc n) i j h g)) g')
 
 -- ---- what holds of the first elements, and of the next one
 
@@ -35,8 +35,8 @@ module _ {A : Type 0} (P : A → Type 0) (xs : List A) where
       → Contains (take n xs) x → P x
   each_next i n d is lt h new x there =
       ⊎_elim (h x) (λ same. subst P same new)
-          (Contains-push_cases (take i xs) (get_or xs i d) x
-          (subst (λ (l : List A). Contains l x) (take-suc xs i d lt) (subst (λ m. Contains (take m xs) x) is there)))
+      (Contains-push_cases (take i xs) (get_or xs i d) x
+      (subst (λ (l : List A). Contains l x) (take-suc xs i d lt) (subst (λ m. Contains (take m xs) x) is there)))
 
   pub each_of_all : (i : ℕ) → length xs ≤ i → ((x : A) → Contains (take i xs) x → P x) → (x : A) → Contains xs x → P x
   each_of_all i le h x there = h x (subst (λ (l : List A). Contains l x) (sym (take_all i xs le)) there)
@@ -63,8 +63,8 @@ module _ (jumps : List Jump) (i n : ℕ) (jump : Jump) (is : jump ≡ get_or jum
   jumps_left word number first k then m fits number_next numbered word_next = (
     λ h. let (j, other, g, rest) = subst (λ (l : List Jump). JumpsFit l word number m) left h in
         subst (λ w. JumpsFit (drop n jumps) w k m) (sym word_next)
-            (subst (λ l. JumpsFit (drop n jumps) (suc jump.area.last) l m)
-            (numbered_once jump.body (suc number) j k g (subst (λ l. Numbered jump.body l k) number_next numbered)) rest),
+        (subst (λ l. JumpsFit (drop n jumps) (suc jump.area.last) l m)
+        (numbered_once jump.body (suc number) j k g (subst (λ l. Numbered jump.body l k) number_next numbered)) rest),
     λ h. subst (λ (l : List Jump). JumpsFit l word number m) (sym left)
         (k, fits, subst (λ l. Numbered jump.body l k) number_next numbered, subst (λ w. JumpsFit (drop n jumps) w k m) word_next h),
   )

@@ -29,23 +29,35 @@ module _ (rom : Rom) (words : List ℕ) (all : FrameItems) (are : AreItems words
   no_longer : (earlier : List Item) (q : ℕ) → LeadsTo Frame (frame_word Board words) 0 earlier q → length earlier ≤ length whole
   no_longer [] q h = omega arith
   no_longer (j ∷ earlier) q h =
-      grind (arith, (no_longer earlier j.at h.0), (same_lead Frame (frame_word Board words) 0 earlier whole j.at all.end h.0 are.leads),
-          (are.last j.format j.instr))
+      grind (
+        arith,
+        (no_longer earlier j.at h.0),
+        (same_lead Frame (frame_word Board words) 0 earlier whole j.at all.end h.0 are.leads),
+        (are.last j.format j.instr),
+      )
 
   module _ (recipe : Recipe) where
     pub belongs_if : IsFrame words → IsTrue all.halts → RecipeLeads recipe over (length listed) → Belongs rom recipe words
     belongs_if frame halts leads =
         let halt = are.halts.0 halts in
-        record { frame = frame; items = whole; at = all.end; format = halt.0; leads = are.leads; halts = halt.1; spelled =
-            subst (λ (l : List Item). SpellsList rom recipe l) front_whole (recipe_there over recipe (length listed) leads) }
+        record {
+          frame = frame;
+          items = whole;
+          at = all.end;
+          format = halt.0;
+          leads = are.leads;
+          halts = halt.1;
+          spelled =
+              subst (λ (l : List Item). SpellsList rom recipe l) front_whole (recipe_there over recipe (length listed) leads);
+        }
 
     pub only_if : Belongs rom recipe words → IsTrue all.halts × RecipeLeads recipe over (length listed)
     only_if b =
         let short = no_longer b.items b.at b.leads in
         let same = same_lead Frame (frame_word Board words) 0 b.items whole b.at all.end b.leads are.leads
         (⊎_elim (λ less. absurd (too_long Frame (frame_word Board words) 0 b.items
-            (record { at = b.at; format = b.format; instr = Halt }) b.leads b.halts refl whole all.end are.leads less))
-            (λ le. omega (arith, short, le)) (cases_lt (length b.items) (length whole))) in (
+        (record { at = b.at; format = b.format; instr = Halt }) b.leads b.halts refl whole all.end are.leads less))
+        (λ le. omega (arith, short, le)) (cases_lt (length b.items) (length whole))) in (
           are.halts.1 (b.format, subst (λ p. cell_at (frame_word Board words) p ≡ Holds b.format Halt) same.place b.halts),
           recipe_back over recipe b.items (length listed) (omega arith) (same.items ∙ sym front_whole) b.spelled,
         )

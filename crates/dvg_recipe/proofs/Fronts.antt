@@ -40,8 +40,13 @@ module _ (over : ItemsOver) where
 
   piece_there : (piece : Piece) (i j : ℕ) → PieceLeads piece over i j → AddsPiece piece over.rom (front i) (front j)
   piece_there piece i j h =
-      record { item = h.item; one_more = ap front h.next ∙ front_next i h.item h.within ∙ ap (λ (x : Item). x ∷ front i) h.there; taken =
-      h.taken; arrives = h.arrives }
+      record {
+        item = h.item;
+        one_more = ap front h.next ∙ front_next i h.item h.within ∙ ap (λ (x : Item). x ∷ front i) h.there;
+        taken =
+            h.taken;
+        arrives = h.arrives;
+      }
 
   row_there : (row : List Piece) (i j : ℕ) → RowLeads row over i j → AddsRow row over.rom (front i) (front j)
   row_there [] i j h = ap front h
@@ -62,8 +67,12 @@ module _ (over : ItemsOver) where
 
   jump_there : (to : ℕ) (i j : ℕ) → JumpLeads to over i j → AddsJump to (front i) (front j)
   jump_there to i j h =
-      record { item = h.item; one_more = ap front h.next ∙ front_next i h.item h.within ∙ ap (λ (x : Item). x ∷ front i) h.there; jumps =
-      h.jumps }
+      record {
+        item = h.item;
+        one_more = ap front h.next ∙ front_next i h.item h.within ∙ ap (λ (x : Item). x ∷ front i) h.there;
+        jumps =
+            h.jumps;
+      }
 
   jumps_there : (jumps : List Jump) (i j : ℕ) → JumpsLead jumps over i j → SpellsJumps jumps over.rom (front i) (front j)
   jumps_there [] i j h = ap front h
@@ -78,8 +87,16 @@ module _ (over : ItemsOver) where
   recipe_there recipe j h =
       let s = h.starts in
       let b = h.spelled in
-      record { area = s.area; listed = s.listed; start = front h.start; begins = starts_there s.area.first h.start s.starts; between =
-          front b.0; spelled = part_there recipe.body h.start b.0 b.1; jumped = jumps_there recipe.jumps b.0 j b.2 }
+      record {
+        area = s.area;
+        listed = s.listed;
+        start = front h.start;
+        begins = starts_there s.area.first h.start s.starts;
+        between =
+            front b.0;
+        spelled = part_there recipe.body h.start b.0 b.1;
+        jumped = jumps_there recipe.jumps b.0 j b.2;
+      }
 
   -- ---- from items to indices
 
@@ -94,9 +111,21 @@ module _ (over : ItemsOver) where
       → AddsPiece piece over.rom before after → From (PieceLeads piece over) before j
   piece_back piece before after j le is h =
       let b = one_back h.item before j le (sym h.one_more ∙ is) in
-      record { i = b.i; le = omega (arith, b.less); is = b.is; leads =
-          record { item = h.item; within = b.less; there = b.there; taken = h.taken; arrives =
-          subst (Arrives over.rom piece.kind) is h.arrives; next = b.next } }
+      record {
+        i = b.i;
+        le = omega (arith, b.less);
+        is = b.is;
+        leads =
+            record {
+              item = h.item;
+              within = b.less;
+              there = b.there;
+              taken = h.taken;
+              arrives =
+                  subst (Arrives over.rom piece.kind) is h.arrives;
+              next = b.next;
+            };
+      }
 
   row_back : (row : List Piece) (before after : List Item) (j : ℕ) → j ≤ length items → after ≡ front j
       → AddsRow row over.rom before after → From (RowLeads row over) before j
@@ -134,8 +163,13 @@ module _ (over : ItemsOver) where
   jump_back : (to : ℕ) → Back (JumpLeads to over) (AddsJump to)
   jump_back to before after j le is h =
       let b = one_back h.item before j le (sym h.one_more ∙ is) in
-      record { i = b.i; le = omega (arith, b.less); is = b.is; leads =
-          record { item = h.item; within = b.less; there = b.there; jumps = h.jumps; next = b.next } }
+      record {
+        i = b.i;
+        le = omega (arith, b.less);
+        is = b.is;
+        leads =
+            record { item = h.item; within = b.less; there = b.there; jumps = h.jumps; next = b.next };
+      }
 
   jumps_back : (jumps : List Jump) → Back (JumpsLead jumps over) (SpellsJumps jumps over.rom)
   jumps_back [] before after j le is h = record { i = j; le = le; is = sym h ∙ is; leads = refl }
@@ -160,6 +194,10 @@ module _ (over : ItemsOver) where
   recipe_back recipe after j le is h =
       let r = jumps_back recipe.jumps h.between after j le is h.jumped in
       let s = part_back recipe.body h.start h.between r.i r.le r.is h.spelled in
-      record { start = s.i; starts =
-          record { area = h.area; listed = h.listed; starts = starts_back h.area.first h.start s.i s.le s.is h.begins }; spelled =
-          (r.i, s.leads, r.leads) }
+      record {
+        start = s.i;
+        starts =
+            record { area = h.area; listed = h.listed; starts = starts_back h.area.first h.start s.i s.le s.is h.begins };
+        spelled =
+            (r.i, s.leads, r.leads);
+      }

@@ -66,18 +66,22 @@ pub extends_part : (part : Part) → Extends (Spells part)
 extends_part (Row row) = extends_row row.items
 extends_part (Then' p a q b) = extends_both (Spells a) (Spells b) (extends_part a) (extends_part b)
 extends_part (Either' p a q b) =
-    record { front = λ rom words before after s f. ⊎_elim (λ x. (extends_part a).front rom words before after x f)
-    (λ y. (extends_part b).front rom words before after y f) s }
+    record {
+      front = λ rom words before after s f. ⊎_elim (λ x. (extends_part a).front rom words before after x f)
+          (λ y. (extends_part b).front rom words before after y f) s;
+    }
 extends_part (Repeat' least most p body) =
-    record { front = λ rom words before after t f. (extends_times (Spells body) (extends_part body) t.0).front rom words before after t.3
-    f }
+    record {
+      front = λ rom words before after t f. (extends_times (Spells body) (extends_part body) t.0).front rom words before after t.3
+          f;
+    }
 
 pub extends_jumps : (jumps : List Jump) → Extends (SpellsJumps jumps)
 extends_jumps [] = extends_same
 extends_jumps (jump ∷ jumps) = record {
   front = λ rom words before after s f.
       (extends_jump jump.area.first).front rom words before s.0 s.2
-          ((extends_part jump.body).front rom words s.0 s.1 s.3 ((extends_jumps jumps).front rom words s.1 after s.4 f));
+      ((extends_part jump.body).front rom words s.0 s.1 s.3 ((extends_jumps jumps).front rom words s.1 after s.4 f));
 }
 
 -- ---- the last of some
@@ -130,13 +134,16 @@ module _ (w : Window) (list : List Entry) (budget : ℕ) where
       let c = frame_context Board list in
       let g = on.each (known_before c before) i good.covered takes (format_there (frame_word Board words) i.at i.format i.instr f.1.1) in
       let rules : (why : FrameWhy) → FrameKeeps w budget (seen_at c before i) why =
-          kept_all w budget (seen_at c before i) (no_return i f.0 f.1.2) (forward i f.0 f.1.2) g.keeps in
+      kept_all w budget (seen_at c before i) (no_return i f.0 f.1.2) (forward i f.0 f.1.2) g.keeps in
       record {
         covered = g.covered;
         comes = comes_on before i g.keyed good.comes;
-        kept = (good.kept, λ why. subst
-            (λ (cell : Cell). CellKeeps frame.Unmapped frame.Odd (λ j. FrameKeeps w budget (seen_at c before j)) i.at cell why)
-            (sym f.1.1) (rules why));
+        kept = (
+          good.kept,
+          λ why. subst
+              (λ (cell : Cell). CellKeeps frame.Unmapped frame.Odd (λ j. FrameKeeps w budget (seen_at c before j)) i.at cell why)
+              (sym f.1.1) (rules why),
+        );
       }
 
   -- ---- one after the other
@@ -147,8 +154,10 @@ module _ (w : Window) (list : List Entry) (budget : ℕ) where
   pub carries_both : (R S : Adds) (xs ys zs : List Hull) → Extends S → Carries w list budget R xs ys → Carries w list budget S ys zs
       → Carries w list budget (Both R S) xs zs
   carries_both R S xs ys zs e h k =
-      record { each = λ rom made words before after b f good. k.each rom made words b.0 after b.2 f
-      (h.each rom made words before b.0 b.1 (e.front rom words b.0 after b.2 f) good) }
+      record {
+        each = λ rom made words before after b f good. k.each rom made words b.0 after b.2 f
+            (h.each rom made words before b.0 b.1 (e.front rom words b.0 after b.2 f) good);
+      }
 
   pub good_under : (ys zs : List Hull) (words : List ℕ) (items : List Item) → AreUnder ys zs → IsGoodFront w list budget ys words items
       → IsGoodFront w list budget zs words items
@@ -160,14 +169,18 @@ module _ (w : Window) (list : List Entry) (budget : ℕ) where
 
   pub carries_from : (R : Adds) (xs ys zs : List Hull) → AreUnder xs ys → Carries w list budget R ys zs → Carries w list budget R xs zs
   carries_from R xs ys zs u h =
-      record { each = λ rom made words before after r f good. h.each rom made words before after r f
-      (good_under xs ys words before u good) }
+      record {
+        each = λ rom made words before after r f good. h.each rom made words before after r f
+            (good_under xs ys words before u good);
+      }
 
   pub carries_either : (R S : Adds) (xs ys zs : List Hull) → Carries w list budget R xs zs → Carries w list budget S xs zs
       → Carries w list budget (λ rom before after. R rom before after ⊎ S rom before after) xs zs
   carries_either R S xs ys zs h k =
-      record { each = λ rom made words before after s f good. ⊎_elim (λ r. h.each rom made words before after r f good)
-      (λ t. k.each rom made words before after t f good) s }
+      record {
+        each = λ rom made words before after s f good. ⊎_elim (λ r. h.each rom made words before after r f good)
+            (λ t. k.each rom made words before after t f good) s;
+      }
 
   pub carries_as : (R S : Adds) (xs ys : List Hull) → ((rom : Rom) (before after : List Item) → S rom before after → R rom before after)
       → Carries w list budget R xs ys → Carries w list budget S xs ys
@@ -204,33 +217,37 @@ module _ (w : Window) (list : List Entry) (budget : ℕ) where
       leads (Some span) instr is t (known, (earlier, named, came, n, past), inside) =
           let same : earlier ≡ k = known_once rom before earlier k came (comes rom made) in
           let none : named ≡ None =
-              draw_names i.instr t named (subst (λ (e : Known). Names rom (target Frame i.instr) e.scale named) same n) in
+          draw_names i.instr t named (subst (λ (e : Known). Names rom (target Frame i.instr) e.scale named) same n) in
           let eq : known ≡ known_past Board i None k =
-              past ∙ ap (λ (e : Known). known_past Board i named e) same ∙ ap (λ (o : Option Entry). known_past Board i o k) none in
+          past ∙ ap (λ (e : Known). known_past Board i named e) same ∙ ap (λ (o : Option Entry). known_past Board i o k) none in
           subst (λ (e : Known). IsEndIn span e.place) eq inside
 
   pub carries_piece : (piece : Piece) (xs ys : List Hull) → LeadOn w list budget (IsTaken piece.kind) xs ys
       → Carries w list budget (AddsPiece piece) xs ys
   carries_piece piece xs ys on = record {
     each = λ rom made words before after a f good. subst (IsGoodFront w list budget ys words) (sym a.one_more)
-        (good_item (IsTaken piece.kind) xs ys words before a.item on
-            (a.taken, arrives_here piece.kind rom before a.item made a.taken good.comes
-            (subst (Arrives rom piece.kind) a.one_more a.arrives)) (subst (IsFront words) a.one_more f) good);
+        (good_item (IsTaken piece.kind) xs ys words before a.item on (
+          a.taken,
+          arrives_here piece.kind rom before a.item made a.taken good.comes
+              (subst (Arrives rom piece.kind) a.one_more a.arrives),
+        ) (subst (IsFront words) a.one_more f) good);
   }
 
   pub carries_jump : (to : ℕ) (xs ys : List Hull) → LeadOn w list budget IsJump xs ys → Carries w list budget (AddsJumpTo to) xs ys
   carries_jump to xs ys on =
-      record { each = λ rom made words before after a f good. subst (IsGoodFront w list budget ys words) (sym a.one_more)
-      (good_item IsJump xs ys words before a.item on (to, a.jumps) (subst (IsFront words) a.one_more f) good) }
+      record {
+        each = λ rom made words before after a f good. subst (IsGoodFront w list budget ys words) (sym a.one_more)
+            (good_item IsJump xs ys words before a.item on (to, a.jumps) (subst (IsFront words) a.one_more f) good);
+      }
 
   pub carries_row_next : (row : List Piece) (i n : ℕ) (d : Piece) (xs ys zs : List Hull) → n ≡ suc i → i < length row
       → Carries w list budget (AddsRow (take i row)) xs ys → Carries w list budget (AddsPiece (get_or row i d)) ys zs
       → Carries w list budget (AddsRow (take n row)) xs zs
   carries_row_next row i n d xs ys zs is lt h k =
       let more = carries_as (Both (AddsRow (take i row)) (AddsPiece (get_or row i d))) (AddsRow (take i row ++ get_or row i d ∷ [])) xs
-          zs (row_split (take i row) (get_or row i d)) (carries_both _ _ xs ys zs (extends_piece (get_or row i d)) h k) in
+      zs (row_split (take i row) (get_or row i d)) (carries_both _ _ xs ys zs (extends_piece (get_or row i d)) h k) in
       subst (λ m. Carries w list budget (AddsRow (take m row)) xs zs) (sym is)
-          (subst (λ (l : List Piece). Carries w list budget (AddsRow l) xs zs) (sym (take-suc row i d lt)) more)
+      (subst (λ (l : List Piece). Carries w list budget (AddsRow l) xs zs) (sym (take-suc row i d lt)) more)
 
   pub carries_row_whole : (row : List Piece) (xs ys : List Hull) (i : ℕ) → length row ≤ i
       → Carries w list budget (AddsRow (take i row)) xs ys → Carries w list budget (AddsRow row) xs ys
@@ -245,10 +262,10 @@ module _ (w : Window) (list : List Entry) (budget : ℕ) where
       let jump = get_or jumps i d in
       let part = carries_both (AddsJumpTo jump.area.first) (Spells jump.body) ys zs all (extends_part jump.body) k l in
       let more = carries_as (Both (SpellsJumps (take i jumps)) (JumpPart jump)) (SpellsJumps (take i jumps ++ jump ∷ [])) xs all
-          (jumps_split (take i jumps) jump)
-          (carries_both _ (JumpPart jump) xs ys all (extends_both _ _ (extends_jump jump.area.first) (extends_part jump.body)) h part) in
+      (jumps_split (take i jumps) jump)
+      (carries_both _ (JumpPart jump) xs ys all (extends_both _ _ (extends_jump jump.area.first) (extends_part jump.body)) h part) in
       subst (λ m. Carries w list budget (SpellsJumps (take m jumps)) xs all) (sym is)
-          (subst (λ (l : List Jump). Carries w list budget (SpellsJumps l) xs all) (sym (take-suc jumps i d lt)) more)
+      (subst (λ (l : List Jump). Carries w list budget (SpellsJumps l) xs all) (sym (take-suc jumps i d lt)) more)
 
   pub carries_jumps_whole : (jumps : List Jump) (xs ys : List Hull) (i : ℕ) → length jumps ≤ i
       → Carries w list budget (SpellsJumps (take i jumps)) xs ys → Carries w list budget (SpellsJumps jumps) xs ys
@@ -272,8 +289,10 @@ module _ (w : Window) (list : List Entry) (budget : ℕ) where
 
     pub turns_first : (least : ℕ) (xs ys : List Hull) → AreUnder xs ys → Carries w list budget (Turns least 0 R) xs ys
     turns_first least xs ys u =
-        record { each = λ rom made words before after t f good. subst (IsGoodFront w list budget ys words)
-        (sym (none t.0 rom before after t.2 t.3)) (good_under xs ys words before u good) }
+        record {
+          each = λ rom made words before after t f good. subst (IsGoodFront w list budget ys words)
+              (sym (none t.0 rom before after t.2 t.3)) (good_under xs ys words before u good);
+        }
 
     pub turns_more : (least n m : ℕ) (xs here next more : List Hull) → m ≡ suc n → Carries w list budget (Turns least n R) xs next
         → Carries w list budget (TimesOver m R) xs here → AreUnder next more → AreUnder here more
@@ -282,7 +301,7 @@ module _ (w : Window) (list : List Entry) (budget : ℕ) where
       each = λ rom made words before after t f good. ⊎_elim
           (λ less. good_under next more words after u (h.each rom made words before after (t.0, t.1, omega (arith, is, less), t.3) f good))
           (λ same. good_under here more words after v
-              (k.each rom made words before after (subst (λ l. Times l (R rom) before after) (omega (arith, same, t.2)) t.3) f good))
+          (k.each rom made words before after (subst (λ l. Times l (R rom) before after) (omega (arith, same, t.2)) t.3) f good))
           (cases_lt t.0 m);
     }
 

@@ -29,8 +29,8 @@ known_once rom [] k l h t = h ∙ sym t
 known_once rom (i ∷ earlier) k l (a, named, came, names, past) (b, other, came_too, names_too, past_too) =
     let same : a ≡ b = known_once rom earlier a b came came_too in
     let one : named ≡ other =
-        named_once rom (target Frame i.instr) b.scale named other
-        (subst (λ (x : Known). Names rom (target Frame i.instr) x.scale named) same names) names_too in
+    named_once rom (target Frame i.instr) b.scale named other
+    (subst (λ (x : Known). Names rom (target Frame i.instr) x.scale named) same names) names_too in
     past ∙ ap (λ (x : Known). known_past Board i named x) same ∙ ap (λ (o : Option Entry). known_past Board i o b) one ∙ sym past_too
 
 -- ---- the items of a frame
@@ -64,8 +64,10 @@ pub known_first : (rom : Rom) (items : List Item) (known : List Known) (here : K
     → IsSoundCursor (record { at = 0; known = here }) → IsKnownSoFar rom items 0 known here
 known_first rom items known here is comes sound = record {
   count = ap (λ (l : List Known). length l) is;
-  to = record { each = λ i d lt. subst (λ (l : List Known). ComesTo rom (reverse (take i items)) (get_or l i d)) (sym is)
-      (first i d (subst (λ (l : List Known). i < length l) is lt)) };
+  to = record {
+    each = λ i d lt. subst (λ (l : List Known). ComesTo rom (reverse (take i items)) (get_or l i d)) (sym is)
+        (first i d (subst (λ (l : List Known). i < length l) is lt));
+  };
   comes = comes;
   sound = sound;
 }
@@ -81,23 +83,25 @@ module _ (rom : Rom) (items : List Item) (n m : ℕ) (d : Item) (known more : Li
   one_on =
       subst (λ k. ComesTo rom (reverse (take k items)) next) (sym is)
       (subst (λ (l : List Item). ComesTo rom l next)
-          (sym (ap (λ (l : List Item). reverse l) (take-suc items n d lt) ∙ reverse-append (take n items) (get_or items n d ∷ [])))
-          (past (reverse (take n items)) h.comes))
+      (sym (ap (λ (l : List Item). reverse l) (take-suc items n d lt) ∙ reverse-append (take n items) (get_or items n d ∷ [])))
+      (past (reverse (take n items)) h.comes))
 
   each_on : (i : ℕ) (e : Known) → i < length (known ++ next ∷ []) → ComesTo rom (reverse (take i items)) (get_or (known ++ next ∷ []) i e)
   each_on i e less = ⊎_elim
       (λ old. subst (λ (k : Known). ComesTo rom (reverse (take i items)) k) (sym (get_or_append_left known (next ∷ []) e i old))
-          (h.to.each i e old))
+      (h.to.each i e old))
       (λ new. let same : m ≡ i = omega (arith, is, new, less, length_push known next, h.count) in
       subst (λ (k : Known). ComesTo rom (reverse (take i items)) k) (sym (get_or_push known next e i (omega (arith, is, same, h.count))))
-          (subst (λ k. ComesTo rom (reverse (take k items)) next) same one_on))
+      (subst (λ k. ComesTo rom (reverse (take k items)) next) same one_on))
       (cases_lt i (length known))
 
   pub known_next : IsSoundCursor (record { at = m; known = next }) → IsKnownSoFar rom items m more next
   known_next sound = record {
     count = ap (λ (l : List Known). length l) grown ∙ length_push known next ∙ omega (arith, is, h.count);
-    to = record { each = λ i e less. subst (λ (l : List Known). ComesTo rom (reverse (take i items)) (get_or l i e)) (sym grown)
-        (each_on i e (subst (λ (l : List Known). i < length l) grown less)) };
+    to = record {
+      each = λ i e less. subst (λ (l : List Known). ComesTo rom (reverse (take i items)) (get_or l i e)) (sym grown)
+          (each_on i e (subst (λ (l : List Known). i < length l) grown less));
+    };
     comes = one_on;
     sound = sound;
   }

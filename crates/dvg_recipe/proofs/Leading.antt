@@ -74,15 +74,15 @@ module _ (R : Leads) (here ys : List ℕ) (i n d : ℕ) (is : n ≡ suc i) (lt :
       → IsPast R (take n here) more
   push_next x y more at grown leads only =
       subst (λ (l : List ℕ). IsPast R l more) (sym next_take)
-          (subst (λ (l : List ℕ). IsPast R (take i here ++ get_or here i d ∷ []) l) (sym grown)
-          (past_push R (take i here) ys h (get_or here i d) y (subst (λ m. R m y) at leads)
-          (λ j r. only j (subst (λ m. R m j) (sym at) r))))
+      (subst (λ (l : List ℕ). IsPast R (take i here ++ get_or here i d ∷ []) l) (sym grown)
+      (past_push R (take i here) ys h (get_or here i d) y (subst (λ m. R m y) at leads)
+      (λ j r. only j (subst (λ m. R m j) (sym at) r))))
 
   pub skip_next : (x : ℕ) (more : List ℕ) → x ≡ get_or here i d → more ≡ ys → ((j : ℕ) → R x j → ⊥) → IsPast R (take n here) more
   skip_next x more at same none =
       subst (λ (l : List ℕ). IsPast R l more) (sym next_take)
-          (subst (λ (l : List ℕ). IsPast R (take i here ++ get_or here i d ∷ []) l) (sym same)
-          (past_skip R (take i here) ys h (get_or here i d) (λ j r. none j (subst (λ m. R m j) (sym at) r))))
+      (subst (λ (l : List ℕ). IsPast R (take i here ++ get_or here i d ∷ []) l) (sym same)
+      (past_skip R (take i here) ys h (get_or here i d) (λ j r. none j (subst (λ m. R m j) (sym at) r))))
 
 pub past_none : (R : Leads) → IsPast R [] []
 past_none R = record { each = λ j. (λ h. absurd (none_listed j h), λ h. absurd (none_listed h.0 h.1)) }
@@ -104,9 +104,9 @@ pub past_row_next : (row : List Piece) (items : ItemsOver) (i n : ℕ) (d : Piec
     → IsPast (RowLeads (take n row) items) xs zs
 past_row_next row items i n d xs ys zs is lt h k =
     let more = past_as _ (RowLeads (take i row ++ get_or row i d ∷ []) items) xs zs (row_join (take i row) (get_or row i d) items)
-        (row_split (take i row) (get_or row i d) items) (past_both _ _ xs ys zs h k) in
+    (row_split (take i row) (get_or row i d) items) (past_both _ _ xs ys zs h k) in
     subst (λ m. IsPast (RowLeads (take m row) items) xs zs) (sym is)
-        (subst (λ (l : List Piece). IsPast (RowLeads l items) xs zs) (sym (take-suc row i d lt)) more)
+    (subst (λ (l : List Piece). IsPast (RowLeads l items) xs zs) (sym (take-suc row i d lt)) more)
 
 -- a jump and its part
 abbrev pub JumpPart : Jump → ItemsOver → Leads
@@ -130,10 +130,10 @@ pub past_jumps_next : (jumps : List Jump) (items : ItemsOver) (i n : ℕ) (d : J
     → IsPast (PartLeads (get_or jumps i d).body items) zs all → IsPast (JumpsLead (take n jumps) items) xs all
 past_jumps_next jumps items i n d xs ys zs all is lt h k l =
     let more = past_as _ (JumpsLead (take i jumps ++ get_or jumps i d ∷ []) items) xs all
-        (jumps_join (take i jumps) (get_or jumps i d) items) (jumps_split (take i jumps) (get_or jumps i d) items)
-        (past_both _ (JumpPart (get_or jumps i d) items) xs ys all h (past_both _ _ ys zs all k l)) in
+    (jumps_join (take i jumps) (get_or jumps i d) items) (jumps_split (take i jumps) (get_or jumps i d) items)
+    (past_both _ (JumpPart (get_or jumps i d) items) xs ys all h (past_both _ _ ys zs all k l)) in
     subst (λ m. IsPast (JumpsLead (take m jumps) items) xs all) (sym is)
-        (subst (λ (l : List Jump). IsPast (JumpsLead l items) xs all) (sym (take-suc jumps i d lt)) more)
+    (subst (λ (l : List Jump). IsPast (JumpsLead l items) xs all) (sym (take-suc jumps i d lt)) more)
 
 -- ---- all of a list
 
@@ -185,8 +185,12 @@ module _ (lists : List Area) (items : ItemsOver) (i n : ℕ) (d : Area) (here : 
     each = λ j. (
       λ there. ⊎_elim
           (λ a. let s = (h.each j).0 a in record { area = s.area; listed = old s.area s.listed; starts = s.starts })
-          (λ b. record { area = get_or lists i d; listed = new; starts =
-              subst (λ m. ListStarts (get_or lists i d).first items m) (is_alone x j b) starts })
+          (λ b. record {
+            area = get_or lists i d;
+            listed = new;
+            starts =
+                subst (λ m. ListStarts (get_or lists i d).first items m) (is_alone x j b) starts;
+          })
           ((join.each j).0 there),
       λ s. (join.each j).1 (⊎_elim
           (λ a. inl ((h.each j).1 (record { area = s.area; listed = a; starts = s.starts })))
@@ -220,8 +224,12 @@ pub recipe_those : (recipe : Recipe) (items : ItemsOver) (here between after : L
     → AreThose (RecipeLeads recipe items) after
 recipe_those recipe items here between after h k l =
     let m = past_both _ _ here between after k l in
-    record { each = λ j. (λ there. let r = (m.each j).0 there in record { start = r.0; starts = (h.each r.0).0 r.1; spelled = r.2 },
-        λ r. (m.each j).1 (r.start, (h.each r.start).1 r.starts, r.spelled)) }
+    record {
+      each = λ j. (
+        λ there. let r = (m.each j).0 there in record { start = r.0; starts = (h.each r.0).0 r.1; spelled = r.2 },
+        λ r. (m.each j).1 (r.start, (h.each r.start).1 r.starts, r.spelled),
+      );
+    }
 
 -- what holds of a value holds of it in another way
 pub if_ok_on : {X Y : Type 0} → (r : Result X Y) (P Q : X → Type 0) → ((x : X) → P x → Q x) → IfOk r P → IfOk r Q

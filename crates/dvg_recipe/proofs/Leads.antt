@@ -68,13 +68,16 @@ module _ (w : Window) (list : List Entry) (budget : ℕ) (P : Known → Item →
       → HullKeeps w budget hull change → AreUnder (hull_past change hull ∷ []) next → IsInHull hull k → GoesOn w list budget next k i
   goes hull change next k i does into keeps added inside =
       let is : IsChange (callee_at list (target Frame i.instr) k.scale) k.scale change i =
-          subst (λ (s : Key). IsChange (callee_at list (target Frame i.instr) s) s change i) (sym inside.scale) does in
+      subst (λ (s : Key). IsChange (callee_at list (target Frame i.instr) s) s change i) (sym inside.scale) does in
       record {
         keeps = keeps_others w budget hull change _ k i inside is into keeps;
         keyed = keyed_there list (target Frame i.instr) k.scale (is.named_one keeps.named) (is.keyed keeps.named);
-        covered = added.each _ (record
-            { hull = hull_past change hull; listed = (zero, omega arith, refl); inside =
-            inside_past w budget hull change _ k i inside is into });
+        covered = added.each _ (record {
+          hull = hull_past change hull;
+          listed = (zero, omega arith, refl);
+          inside =
+              inside_past w budget hull change _ k i inside is into;
+        });
       }
 
   pub lead_none : (here next : List Hull) → LeadOn w list budget P (take 0 here) next
@@ -90,10 +93,10 @@ module _ (w : Window) (list : List Entry) (budget : ℕ) (P : Known → Item →
     each = λ k j c p format. ⊎_elim
         (λ old. goes_under next more k j under (h.each k j (record { hull = c.hull; listed = old; inside = c.inside }) p format))
         (λ last. let does_so = does k j p format in
-            goes (get_or here i d) change more k j does_so.0 does_so.1 keeps added
-            (subst (λ (x : Hull). IsInHull x k) (sym (listed_alone (get_or here i d) c.hull last)) c.inside))
+        goes (get_or here i d) change more k j does_so.0 does_so.1 keeps added
+        (subst (λ (x : Hull). IsInHull x k) (sym (listed_alone (get_or here i d) c.hull last)) c.inside))
         (Contains-append_cases (take i here) (get_or here i d ∷ []) c.hull
-            (subst (λ (l : List Hull). Contains l c.hull) (take-suc here i d lt) (subst (λ m. Contains (take m here) c.hull) is c.listed)));
+        (subst (λ (l : List Hull). Contains l c.hull) (take-suc here i d lt) (subst (λ m. Contains (take m here) c.hull) is c.listed)));
   }
 
   pub lead_more : (here next more : List Hull) → AreUnder next more → LeadOn w list budget P here next → LeadOn w list budget P here more
@@ -134,8 +137,10 @@ module _ (w : Window) (list : List Entry) (budget : ℕ) (here next : List Hull)
       each : (k : Known) → Covers here k → (at : ℕ) (format : Format) (instr : Instr) → TakesCall targets instr → HasFormat format instr
           → GoesOn w list budget next k (record { at = at; format = format; instr = instr })
       each k c at format (Jsrl to) taken is =
-          (led to taken).each k _ c (record { each = λ scale short. call_is (callee_at list (Some to) scale) to scale at format short;
-          into = λ scale. call_into (callee_at list (Some to) scale) scale k _ }) is
+          (led to taken).each k _ c (record {
+            each = λ scale short. call_is (callee_at list (Some to) scale) to scale at format short;
+            into = λ scale. call_into (callee_at list (Some to) scale) scale k _;
+          }) is
       each k c at format (Draws d) taken is = absurd taken
       each k c at format Halt taken is = absurd taken
       each k c at format (Labs x y s) taken is = absurd taken
@@ -153,15 +158,15 @@ pub each_next : (F : ℕ → Type 0) (xs : List ℕ) (i n d : ℕ) → n ≡ suc
     → F (get_or xs i d) → (x : ℕ) → Contains (take n xs) x → F x
 each_next F xs i n d is lt h new x there = ⊎_elim (h x) (λ last. subst F (only_number (get_or xs i d) x last) new)
     (Contains-append_cases (take i xs) (get_or xs i d ∷ []) x
-        (subst (λ (l : List ℕ). Contains l x) (take-suc xs i d lt) (subst (λ m. Contains (take m xs) x) is there)))
+    (subst (λ (l : List ℕ). Contains l x) (take-suc xs i d lt) (subst (λ m. Contains (take m xs) x) is there)))
 
 -- what holds of those below a number in a set, and of that number if it is in the set
 pub scales_next : (F : ℕ → Type 0) (scales : List Bool) (n m : ℕ) → m ≡ suc n → (get_or scales n false ≡ true → F n)
     → ((s : ℕ) → s < n → get_or scales s false ≡ true → F s) → (s : ℕ) → s < m → get_or scales s false ≡ true → F s
 scales_next F scales n m is new h s lt there =
     ⊎_elim (λ less. h s less there)
-        (λ last. let same : n ≡ s = omega (arith, is, lt, last) in
-        subst F same (new (subst (λ k. get_or scales k false ≡ true) (sym same) there))) (cases_lt s n)
+    (λ last. let same : n ≡ s = omega (arith, is, lt, last) in
+    subst F same (new (subst (λ k. get_or scales k false ≡ true) (sym same) there))) (cases_lt s n)
 
 -- a number that is in a set is below its length
 pub in_scales : (scales : List Bool) (s n : ℕ) → length scales ≤ n → get_or scales s false ≡ true → s < n

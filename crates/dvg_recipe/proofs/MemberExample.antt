@@ -23,7 +23,7 @@ one_way words items at leads halts rom recipe b =
     ⊎_elim (λ less. absurd (too_long Frame source 0 b.items theirs b.leads b.halts refl items at leads less))
     (λ le. ⊎_elim (λ more. absurd (too_long Frame source 0 items ours leads halts refl b.items b.at b.leads more))
     (λ ge. (same_lead Frame source 0 b.items items b.at at b.leads leads (omega (arith, le, ge))).items)
-        (cases_lt (length items) (length b.items)))
+    (cases_lt (length items) (length b.items)))
     (cases_lt (length b.items) (length items))
 
 -- ---- the frame that belongs
@@ -50,9 +50,11 @@ unfolding cell_at instruction_of
 member_halts = refl
 
 place_taken : Takes place_piece.kind Long (Labs 100 0xFF8 2)
-place_taken =
-    (record { low = omega (arith, ints); high = omega (arith, ints) }, record { low = omega (arith, ints); high = omega (arith, ints) },
-        refl)
+place_taken = (
+  record { low = omega (arith, ints); high = omega (arith, ints) },
+  record { low = omega (arith, ints); high = omega (arith, ints) },
+  refl,
+)
 
 stroke_taken : Takes stroke_piece.kind stroke_item.format stroke_item.instr
 stroke_taken = (
@@ -89,12 +91,12 @@ module _ (rom : Rom) (p : ExampleParts) where
   stroke_spelled : (before : List Item) → Spells (Row p.stroke.0) rom before (stroke_item ∷ before)
   stroke_spelled before =
       row_of (stroke_piece ∷ []) p.stroke rom before (stroke_item ∷ before)
-          (stroke_item ∷ before, record { item = stroke_item; one_more = refl; taken = stroke_taken; arrives = tt }, refl)
+      (stroke_item ∷ before, record { item = stroke_item; one_more = refl; taken = stroke_taken; arrives = tt }, refl)
 
   dot_spelled : (before : List Item) → Spells (Row p.dot.0) rom before (dot_item 5 ∷ before)
   dot_spelled before =
       row_of (dot_piece ∷ []) p.dot rom before (dot_item 5 ∷ before)
-          (dot_item 5 ∷ before, record { item = dot_item 5; one_more = refl; taken = dot_taken; arrives = tt }, refl)
+      (dot_item 5 ∷ before, record { item = dot_item 5; one_more = refl; taken = dot_taken; arrives = tt }, refl)
 
   belongs : Belongs rom (example_recipe p) member_words
   belongs =
@@ -112,9 +114,20 @@ module _ (rom : Rom) (p : ExampleParts) where
           start = [];
           begins = refl;
           between = member_items;
-          spelled = (two, start_spelled,
-              (2, omega arith, omega arith, (stroke_item ∷ two, inl (stroke_spelled two),
-              (member_items, inr (dot_spelled (stroke_item ∷ two)), refl))));
+          spelled = (
+            two,
+            start_spelled,
+            (
+              2,
+              omega arith,
+              omega arith,
+              (
+                stroke_item ∷ two,
+                inl (stroke_spelled two),
+                (member_items, inr (dot_spelled (stroke_item ∷ two)), refl),
+              ),
+            ),
+          );
           jumped = refl;
         };
       }
@@ -131,7 +144,7 @@ pub starts_at : (recipe : Recipe) (area : Area) (items : ItemsOver) (j : ℕ) �
     → (h : RecipeLeads recipe items j) → h.start ≡ 0
 starts_at recipe area items j one first h =
     let same : area ≡ h.starts.area =
-        only_area area h.starts.area (subst (λ (l : List Area). Contains l h.starts.area) one h.starts.listed) in
+    only_area area h.starts.area (subst (λ (l : List Area). Contains l h.starts.area) one h.starts.listed) in
     subst (λ n. ListStarts n items h.start) (sym (ap (λ (a : Area). a.first) same) ∙ first) h.starts.starts
 
 module _ (p : ExampleParts) (items : ItemsOver) where
@@ -188,7 +201,7 @@ module _ (rom : Rom) (p : ExampleParts) where
   past_place b =
       let items : ItemsOver = record { rom = rom; items = place_item 0xFF7 ∷ call_item ∷ [] } in
       let same = one_way past_place_words (call_item ∷ place_item 0xFF7 ∷ []) 3 past_place_leads past_place_halts rom (example_recipe p)
-          b in
+      b in
       let placed = (is_short p items 2 (recipe_back items (example_recipe p) b.items 2 (omega arith) same b.spelled)).placed in
       let taken = subst (λ (i : Item). Takes place_piece.kind i.format i.instr) (sym placed.there) placed.taken in
       omega (arith, ints, taken.1.low)
@@ -197,7 +210,7 @@ module _ (rom : Rom) (p : ExampleParts) where
   third_turn b =
       let items : ItemsOver = record { rom = rom; items = place_item 0xFF8 ∷ call_item ∷ dot_item 3 ∷ dot_item 4 ∷ dot_item 5 ∷ [] } in
       let same = one_way third_turn_words (dot_item 5 ∷ dot_item 4 ∷ dot_item 3 ∷ call_item ∷ place_item 0xFF8 ∷ []) 6 third_turn_leads
-          third_turn_halts rom (example_recipe p) b in
+      third_turn_halts rom (example_recipe p) b in
       omega (arith, (is_short p items 5 (recipe_back items (example_recipe p) b.items 5 (omega arith) same b.spelled)).few)
 
 -- ---- all

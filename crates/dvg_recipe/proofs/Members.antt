@@ -71,8 +71,8 @@ module _ (w : Window) (list : List Entry) (budget : ℕ) (recipe : Recipe) (word
       let i : Item = record { at = b.at; format = Short; instr = Halt } in
       let rules = halt_keeps w budget list frame b.items b.at (omega (arith, inside.words, end.count, within)) in
       let kept : (why : FrameWhy) → FramePlaceKeeps w Board frame list budget b.items b.at why =
-          λ why. subst (λ (cell : Cell). CellKeeps rule.Unmapped rule.Odd (λ j. FrameKeeps w budget (seen_at c b.items j)) b.at cell why)
-          (sym halts) (rules why) in
+      λ why. subst (λ (cell : Cell). CellKeeps rule.Unmapped rule.Odd (λ j. FrameKeeps w budget (seen_at c b.items j)) b.at cell why)
+      (sym halts) (rules why) in
       record {
         member = record {
           n = 1 + (known_before c b.items).words;
@@ -117,6 +117,11 @@ pub every_means : (rom : Rom) (list : List Entry) (w : Window) (budget : ℕ) (r
 every_means rom list w budget recipe words depth judged fits board each frame b =
     let t = each frame b in
     let yes : Accepted = record { words = t.n; depth = t.d } in
-    let ok : Result Accepted (Unit {0}) = Ok yes in
-    (t.n, t.d, t.few, t.shallow, accepted (record { rom = rom; list = list; window = w; mode = Exact }) frame budget ok judged b.frame
-        fits (subst (λ m. GoodFrame w m frame list budget t.n t.d) (sym board) t.good))
+    let ok : Result Accepted (Unit {0}) = Ok yes in (
+      t.n,
+      t.d,
+      t.few,
+      t.shallow,
+      accepted (record { rom = rom; list = list; window = w; mode = Exact }) frame budget ok judged b.frame
+          fits (subst (λ m. GoodFrame w m frame list budget t.n t.d) (sym board) t.good),
+    )

@@ -74,8 +74,10 @@ module _ (w : Window) (list : List Entry) (budget : ℕ) where
         → Carries w list budget (Turns least least (Spells body)) xs zs
     least_turns least xs ys zs u h =
         carries_under w list budget (Turns least least (Spells body)) xs ys zs u
-        (record { each = λ rom made words before after t f good. h.each rom made words before after
-            (subst (λ n. Times n (Spells body rom) before after) (omega (arith, t.1, t.2)) t.3) f good })
+        (record {
+          each = λ rom made words before after t f good. h.each rom made words before after
+              (subst (λ n. Times n (Spells body rom) before after) (omega (arith, t.1, t.2)) t.3) f good;
+        })
 
     pub more_turns : (least n m : ℕ) (xs here next more : List Hull) → m ≡ suc n
         → Carries w list budget (Turns least n (Spells body)) xs next → Carries w list budget (TimesOver m (Spells body)) xs here
@@ -117,7 +119,7 @@ module _ (w : Window) (list : List Entry) (budget : ℕ) where
     each = λ words items b f. ⊎_elim (λ old. good_under w list budget here more words items under (h.each words items (b.0, old, b.2) f))
         (λ last. good_under w list budget there more words items over (new.each words items (b.0, last, b.2) f))
         (Contains-append_cases (take i areas) (get_or areas i d ∷ []) b.0
-            (subst (λ (l : List Area). Contains l b.0) (take-suc areas i d lt) (subst (λ m. Contains (take m areas) b.0) is b.1)));
+        (subst (λ (l : List Area). Contains l b.0) (take-suc areas i d lt) (subst (λ m. Contains (take m areas) b.0) is b.1)));
   }
 
   pub starts_here : (area : Area) (h : Hull) (more : List Hull) → area.first ≡ 0 → IsFirst h → AreUnder (h ∷ []) more
@@ -126,8 +128,8 @@ module _ (w : Window) (list : List Entry) (budget : ℕ) where
     each = λ words items b f.
         good_under w list budget (h ∷ []) more words items under
         (subst (IsGoodFront w list budget (h ∷ []) words)
-            (sym (begins_here area.first items is (subst (λ (a : Area). BeginsAt a.first items) (sym (only_area area b.0 b.1)) b.2)))
-            (good_start h words known));
+        (sym (begins_here area.first items is (subst (λ (a : Area). BeginsAt a.first items) (sym (only_area area b.0 b.1)) b.2)))
+        (good_start h words known));
   }
 
   pub starts_there : (area : Area) (h : Hull) (there : List Hull) → area.first ≢ 0 → IsFirst h
@@ -136,8 +138,8 @@ module _ (w : Window) (list : List Entry) (budget : ℕ) where
     each = λ words items b f.
         let a = begins_there area.first items not (subst (λ (a : Area). BeginsAt a.first items) (sym (only_area area b.0 b.1)) b.2) in
         subst (IsGoodFront w list budget there words) (sym a.one_more)
-            (good_item w list budget IsJump (h ∷ []) there words [] a.item on (area.first, a.jumps) (subst (IsFront words) a.one_more f)
-            (good_start h words known));
+        (good_item w list budget IsJump (h ∷ []) there words [] a.item on (area.first, a.jumps) (subst (IsFront words) a.one_more f)
+        (good_start h words known));
   }
 
   pub starts_whole : (areas : List Area) (here : List Hull) (i : ℕ) → length areas ≤ i → AreListStarts w list budget (take i areas) here
@@ -157,7 +159,7 @@ counts_next here i n d words depth more deeper is lt le deep new old h there =
     ⊎_elim (λ c. let e = old h c in record { count = omega (arith, e.count, le); shallow = omega (arith, e.shallow, deep) })
     (λ last. subst (IsCounted more deeper) (only_hull (get_or here i d) h last) new)
     (Contains-append_cases (take i here) (get_or here i d ∷ []) h
-        (subst (λ (l : List Hull). Contains l h) (take-suc here i d lt) (subst (λ m. Contains (take m here) h) is there)))
+    (subst (λ (l : List Hull). Contains l h) (take-suc here i d lt) (subst (λ m. Contains (take m here) h) is there)))
 
 -- ---- the parts of a recipe
 

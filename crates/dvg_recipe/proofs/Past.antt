@@ -19,13 +19,23 @@ use Rattle.dvg_recipe.specs.Private.Hulls.{Rectangle, Places, Lost, Within, Hull
 
 shift_in : (r by : Rectangle) (p d : Point) → IsInRectangle r p → IsInRectangle by d → IsInRectangle (moved r by) (shift p d)
 shift_in r by p d h k =
-    record { left = omega (arith, ints, h.left, k.left); right = omega (arith, ints, h.right, k.right); bottom =
-    omega (arith, ints, h.bottom, k.bottom); top = omega (arith, ints, h.top, k.top) }
+    record {
+      left = omega (arith, ints, h.left, k.left);
+      right = omega (arith, ints, h.right, k.right);
+      bottom =
+          omega (arith, ints, h.bottom, k.bottom);
+      top = omega (arith, ints, h.top, k.top);
+    }
 
 in_window : (w : Window) (r : Rectangle) (p : Point) → IsShown w r → IsInRectangle r p → InWindow w p
 in_window w r p h k =
-    record { left = omega (arith, ints, h.0.left, k.left); right = omega (arith, ints, h.1.right, k.right); bottom =
-    omega (arith, ints, h.0.bottom, k.bottom); top = omega (arith, ints, h.1.top, k.top) }
+    record {
+      left = omega (arith, ints, h.0.left, k.left);
+      right = omega (arith, ints, h.1.right, k.right);
+      bottom =
+          omega (arith, ints, h.0.bottom, k.bottom);
+      top = omega (arith, ints, h.1.top, k.top);
+    }
 
 -- ---- places
 
@@ -46,15 +56,20 @@ places_on (By d) (Within r) (Moves v) LostEnd h k = absurd h
 
 common_in : (r s : Rectangle) (p : Point) → IsInRectangle r p → IsInRectangle s p → IsInRectangle (common r s) p
 common_in r s p h k =
-    record { left = omega (arith, ints, clamps, h.left, k.left); right = omega (arith, ints, clamps, h.right, k.right); bottom =
-    omega (arith, ints, clamps, h.bottom, k.bottom); top = omega (arith, ints, clamps, h.top, k.top) }
+    record {
+      left = omega (arith, ints, clamps, h.left, k.left);
+      right = omega (arith, ints, clamps, h.right, k.right);
+      bottom =
+          omega (arith, ints, clamps, h.bottom, k.bottom);
+      top = omega (arith, ints, clamps, h.top, k.top);
+    }
 
 -- where the item leads, whatever it calls: a draw calls nothing
 into_place : (r : Rectangle) (named : Option Entry) (k : Known) (i : Item) → IsInto (Some r) k i
     → IsAmong (Within r) (known_past Board i named k).place
 into_place r named k i (d, is, there) =
     subst (λ (e : Effect). IsAmong (Within r) (place_past e k.place))
-        (ap (λ (j : Instr). effect_of Board j k.scale None) is ∙ sym (ap (λ (j : Instr). effect_of Board j k.scale named) is)) there
+    (ap (λ (j : Instr). effect_of Board j k.scale None) is ∙ sym (ap (λ (j : Instr). effect_of Board j k.scale named) is)) there
 
 into_on : (into : Option Rectangle) (places : Places) (named : Option Entry) (k : Known) (i : Item)
     → IsAmong places (known_past Board i named k).place → IsInto into k i
@@ -89,7 +104,7 @@ ends_in : (r : Rectangle) (named : Option Entry) (k : Known) (i : Item) (x y : �
 ends_in r named k i x y a b (d, is, there) at lit =
     draw_ends r d d.bright k.scale x y a b
     (subst (λ (p : End). IsAmong (Within r) (place_past (draw_effect Board d k.scale) p)) at
-        (subst (λ (e : Effect). IsAmong (Within r) (place_past e k.place)) (ap (λ (j : Instr). effect_of Board j k.scale None) is) there))
+    (subst (λ (e : Effect). IsAmong (Within r) (place_past e k.place)) (ap (λ (j : Instr). effect_of Board j k.scale None) is) there))
     (sym (ap (λ (j : Instr). extent_of Board j k.scale named) is) ∙ lit)
 
 -- ---- what is lit
@@ -123,9 +138,14 @@ lit_on w into (Within r) (Shown from to) (Between a b) (Rel x y) e h k l = absur
 lit_on w into (Within r) (Shown from to) (Between a b) (Abs x y) e h k l =
     let p : Point = record { x = x; y = y } in
     let there = part_has into (moved r to) (shift p b) (λ t is. e t x y a b is refl refl) (shift_in r to p b h k.1) in
-    record { known = grind (arith); scale = tt; shown =
-        (in_window w (moved r from) (shift p a) l.0 (shift_in r from p a h k.0),
-        (in_window w (part_in into (moved r to)) (shift p b) l.1 there, tt)) }
+    record {
+      known = grind (arith);
+      scale = tt;
+      shown = (
+        in_window w (moved r from) (shift p a) l.0 (shift_in r from p a h k.0),
+        (in_window w (part_in into (moved r to)) (shift p b) l.1 there, tt),
+      );
+    }
 lit_on w into (Within r) (Shown from to) (Between a b) LostEnd e h k l = absurd h
 lit_on w into places Unbounded (Between a b) place e h k l = absurd l
 lit_on w into places Unbounded Anywhere place e h k l = absurd l
@@ -141,14 +161,24 @@ module _ (w : Window) (budget : ℕ) (h : Hull) (c : Change) (named : Option Ent
   pub keeps_others : HullKeeps w budget h c → KeepsOthers w budget (seen_with Board named k i)
   keeps_others keeps =
       let lit = lit_on w c.into h.places c.light _ k.place (ends_of c.into named k i into) inside.place is.light keeps.lights in
-      record { place = lit.known; scale = lit.scale; shown = lit.shown; named = is.named_one keeps.named; few =
-          omega (arith, inside.words, is.words, keeps.few) }
+      record {
+        place = lit.known;
+        scale = lit.scale;
+        shown = lit.shown;
+        named = is.named_one keeps.named;
+        few =
+            omega (arith, inside.words, is.words, keeps.few);
+      }
 
   pub inside_past : IsInHull (hull_past c h) (known_past Board i named k)
   inside_past =
-      record { scale = is.scale_after; place =
-      into_on c.into (places_past c.motion h.places) named k i (places_on c.motion h.places _ k.place inside.place is.motion) into;
-      words = omega (arith, inside.words, is.words); depth = omega (arith, inside.depth, is.depth) }
+      record {
+        scale = is.scale_after;
+        place =
+            into_on c.into (places_past c.motion h.places) named k i (places_on c.motion h.places _ k.place inside.place is.motion) into;
+        words = omega (arith, inside.words, is.words);
+        depth = omega (arith, inside.depth, is.depth);
+      }
 
 -- ---- formats
 
@@ -161,13 +191,23 @@ format_there get p Long i e = grind (arith, nat_le, nat_tests, cell_of_format)
 
 around_one : (r s : Rectangle) (p : Point) → IsInRectangle r p → IsInRectangle (around r s) p
 around_one r s p h =
-    record { left = omega (arith, ints, clamps, h.left); right = omega (arith, ints, clamps, h.right); bottom =
-    omega (arith, ints, clamps, h.bottom); top = omega (arith, ints, clamps, h.top) }
+    record {
+      left = omega (arith, ints, clamps, h.left);
+      right = omega (arith, ints, clamps, h.right);
+      bottom =
+          omega (arith, ints, clamps, h.bottom);
+      top = omega (arith, ints, clamps, h.top);
+    }
 
 around_other : (r s : Rectangle) (p : Point) → IsInRectangle s p → IsInRectangle (around r s) p
 around_other r s p h =
-    record { left = omega (arith, ints, clamps, h.left); right = omega (arith, ints, clamps, h.right); bottom =
-    omega (arith, ints, clamps, h.bottom); top = omega (arith, ints, clamps, h.top) }
+    record {
+      left = omega (arith, ints, clamps, h.left);
+      right = omega (arith, ints, clamps, h.right);
+      bottom =
+          omega (arith, ints, clamps, h.bottom);
+      top = omega (arith, ints, clamps, h.top);
+    }
 
 places_one : (a b : Places) (place : End) → IsAmong a place → IsAmong (joined_places a b) place
 places_one Lost b place h = tt
@@ -185,13 +225,23 @@ places_other (Within r) (Within s) LostEnd h = absurd h
 
 pub hull_one : (a b : Hull) (k : Known) → IsInHull a k → IsInHull (joined a b) k
 hull_one a b k h =
-    record { scale = h.scale; place = places_one a.places b.places k.place h.place; words = omega (arith, h.words); depth =
-    omega (arith, h.depth) }
+    record {
+      scale = h.scale;
+      place = places_one a.places b.places k.place h.place;
+      words = omega (arith, h.words);
+      depth =
+          omega (arith, h.depth);
+    }
 
 pub hull_other : (a b : Hull) (k : Known) → a.scale ≡ b.scale → IsInHull b k → IsInHull (joined a b) k
 hull_other a b k same h =
-    record { scale = h.scale ∙ sym same; place = places_other a.places b.places k.place h.place; words = omega (arith, h.words); depth =
-    omega (arith, h.depth) }
+    record {
+      scale = h.scale ∙ sym same;
+      place = places_other a.places b.places k.place h.place;
+      words = omega (arith, h.words);
+      depth =
+          omega (arith, h.depth);
+    }
 
 -- ---- limits
 
@@ -204,10 +254,20 @@ more_near_places m n (Within r) le h = more_near m n r le h
 
 around_near : (n : ℕ) (r s : Rectangle) → IsNearRectangle n r → IsNearRectangle n s → IsNearRectangle n (around r s)
 around_near n r s h k = (
-  record { left = omega (arith, ints, clamps, h.0.left, k.0.left); right = omega (arith, ints, clamps, h.0.right, k.0.right); down =
-      omega (arith, ints, clamps, h.0.down, k.0.down); up = omega (arith, ints, clamps, h.0.up, k.0.up) },
-  record { left = omega (arith, ints, clamps, h.1.left, k.1.left); right = omega (arith, ints, clamps, h.1.right, k.1.right); down =
-      omega (arith, ints, clamps, h.1.down, k.1.down); up = omega (arith, ints, clamps, h.1.up, k.1.up) },
+  record {
+    left = omega (arith, ints, clamps, h.0.left, k.0.left);
+    right = omega (arith, ints, clamps, h.0.right, k.0.right);
+    down =
+        omega (arith, ints, clamps, h.0.down, k.0.down);
+    up = omega (arith, ints, clamps, h.0.up, k.0.up);
+  },
+  record {
+    left = omega (arith, ints, clamps, h.1.left, k.1.left);
+    right = omega (arith, ints, clamps, h.1.right, k.1.right);
+    down =
+        omega (arith, ints, clamps, h.1.down, k.1.down);
+    up = omega (arith, ints, clamps, h.1.up, k.1.up);
+  },
 )
 
 places_near : (n : ℕ) (a b : Places) → AreNearPlaces n a → AreNearPlaces n b → AreNearPlaces n (joined_places a b)
@@ -229,7 +289,7 @@ joined_sound a b h k =
 moved_near : (m n all : ℕ) (r by : Rectangle) → m + n ≤ all → IsNearRectangle m r → IsNearRectangle n by → IsNearRectangle all (moved r by)
 moved_near m n all r by le h k =
     more_near (m + n) all (moved r by) le
-        (reached_shift ITEM_REACH m n (m + n) r.low by.low refl h.0 k.0, reached_shift ITEM_REACH m n (m + n) r.high by.high refl h.1 k.1)
+    (reached_shift ITEM_REACH m n (m + n) r.low by.low refl h.0 k.0, reached_shift ITEM_REACH m n (m + n) r.high by.high refl h.1 k.1)
 
 past_near : (m all : ℕ) (motion : Motion) (places : Places) → m + 1 ≤ all → AreNearPlaces m places → IsNearMotion motion
     → AreNearPlaces all (places_past motion places)
@@ -241,10 +301,20 @@ past_near m all (By d) (Within r) le h k = moved_near m 1 all r d le h k
 -- what is left of places that are near is near
 common_near : (n : ℕ) (r s : Rectangle) → IsNearRectangle n r → IsNearRectangle n s → IsNearRectangle n (common r s)
 common_near n r s h k = (
-  record { left = omega (arith, ints, clamps, h.0.left, k.0.left); right = omega (arith, ints, clamps, h.0.right, k.0.right); down =
-      omega (arith, ints, clamps, h.0.down, k.0.down); up = omega (arith, ints, clamps, h.0.up, k.0.up) },
-  record { left = omega (arith, ints, clamps, h.1.left, k.1.left); right = omega (arith, ints, clamps, h.1.right, k.1.right); down =
-      omega (arith, ints, clamps, h.1.down, k.1.down); up = omega (arith, ints, clamps, h.1.up, k.1.up) },
+  record {
+    left = omega (arith, ints, clamps, h.0.left, k.0.left);
+    right = omega (arith, ints, clamps, h.0.right, k.0.right);
+    down =
+        omega (arith, ints, clamps, h.0.down, k.0.down);
+    up = omega (arith, ints, clamps, h.0.up, k.0.up);
+  },
+  record {
+    left = omega (arith, ints, clamps, h.1.left, k.1.left);
+    right = omega (arith, ints, clamps, h.1.right, k.1.right);
+    down =
+        omega (arith, ints, clamps, h.1.down, k.1.down);
+    up = omega (arith, ints, clamps, h.1.up, k.1.up);
+  },
 )
 
 into_near : (n : ℕ) (into : Option Rectangle) (places : Places) → 1 ≤ n → IsNearInto into → AreNearPlaces n places

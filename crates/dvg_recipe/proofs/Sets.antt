@@ -24,13 +24,13 @@ pub joined_insert : (xs : List ℕ) (i x : ℕ) → IsJoined xs (x ∷ []) (inse
 joined_insert xs i x = record {
   each = λ j.
       let whole : (k : ℕ) → Contains (take i xs ++ drop i xs) k → Contains xs k =
-          λ k h. subst (λ (l : List ℕ). Contains l k) (take-append-drop i xs) h in
+      λ k h. subst (λ (l : List ℕ). Contains l k) (take-append-drop i xs) h in
       let parts : Contains xs j → Contains (take i xs ++ drop i xs) j =
-          λ h. subst (λ (l : List ℕ). Contains l j) (sym (take-append-drop i xs)) h in (
+      λ h. subst (λ (l : List ℕ). Contains l j) (sym (take-append-drop i xs)) h in (
         λ h. ⊎_elim
             (λ a. inl (whole j (Contains-append_left (take i xs) (drop i xs) j a)))
             (λ b. ⊎_elim (λ c. inr c) (λ c. inl (whole j (Contains-append_right (take i xs) (drop i xs) j c)))
-                (Contains-append_cases (x ∷ []) (drop i xs) j b))
+            (Contains-append_cases (x ∷ []) (drop i xs) j b))
             (Contains-append_cases (take i xs) (x ∷ drop i xs) j h),
         ⊎_elim
             (λ old. ⊎_elim
@@ -63,7 +63,7 @@ pub joined_next : (xs ys all more : List ℕ) (i j d : ℕ) → j ≡ suc i → 
     → IsJoined all (get_or ys i d ∷ []) more → IsJoined xs (take j ys) more
 joined_next xs ys all more i j d is lt h k =
     subst (λ n. IsJoined xs (take n ys) more) (sym is)
-        (subst (λ (l : List ℕ). IsJoined xs l more) (sym (take-suc ys i d lt)) (joined_on xs (take i ys) (get_or ys i d ∷ []) all more h k))
+    (subst (λ (l : List ℕ). IsJoined xs l more) (sym (take-suc ys i d lt)) (joined_on xs (take i ys) (get_or ys i d ∷ []) all more h k))
 
 pub joined_with : (xs ys others all : List ℕ) → ys ≡ others → IsJoined xs ys all → IsJoined xs others all
 joined_with xs ys others all is h = subst (λ (l : List ℕ). IsJoined xs l all) is h

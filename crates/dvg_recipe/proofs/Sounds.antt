@@ -25,8 +25,10 @@ none_covered k c = absurd (omega (arith, c.listed.1))
 -- all hulls are sound, one more with them
 pub sound_push : (xs : List Hull) (x : Hull) → AreSoundHulls xs → IsSoundHull x → AreSoundHulls (xs ++ x ∷ [])
 sound_push xs x h new =
-    record { each = λ s there. ⊎_elim (h.each s) (λ alone. subst IsSoundHull (listed_alone x s alone) new)
-    (Contains-append_cases xs (x ∷ []) s there) }
+    record {
+      each = λ s there. ⊎_elim (h.each s) (λ alone. subst IsSoundHull (listed_alone x s alone) new)
+          (Contains-append_cases xs (x ∷ []) s there);
+    }
 
 same_or_not : (k i : ℕ) → (k ≡ i) ⊎ (k ≢ i)
 same_or_not k i =
@@ -53,18 +55,32 @@ module _ (xs : List Hull) (i : ℕ) (x : Hull) (lt : i < length xs) where
 
   pub set_added : (h : Hull) → ((k : Known) → IsInHull h k → IsInHull x k) → AreUnder (h ∷ []) (set xs i x)
   set_added h wider =
-      record { each = λ k c. record { hull = x; listed = set_has; inside =
-      wider k (subst (λ (y : Hull). IsInHull y k) (sym (listed_alone h c.hull c.listed)) c.inside) } }
+      record {
+        each = λ k c. record {
+          hull = x;
+          listed = set_has;
+          inside =
+              wider k (subst (λ (y : Hull). IsInHull y k) (sym (listed_alone h c.hull c.listed)) c.inside);
+        };
+      }
 
   pub set_kept : ((d : Hull) (k : Known) → IsInHull (get_or xs i d) k → IsInHull x k) → AreUnder xs (set xs i x)
   set_kept wider = record { each = λ k c. kept k c.hull c.inside c.listed }
     where
       kept : (k : Known) (t : Hull) → IsInHull t k → Contains xs t → Covers (set xs i x) k
       kept k t inside (n, less, is) =
-          ⊎_elim (λ same. record { hull = x; listed = set_has; inside =
-              wider t k (subst (λ (y : Hull). IsInHull y k) (sym is ∙ ap (λ m. get_or xs m t) same) inside) })
-          (λ other. record { hull = t; listed = (n, omega (arith, less, same_length), get_or-set_other xs i n x t other ∙ is); inside =
-              inside }) (same_or_not n i)
+          ⊎_elim (λ same. record {
+            hull = x;
+            listed = set_has;
+            inside =
+                wider t k (subst (λ (y : Hull). IsInHull y k) (sym is ∙ ap (λ m. get_or xs m t) same) inside);
+          })
+          (λ other. record {
+            hull = t;
+            listed = (n, omega (arith, less, same_length), get_or-set_other xs i n x t other ∙ is);
+            inside =
+                inside;
+          }) (same_or_not n i)
 
 pub push_kept : (xs : List Hull) (x : Hull) → AreUnder xs (xs ++ x ∷ [])
 push_kept xs x =
@@ -82,7 +98,7 @@ under_next xs zs i n d is lt h new = record {
   each = λ k c. ⊎_elim (λ old. h.each k (record { hull = c.hull; listed = old; inside = c.inside }))
       (λ alone. new.each k (record { hull = c.hull; listed = alone; inside = c.inside }))
       (Contains-append_cases (take i xs) (get_or xs i d ∷ []) c.hull
-          (subst (λ (l : List Hull). Contains l c.hull) (take-suc xs i d lt) (subst (λ m. Contains (take m xs) c.hull) is c.listed)));
+      (subst (λ (l : List Hull). Contains l c.hull) (take-suc xs i d lt) (subst (λ m. Contains (take m xs) c.hull) is c.listed)));
 }
 
 pub under_whole : (xs zs : List Hull) (i : ℕ) → length xs ≤ i → AreUnder (take i xs) zs → AreUnder xs zs
@@ -133,15 +149,17 @@ fronts_push fronts here h new = record {
 pub fronts_rest : (fronts rest : List (Vec Hull Global)) (last : Option (Vec Hull Global)) → fronts ≡ rest ++ option_to_list last
     → AreSoundFronts fronts → AreSoundFronts rest
 fronts_rest fronts rest last is h =
-    record { each = λ x there. h.each x
-    (subst (λ (l : List (Vec Hull Global)). Contains l x) (sym is) (Contains-append_left rest (option_to_list last) x there)) }
+    record {
+      each = λ x there. h.each x
+          (subst (λ (l : List (Vec Hull Global)). Contains l x) (sym is) (Contains-append_left rest (option_to_list last) x there));
+    }
 
 pub fronts_last : (fronts rest : List (Vec Hull Global)) (last : Option (Vec Hull Global)) (here : Vec Hull Global)
     → fronts ≡ rest ++ option_to_list last → last ≡ Some here → AreSoundFronts fronts → AreSoundHulls here.items
 fronts_last fronts rest last here is some h =
     let there : Contains (rest ++ here ∷ []) here = Contains-append_right rest (here ∷ []) here (zero, omega arith, refl) in
     h.each here (subst (λ (l : List (Vec Hull Global)). Contains l here)
-        (sym (is ∙ ap (λ (o : Option (Vec Hull Global)). rest ++ option_to_list o) some)) there)
+    (sym (is ∙ ap (λ (o : Option (Vec Hull Global)). rest ++ option_to_list o) some)) there)
 
 -- ---- pieces and jumps within their limits
 

@@ -74,8 +74,10 @@ module _ (t : States) (list : List Entry) (by_entry : Entry → ClockRange) wher
   pub on_more : (P : Item → Type 0) (here next more : MostClocks) → AreNoMore next more → TakeOn t list by_entry P here next
       → TakeOn t list by_entry P here more
   on_more P here next more u h =
-      record { each = λ i p scale n under. u.each (scale_past t list by_entry i scale) (taken_past t list by_entry i scale n)
-      (h.each i p scale n under) }
+      record {
+        each = λ i p scale n under. u.each (scale_past t list by_entry i scale) (taken_past t list by_entry i scale n)
+            (h.each i p scale n under);
+      }
 
   pub on_fewer : (P Q : Item → Type 0) (here next : MostClocks) → ((i : Item) → Q i → P i) → TakeOn t list by_entry P here next
       → TakeOn t list by_entry Q here next
@@ -145,8 +147,10 @@ module _ (t : States) (list : List Entry) (by_entry : Entry → ClockRange) wher
   pub spend_either : (R S : Adds) (xs ys zs all : MostClocks) → AreNoMore ys all → AreNoMore zs all → Spend t list by_entry R xs ys
       → Spend t list by_entry S xs zs → Spend t list by_entry (λ rom before after. R rom before after ⊎ S rom before after) xs all
   spend_either R S xs ys zs all u v h k =
-      record { each = λ rom before after s under. ⊎_elim (λ r. u.each _ _ (h.each rom before after r under))
-      (λ q. v.each _ _ (k.each rom before after q under)) s }
+      record {
+        each = λ rom before after s under. ⊎_elim (λ r. u.each _ _ (h.each rom before after r under))
+            (λ q. v.each _ _ (k.each rom before after q under)) s;
+      }
 
   pub part_as : (part other : Part) (xs ys : MostClocks) → part ≡ other → Spend t list by_entry (Spells part) xs ys
       → Spend t list by_entry (Spells other) xs ys
@@ -164,14 +168,18 @@ module _ (t : States) (list : List Entry) (by_entry : Entry → ClockRange) wher
   pub spend_piece : (piece : Piece) (xs ys : MostClocks) → TakeOn t list by_entry (λ i. Takes piece.kind i.format i.instr) xs ys
       → Spend t list by_entry (AddsPiece piece) xs ys
   spend_piece piece xs ys on =
-      record { each = λ rom before after a under. spend_item (λ i. Takes piece.kind i.format i.instr) xs ys before after a.item on
-      a.one_more a.taken under }
+      record {
+        each = λ rom before after a under. spend_item (λ i. Takes piece.kind i.format i.instr) xs ys before after a.item on
+            a.one_more a.taken under;
+      }
 
   pub spend_jump : (to : ℕ) (xs ys : MostClocks) → TakeOn t list by_entry (λ i. (to : ℕ) × (i.instr ≡ Jmpl to)) xs ys
       → Spend t list by_entry (AddsJumpTo to) xs ys
   spend_jump to xs ys on =
-      record { each = λ rom before after a under. spend_item (λ i. (to : ℕ) × (i.instr ≡ Jmpl to)) xs ys before after a.item on
-      a.one_more (to, a.jumps) under }
+      record {
+        each = λ rom before after a under. spend_item (λ i. (to : ℕ) × (i.instr ≡ Jmpl to)) xs ys before after a.item on
+            a.one_more (to, a.jumps) under;
+      }
 
   pub row_next : (row : List Piece) (i n : ℕ) (d : Piece) (xs ys zs : MostClocks) → n ≡ suc i → i < length row
       → Spend t list by_entry (AddsRow (take i row)) xs ys
@@ -179,10 +187,10 @@ module _ (t : States) (list : List Entry) (by_entry : Entry → ClockRange) wher
       → Spend t list by_entry (AddsRow (take n row)) xs zs
   row_next row i n d xs ys zs is lt h on =
       let more = spend_as (Both (AddsRow (take i row)) (AddsPiece (get_or row i d))) (AddsRow (take i row ++ get_or row i d ∷ [])) xs zs
-          (row_split (take i row) (get_or row i d))
-          (spend_both (AddsRow (take i row)) (AddsPiece (get_or row i d)) xs ys zs h (spend_piece (get_or row i d) ys zs on)) in
+      (row_split (take i row) (get_or row i d))
+      (spend_both (AddsRow (take i row)) (AddsPiece (get_or row i d)) xs ys zs h (spend_piece (get_or row i d) ys zs on)) in
       subst (λ m. Spend t list by_entry (AddsRow (take m row)) xs zs) (sym is)
-          (subst (λ (l : List Piece). Spend t list by_entry (AddsRow l) xs zs) (sym (take-suc row i d lt)) more)
+      (subst (λ (l : List Piece). Spend t list by_entry (AddsRow l) xs zs) (sym (take-suc row i d lt)) more)
 
   pub row_whole : (row : List Piece) (xs ys : MostClocks) (i : ℕ) → length row ≤ i → Spend t list by_entry (AddsRow (take i row)) xs ys
       → Spend t list by_entry (AddsRow row) xs ys
@@ -197,9 +205,9 @@ module _ (t : States) (list : List Entry) (by_entry : Entry → ClockRange) wher
       let jump = get_or jumps i d in
       let part = spend_both (AddsJumpTo jump.area.first) (Spells jump.body) ys zs all (spend_jump jump.area.first ys zs on) l in
       let more = spend_as (Both (SpellsJumps (take i jumps)) (JumpPart jump)) (SpellsJumps (take i jumps ++ jump ∷ [])) xs all
-          (jumps_split (take i jumps) jump) (spend_both (SpellsJumps (take i jumps)) (JumpPart jump) xs ys all h part) in
+      (jumps_split (take i jumps) jump) (spend_both (SpellsJumps (take i jumps)) (JumpPart jump) xs ys all h part) in
       subst (λ m. Spend t list by_entry (SpellsJumps (take m jumps)) xs all) (sym is)
-          (subst (λ (l : List Jump). Spend t list by_entry (SpellsJumps l) xs all) (sym (take-suc jumps i d lt)) more)
+      (subst (λ (l : List Jump). Spend t list by_entry (SpellsJumps l) xs all) (sym (take-suc jumps i d lt)) more)
 
   pub jumps_whole : (jumps : List Jump) (xs ys : MostClocks) (i : ℕ) → length jumps ≤ i
       → Spend t list by_entry (SpellsJumps (take i jumps)) xs ys → Spend t list by_entry (SpellsJumps jumps) xs ys
@@ -213,13 +221,15 @@ module _ (t : States) (list : List Entry) (by_entry : Entry → ClockRange) wher
     one_turn n m xs ys zs is h k =
         subst (λ l. Spend t list by_entry (TimesOver l (Spells body)) xs zs) (sym is)
         (spend_as (Both (TimesOver n (Spells body)) (Spells body)) (TimesOver (suc n) (Spells body)) xs zs (times_last (Spells body) n)
-            (spend_both (TimesOver n (Spells body)) (Spells body) xs ys zs h k))
+        (spend_both (TimesOver n (Spells body)) (Spells body) xs ys zs h k))
 
     pub least_turns : (least n : ℕ) (xs ys : MostClocks) → n ≡ least → Spend t list by_entry (TimesOver n (Spells body)) xs ys
         → Spend t list by_entry (Turns least least (Spells body)) xs ys
     least_turns least n xs ys is h =
-        record { each = λ rom before after turns under. h.each rom before after
-        (subst (λ m. Times m (Spells body rom) before after) (omega (arith, is, turns.1, turns.2)) turns.3) under }
+        record {
+          each = λ rom before after turns under. h.each rom before after
+              (subst (λ m. Times m (Spells body rom) before after) (omega (arith, is, turns.1, turns.2)) turns.3) under;
+        }
 
     pub more_turns : (least n m : ℕ) (xs here next more : MostClocks) → m ≡ suc n
         → Spend t list by_entry (Turns least n (Spells body)) xs next → Spend t list by_entry (TimesOver m (Spells body)) xs here
@@ -228,7 +238,7 @@ module _ (t : States) (list : List Entry) (by_entry : Entry → ClockRange) wher
       each = λ rom before after turns under. ⊎_elim
           (λ less. u.each _ _ (h.each rom before after (turns.0, turns.1, omega (arith, is, less), turns.3) under))
           (λ same. v.each _ _ (k.each rom before after
-              (subst (λ l. Times l (Spells body rom) before after) (omega (arith, same, turns.2)) turns.3) under))
+          (subst (λ l. Times l (Spells body rom) before after) (omega (arith, same, turns.2)) turns.3) under))
           (cases_lt turns.0 m);
     }
 
@@ -244,7 +254,7 @@ module _ (t : States) (list : List Entry) (by_entry : Entry → ClockRange) wher
     each = λ items b. ⊎_elim (λ old. under.each _ _ (h.each items (b.0, old, b.2)))
         (λ last. over.each _ _ (new.each items (b.0, last, b.2)))
         (Contains-append_cases (take i areas) (get_or areas i d ∷ []) b.0
-            (subst (λ (l : List Area). Contains l b.0) (take-suc areas i d lt) (subst (λ m. Contains (take m areas) b.0) is b.1)));
+        (subst (λ (l : List Area). Contains l b.0) (take-suc areas i d lt) (subst (λ m. Contains (take m areas) b.0) is b.1)));
   }
 
   pub starts_whole : (areas : List Area) (here : MostClocks) (i : ℕ) → length areas ≤ i → StartWith t list by_entry (take i areas) here

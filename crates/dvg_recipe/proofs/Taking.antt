@@ -37,7 +37,7 @@ module _ (t : States) (rom : Rom) (recipe : Recipe) (w : Window) (list : List En
       let p = subst (λ k. (gf : GoodFrame w k frame list budget g.words g.depth) × (gf.items ≡ b.items)) (sym board) (g.good, g.are) in
       let halt : Item = record { at = p.0.at; format = p.0.format; instr = Halt } in
       let same = ap (λ items. taken_before (clocks_known t) (sum_of (clocks_known t) rom list) (frame_context rom.machine list)
-          (halt ∷ items)) p.1
+      (halt ∷ items)) p.1
       ∙ ap (λ (k : Machine). taken_before (clocks_known t) (sum_of (clocks_known t) rom list) (frame_context k list) (halt ∷ b.items)) board
       ∙ sym (as_told (halt ∷ b.items)) in
       let fits = under.each rom b.items p.0.at p.0.format b.spelled in (
@@ -47,5 +47,5 @@ module _ (t : States) (rom : Rom) (recipe : Recipe) (w : Window) (list : List En
         circuit_takes (clocks_of_instr t) (clocks_known t) (sum_of (clocks_known t) rom list) Exact (record { frame = frame; rom = rom })
             w w list budget g.words g.depth (forecasts_are_right.clocks t) (memory frame b) board
             (λ e listed. (listed_claim list e good.certificate listed).depth) good.shapes
-                (entries_sum (clocks_known t) Exact w rom list good.shapes) p.0,
+            (entries_sum (clocks_known t) Exact w rom list good.shapes) p.0,
       )

@@ -51,7 +51,7 @@ module _ (R : Leads) where
           (λ i j b. times_sum n (m - n) m i j (omega (arith, le)) b)
           (λ i j t. times_split n (m - n) m i j (omega (arith, le)) t)
           (past_both (TimesOver n R) (TimesOver (m - n) R) xs here after h
-              (past_to (TimesOver (m - n) R) here here after (sym is) (same_over (m - n))))
+          (past_to (TimesOver (m - n) R) here here after (sym is) (same_over (m - n))))
 
   pub turns_first : (least : ℕ) (xs ys others : List ℕ) → ys ≡ others → IsPast (TimesOver least R) xs ys
       → IsPast (Turns least least R) xs others
@@ -87,7 +87,7 @@ module _ (R : Leads) where
           ⊎_elim
           (λ less. (h.each j).1 (t.0, t.1, (suc t.2.0, omega (arith, t.2.1), omega (arith, less), longer)))
           (λ last. let at : suc t.2.0 ≡ m = omega (arith, is, last, t.2.2) in
-              known j ((k.each j).1 (t.0, t.1, subst (λ l. TimesOver l R t.0 j) at longer)))
+          known j ((k.each j).1 (t.0, t.1, subst (λ l. TimesOver l R t.0 j) at longer)))
           (cases_lt t.2.0 n)
 
       closed_over : (l : ℕ) (i j : ℕ) → Contains next i → TimesOver l R i j → Contains next j

@@ -27,21 +27,21 @@ module _ {R : Type 0} (remaining : R → Option (List ℕ)) (failures : R → �
   abbrev pub FramesSoFar : List (NamedFrame R) → Option (List ℕ) → Option (List ℕ) → BelongsTally → ℕ → ℕ → FrameOutcome → Type 0
   FramesSoFar frames old new tally writes writes_after end =
       WritesSoFar (IsLineOfFrame remaining failures rom recipe listing) (of_frames listing) count frames old new tally writes
-          writes_after end
+      writes_after end
 
   module _ (frames : List (NamedFrame R)) (old mid : Option (List ℕ)) (tally : BelongsTally) (writes writes_mid : ℕ) (worst : FrameOutcome)
       (h : FramesSoFar frames old mid tally writes writes_mid worst) where
     pub more_frames : (frame : NamedFrame R) (new : Option (List ℕ)) (tally_after : BelongsTally) (writes_after : ℕ)
         (end both : FrameOutcome)
         → (answer : Membership × Behind) × (tally_after ≡ with_membership tally answer.0)
-            × WritesLine (IsLineOfFrame remaining failures rom recipe listing) (of_frames listing) frame mid new writes_mid writes_after
-            answer end
+        × WritesLine (IsLineOfFrame remaining failures rom recipe listing) (of_frames listing) frame mid new writes_mid writes_after
+        answer end
         → both ≡ worse worst end → FramesSoFar (frames ++ frame ∷ []) old new tally_after writes writes_after both
     more_frames frame new tally_after writes_after end both one is =
         more_lines (IsLineOfFrame remaining failures rom recipe listing) (of_frames listing) count frames old mid tally writes writes_mid
-            worst h frame one.0 new tally_after writes_after end both one.2 is
+        worst h frame one.0 new tally_after writes_after end both one.2 is
         (one.1 ∙ ap (λ t. with_membership t one.0.0) h.tally_is
-            ∙ sym (tally_then no_frames h.lines (record { name = one.2.name; answer = one.0 })))
+        ∙ sym (tally_then no_frames h.lines (record { name = one.2.name; answer = one.0 })))
 
     pub cut_frames : (frame : NamedFrame R) (new : Option (List ℕ))
         → WritesLinePrefix (IsLineOfFrame remaining failures rom recipe listing) (of_frames listing) frame mid new
@@ -58,10 +58,10 @@ module _ {R : Type 0} (remaining : R → Option (List ℕ)) (failures : R → �
         → Reports (IsLineOfFrame remaining failures rom recipe listing) (of_frames listing) frames old new writes writes_after worst
     with_summary new writes_after written one =
         with_last (IsLineOfFrame remaining failures rom recipe listing) (of_frames listing) count frames old mid tally writes writes_mid
-            worst h (summary_of listing.summary tally) same new writes_after written one
+        worst h (summary_of listing.summary tally) same new writes_after written one
 
     pub cut_summary : (new : Option (List ℕ)) → AppendsPrefix mid new (joined (summary_of listing.summary tally))
         → ReportsPrefix (IsLineOfFrame remaining failures rom recipe listing) (of_frames listing) frames old new
     cut_summary new written =
         cut_last (IsLineOfFrame remaining failures rom recipe listing) (of_frames listing) count frames old mid tally writes writes_mid
-            worst h (summary_of listing.summary tally) same new written
+        worst h (summary_of listing.summary tally) same new written

@@ -53,7 +53,7 @@ module _ {A B : Type 0} (IsLineOf : A → Line B → Type 0) (telling : Telling 
           let sent : Sent (line_texts telling (h.lines ++ line ∷ [])) old new writes writes_after =
           subst (λ ts. Sent ts old new writes writes_after) (sym (texts_on h.lines (line ∷ [])))
           (both_sent (line_texts telling h.lines) (line_texts telling (line ∷ [])) old mid new writes writes_mid writes_after lines_sent
-              (record { written = one.written; one_write = one.one_write })) in
+          (record { written = one.written; one_write = one.one_write })) in
           record {
             lines = h.lines ++ line ∷ [];
             lines_of = lines_of_on things h.lines thing line h.lines_of one.line_of;
@@ -71,7 +71,7 @@ module _ {A B : Type 0} (IsLineOf : A → Line B → Type 0) (telling : Telling 
       cut_lines thing new one =
           let all : List (Line B) = h.lines ++ one.line ∷ [] in
           let cut = both_cut (line_texts telling h.lines) (line_texts telling (one.line ∷ [])) old mid new writes writes_mid writes_mid
-              lines_sent one.written in
+          lines_sent one.written in
           record {
             lines = all;
             lines_of = lines_of_on things h.lines thing one.line h.lines_of one.line_of;

@@ -31,11 +31,11 @@ module _ {R : Type 0} (remaining : R → Option (List ℕ)) (failures : R → �
       (h : RecipesSoFar recipes old mid writes writes_mid worst) where
     pub more_recipes : (recipe : NamedRecipe R) (new : Option (List ℕ)) (writes_after : ℕ) (end both : FrameOutcome)
         → (answer : RecipeAnswer × Behind)
-            × WritesLine (IsLineOfRecipe remaining failures rom asked detail) of_recipes recipe mid new writes_mid writes_after answer end
+        × WritesLine (IsLineOfRecipe remaining failures rom asked detail) of_recipes recipe mid new writes_mid writes_after answer end
         → both ≡ worse worst end → RecipesSoFar (recipes ++ recipe ∷ []) old new writes writes_after both
     more_recipes recipe new writes_after end both one is =
         more_lines (IsLineOfRecipe remaining failures rom asked detail) of_recipes no_count recipes old mid tt writes writes_mid worst h
-            recipe one.0 new tt writes_after end both one.1 is refl
+        recipe one.0 new tt writes_after end both one.1 is refl
 
     pub cut_recipes : (recipe : NamedRecipe R) (new : Option (List ℕ))
         → WritesLinePrefix (IsLineOfRecipe remaining failures rom asked detail) of_recipes recipe mid new
@@ -51,7 +51,7 @@ module _ {R : Type 0} (remaining : R → Option (List ℕ)) (failures : R → �
   -- one recipe alone
   pub one_recipe : (recipe : NamedRecipe R) (old new : Option (List ℕ)) (writes writes_after : ℕ) (end : FrameOutcome)
       → (answer : RecipeAnswer × Behind)
-          × WritesLine (IsLineOfRecipe remaining failures rom asked detail) of_recipes recipe old new writes writes_after answer end
+      × WritesLine (IsLineOfRecipe remaining failures rom asked detail) of_recipes recipe old new writes writes_after answer end
       → Reports (IsLineOfRecipe remaining failures rom asked detail) of_recipes (recipe ∷ []) old new writes writes_after end
   one_recipe recipe old new writes writes_after end one =
       record {

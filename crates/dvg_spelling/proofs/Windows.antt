@@ -22,7 +22,7 @@ pub same_place : (m n : ℕ) (text r s : List ℕ) → m ≤ 1023 → n ≤ 1023
     × (r ≡ s)
 same_place m n text r s le-m le-n is-m is-n =
     let t = same_number m n text (44 ∷ r) (44 ∷ s) (omega (arith, le-m)) (omega (arith, le-n)) (λ d. omega (arith, d))
-        (λ d. omega (arith, d)) is-m is-n in
+    (λ d. omega (arith, d)) is-m is-n in
     let rest : 44 ∷ r ≡ 44 ∷ s = t.1 in
     (t.0, cc)
 
@@ -69,7 +69,7 @@ module _ (text : List ℕ) (w : Window) (h : IsWindowText text w) (a : ℕ) (pas
           → IsWindow (record { x_min = pos a; x_max = pos b; y_min = pos c; y_max = pos d })
       is_window d at_d =
           let fourth : d ≡ nat_abs w.y_max =
-              same_decimal d (nat_abs w.y_max) (omega (arith, at_d.0)) (omega (arith, places w h.0)) (sym at_d.1 ∙ third.1) in
+          same_decimal d (nat_abs w.y_max) (omega (arith, at_d.0)) (omega (arith, places w h.0)) (sym at_d.1 ∙ third.1) in
           let across : a ≤ b = omega (arith, first.0, second.0, places w h.0) in
           let up : c ≤ d = omega (arith, third.0, fourth, places w h.0) in
           search rules

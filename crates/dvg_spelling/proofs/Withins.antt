@@ -37,8 +37,8 @@ module _ (text : List ℕ) (r : Cut) (cut : IsSplitOnceResult 46 text r) where
     with_point : (n : ℕ) → IsWhole text n → ⊥
     with_point n h =
         let k = subst (λ (o : Cut). MatchOption o ((i : ℕ) → i < length text → get_or text i 0 ≢ 46)
-            (λ y. (text ≡ y.0.now ++ (46 ∷ y.1.now)) × ((i : ℕ) → i < length y.0.now → get_or y.0.now i 0 ≢ 46))) is
-            (split_parts 46 text r cut (omega arith)) in
+        (λ y. (text ≡ y.0.now ++ (46 ∷ y.1.now)) × ((i : ℕ) → i < length y.0.now → get_or y.0.now i 0 ≢ 46))) is
+        (split_parts 46 text r cut (omega arith)) in
         pointed x.0.now x.1.now text k.0 n h
 
     its_parts : (value : ℕ) (h : HasPoint text value) → (x.0.now ≡ decimal h.whole) × (x.1.now ≡ h.digits)
@@ -67,7 +67,7 @@ one_value text a b (inl h) (inr k) = absurd (pointed (decimal k.whole) k.digits 
 one_value text a b (inr h) (inl k) = absurd (pointed (decimal h.whole) h.digits text h.text_is k.0 k.1)
 one_value text a b (inr h) (inr k) =
     let t = same_number h.whole k.whole text (46 ∷ h.digits) (46 ∷ k.digits) (omega (arith, h.few)) (omega (arith, k.few))
-        (λ d. omega (arith, d)) (λ d. omega (arith, d)) h.text_is k.text_is in
+    (λ d. omega (arith, d)) (λ d. omega (arith, d)) h.text_is k.text_is in
     let rest : 46 ∷ h.digits ≡ 46 ∷ k.digits = t.1 in
     let digits : h.digits ≡ k.digits = cc in
     let fraction = one_fraction k.digits h.fraction k.fraction (subst (λ l. IsFraction l h.fraction) digits h.fraction_is) k.fraction_is in

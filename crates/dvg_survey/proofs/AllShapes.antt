@@ -23,14 +23,14 @@ module _ (rom : Rom) (list : List Entry) where
         holds = λ k d le less.
             ⊎_elim
             (λ (more : from < k). λ items all. wider old new (absolute_points (shape_context rom.machine list (get_or list k d)) items)
-                j.first (h.holds k d (omega (arith, more, next)) less items all))
+            j.first (h.holds k d (omega (arith, more, next)) less items all))
             (λ (here : k ≤ from).
             let e_is : e ≡ get_or list k d =
-                get_or_default list from past d lt ∙ ap (λ (n : ℕ). get_or list n d) (omega (arith, le, here)) in
+            get_or_default list from past d lt ∙ ap (λ (n : ℕ). get_or list n d) (omega (arith, le, here)) in
             subst (HoldsShape rom list new) e_is
-                (λ items all. wider one new (absolute_points (shape_context rom.machine list e) items) j.second
+            (λ items all. wider one new (absolute_points (shape_context rom.machine list e) items) j.second
             (subst (λ x. HoldsAll one (absolute_points (shape_context rom.machine list e) x))
-                (one_all Shape (rom_word rom) e.addr extent.0 items extent.1 all) extent.2.holds)))
+            (one_all Shape (rom_word rom) e.addr extent.0 items extent.1 all) extent.2.holds)))
             (cases_lt from k);
         least = λ other k. j.least other (h.least other k)
             (extent.2.least other (k e (from, lt, get_or_default list from e past lt) extent.0 extent.1));

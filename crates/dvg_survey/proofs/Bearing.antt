@@ -22,16 +22,31 @@ module _ (rom : Rom) (list : List Entry) (e : Entry) where
     first_bears some call at named depth =
         let seen = seen_is here_in (rom_word rom) e.addr NoneBears here w v s in
         let calls : IsShapeCall rom list e call =
-            record { earlier = w.items; item = v.item; leads = here_leads here_in (rom_word rom) e.addr NoneBears here w v s; stands =
-            here_stands here_in (rom_word rom) e.addr NoneBears here w v s; at =
-            at; callee_is = sym (ap (λ (x : Seen). x.callee) seen) ∙ named } in
+        record {
+          earlier = w.items;
+          item = v.item;
+          leads = here_leads here_in (rom_word rom) e.addr NoneBears here w v s;
+          stands =
+              here_stands here_in (rom_word rom) e.addr NoneBears here w v s;
+          at =
+              at;
+          callee_is = sym (ap (λ (x : Seen). x.callee) seen) ∙ named;
+        } in
         (record { calls = calls; some = some; depth = depth }, w.holds)
 
     -- or it does not
     none_on : ((f : Entry) → v.callee ≡ Some f → depth_under v.item.instr (Some f) ≡ e.depth → ⊥) → NoneBears (v.item ∷ w.items)
     none_on not =
-        grind (arith, all_append, calls_among, call_of, callee, cell_at, rom_word,
-        (seen_is here_in (rom_word rom) e.addr NoneBears here w v s))
+        grind (
+          arith,
+          all_append,
+          calls_among,
+          call_of,
+          callee,
+          cell_at,
+          rom_word,
+          (seen_is here_in (rom_word rom) e.addr NoneBears here w v s),
+        )
 
     pub none_past : (step : Step) → step ≡ step_past Shape v → IsSoundStep step
         → ((f : Entry) → v.callee ≡ Some f → depth_under v.item.instr (Some f) ≡ e.depth → ⊥)
@@ -53,8 +68,11 @@ module _ (rom : Rom) (list : List Entry) (e : Entry) (most : ℕ) where
 
   pub starts_down : (map : MemoryMap) → IsCertificate map list → Contains list e → Down [] e 0
   starts_down map some listed =
-      record { claim = listed_claim list e (map, some) listed; goes =
-      λ left rest all g. subst (λ (n : ℕ). GoDeepest n rom list e rest) (omega (arith, all)) g }
+      record {
+        claim = listed_claim list e (map, some) listed;
+        goes =
+            λ left rest all g. subst (λ (n : ℕ). GoDeepest n rom list e rest) (omega (arith, all)) g;
+      }
 
   module _ (calls : List Call) (last : Entry) (count : ℕ) (down : Down calls last count) where
     pub one_down : (map : MemoryMap) (call : Call) (new : List Call) → IsCertificate map list → FirstBears rom list last call

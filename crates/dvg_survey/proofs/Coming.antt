@@ -14,8 +14,16 @@ module _ (c : Context) (word : Source) (first : ℕ) where
   calls_hold : (items : List Item) → Stand c.kind word first items → AllByRecursion (Calls c word first) (calls_among c items)
   calls_hold [] h = tt
   calls_hold (i ∷ earlier) h =
-      grind (arith, all_append, calls_among, call_of, callee, (calls_hold earlier (stand_before c.kind word first earlier i.at h.0)),
-      stand_before, one_call)
+      grind (
+        arith,
+        all_append,
+        calls_among,
+        call_of,
+        callee,
+        (calls_hold earlier (stand_before c.kind word first earlier i.at h.0)),
+        stand_before,
+        one_call,
+      )
 
   pub calls_own : (calls : List Call) → AreCalls c word first calls → AllByRecursion (Calls c word first) calls
   calls_own calls (all, are, is) = subst (AllByRecursion (Calls c word first)) (sym is) (calls_hold all are.stand)
@@ -25,10 +33,15 @@ module _ (c : Context) (word : Source) (first : ℕ) where
     pub is_among : (calls : List Call) → AreCalls c word first calls → AllByRecursion P calls → P call
     is_among calls (all, are, is) h =
         let own = up_to c.kind word first (λ items. AllByRecursion P (calls_among c items))
-            (λ i rest. all_left P (calls_among c rest) (call_of i (callee c rest i.instr))) all are (subst (AllByRecursion P) is h)
-            (k.item ∷ k.earlier) (k.leads, k.stands) in
-        grind (arith, calls_among, call_of, callee,
-            (all_right P (calls_among c k.earlier) (call_of k.item (callee c k.earlier k.item.instr)) own))
+        (λ i rest. all_left P (calls_among c rest) (call_of i (callee c rest i.instr))) all are (subst (AllByRecursion P) is h)
+        (k.item ∷ k.earlier) (k.leads, k.stands) in
+        grind (
+          arith,
+          calls_among,
+          call_of,
+          callee,
+          (all_right P (calls_among c k.earlier) (call_of k.item (callee c k.earlier k.item.instr)) own),
+        )
 
 -- its entry is the one that the list has at its address and key
 pub call_named : (c : Context) (word : Source) (first : ℕ) (call : Call) → Calls c word first call

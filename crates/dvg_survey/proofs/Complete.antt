@@ -57,11 +57,15 @@ module _ (rom : Rom) (words : List ℕ) (list : List Entry) where
         steps = λ k x is. ⊎_elim
             (λ h. step_still rom words list links (l ∷ []) x.from x.call (sound.steps k x h))
             (λ h. subst (λ (y : Link). IsStep rom words list (links ++ l ∷ []) y.from y.call) (sym h.1)
-                (step_still rom words list links (l ∷ []) l.from l.call s))
+            (step_still rom words list links (l ∷ []) l.from l.call s))
             (at_or_new links l k x is);
         back = λ k x is. grind (arith, at_or_new, (sound.back k x), (step_within rom words list links l.from l.call s));
-        counted = omega (arith, one_fewer links l list (step_named rom words list links l.from l.call s) fresh,
-            length-append links (l ∷ []), sound.counted);
+        counted = omega (
+          arith,
+          one_fewer links l list (step_named rom words list links l.from l.call s) fresh,
+          length-append links (l ∷ []),
+          sound.counted,
+        );
       }
 
   -- the entries of the calls are there, behind what was there before
@@ -78,13 +82,18 @@ module _ (rom : Rom) (words : List ℕ) (list : List Entry) where
       let l : Link = record { call = call; from = from } in
       reach_keeps (λ new. Reaches links (reach_all new from rest) (call ∷ rest)) links l
       (λ there. let m = reaches links from rest sound s.1 in
-          record { more = m.more; grown = m.grown; sound = m.sound; has = ((grind (arith, there_append, m.grown)), m.has) })
+      record { more = m.more; grown = m.grown; sound = m.sound; has = ((grind (arith, there_append, m.grown)), m.has) })
       (λ fresh.
       let m = reaches (links ++ l ∷ []) from rest (sound_push links l sound s.0 fresh)
-          (all_map (IsStep rom words list links from) (IsStep rom words list (links ++ l ∷ []) from) rest
-          (λ x. step_still rom words list links (l ∷ []) from x) s.1) in
-      record { more = l ∷ m.more; grown = m.grown ∙ append_assoc links (l ∷ []) m.more; sound = m.sound; has =
-          ((grind (arith, there_append, m.grown, at_holds)), m.has) })
+      (all_map (IsStep rom words list links from) (IsStep rom words list (links ++ l ∷ []) from) rest
+      (λ x. step_still rom words list links (l ∷ []) from x) s.1) in
+      record {
+        more = l ∷ m.more;
+        grown = m.grown ∙ append_assoc links (l ∷ []) m.more;
+        sound = m.sound;
+        has =
+            ((grind (arith, there_append, m.grown, at_holds)), m.has);
+      })
 
   module _ (goal : Entry) where
     -- the entry is not the goal, and the entries of its shape's calls are there
@@ -106,7 +115,7 @@ module _ (rom : Rom) (words : List ℕ) (list : List Entry) where
     begun links visited (calls, are, is) none =
         let no_links : Sound [] = record { steps = λ k l e. cc e; back = λ k l e. cc e; counted = omega (arith, none_left list) } in
         let r = subst (λ ls. Reaches [] ls calls) (sym is)
-            (reaches [] None calls no_links (calls_own (frame_context rom.machine list) (frame_word rom.machine words) 0 calls are)) in
+        (reaches [] None calls no_links (calls_own (frame_context rom.machine list) (frame_word rom.machine words) 0 calls are)) in
         record {
           sound = r.sound;
           framed = λ call f. is_among (frame_context rom.machine list) (frame_word rom.machine words) 0
@@ -121,18 +130,18 @@ module _ (rom : Rom) (words : List ℕ) (list : List Entry) where
         → Comes all new (head + 1)
     gone_on links old new head l all h is other (calls, by, all_is) =
         let r : Reaches links all calls =
-            subst (λ ls. Reaches links ls calls) (sym all_is)
-            (reaches links (Some head) calls h.sound
-            (all_map (IsShapeCall rom list l.call.entry) (IsStep rom words list links (Some head)) calls (λ x s. (l, is, s)) by.own)) in
+        subst (λ ls. Reaches links ls calls) (sym all_is)
+        (reaches links (Some head) calls h.sound
+        (all_map (IsShapeCall rom list l.call.entry) (IsStep rom words list links (Some head)) calls (λ x s. (l, is, s)) by.own)) in
         let still : (e : Entry) → is_there links e ≡ true → is_there all e ≡ true =
-            λ e there. subst (λ ls. is_there ls e ≡ true) (sym r.grown) (there_still links r.more e there) in
+        λ e there. subst (λ ls. is_there ls e ≡ true) (sym r.grown) (there_still links r.more e there) in
         let met : (call : Call) → IsMet rom list old calls call → is_there all call.entry ≡ true =
-            λ call. ⊎_elim (at_place (λ (x : Call). is_there all x.entry ≡ true) calls call r.has)
-            (λ b. still call.entry (h.gone_over b.0 b.1 call b.2)) in
+        λ call. ⊎_elim (at_place (λ (x : Call). is_there all x.entry ≡ true) calls call r.has)
+        (λ b. still call.entry (h.gone_over b.0 b.1 call b.2)) in
         let first = all_map (Done links) (Done all) (take head (entries_of links))
-            (λ e d. (d.0, d.1, λ call s. still call.entry (d.2 call s))) h.shaped in
+        (λ e d. (d.0, d.1, λ call s. still call.entry (d.2 call s))) h.shaped in
         let next : Done all l.call.entry =
-            (step_named rom words list links l.from l.call (h.sound.steps head l is), other, λ call s. met call (by.all call s)) in
+        (step_named rom words list links l.from l.call (h.sound.steps head l is), other, λ call s. met call (by.all call s)) in
         record {
           sound = r.sound;
           framed = λ call f. still call.entry (h.framed call f);
@@ -149,9 +158,9 @@ module _ (rom : Rom) (words : List ℕ) (list : List Entry) where
       done_at e named (Some f) is there =
           let l = listed_at (entries_of links) e.addr e.key f is in
           let d = at_place (Done links) (entries_of links) f
-              (subst (AllByRecursion (Done links))
-              (take_all head (entries_of links) (subst (λ n. n ≤ head) (sym (length-map links (λ (x : Link). x.call.entry))) all))
-              h.shaped) l.listed in
+          (subst (AllByRecursion (Done links))
+          (take_all head (entries_of links) (subst (λ n. n ≤ head) (sym (length-map links (λ (x : Link). x.call.entry))) all))
+          h.shaped) l.listed in
           let same : f ≡ e = cc (d.0, l.addr_is, l.key_is, named) in
           subst (Done links) same d
 
@@ -160,7 +169,7 @@ module _ (rom : Rom) (words : List ℕ) (list : List Entry) where
       none_on [] e named there on = (done_at e named (entry_at (entries_of links) e.addr e.key) refl there).1 on
       none_on (call ∷ rest) e named there on =
           none_on rest call.entry (call_named (shape_context rom.machine list e) (rom_word rom) e.addr call on.0)
-              ((done_at e named (entry_at (entries_of links) e.addr e.key) refl there).2 call on.0) on.1
+          ((done_at e named (entry_at (entries_of links) e.addr e.key) refl there).2 call on.0) on.1
 
       pub no_chain : (calls : List Call) → IsChain rom words list calls goal → ⊥
       no_chain [] c = c
@@ -173,8 +182,8 @@ module _ (rom : Rom) (words : List ℕ) (list : List Entry) where
         → Comes links visited head → slice_get links k ≡ Some l → IsClaim l.call.entry
     reached_claim links visited head k l some h is =
         listed_claim list l.call.entry some
-            (listed_at list l.call.entry.addr l.call.entry.key l.call.entry
-            (step_named rom words list links l.from l.call (h.sound.steps k l is))).listed
+        (listed_at list l.call.entry.addr l.call.entry.key l.call.entry
+        (step_named rom words list links l.from l.call (h.sound.steps k l is))).listed
 
 -- ---- as the code adds links
 
@@ -184,5 +193,5 @@ pub called_claims : (c : Context) (word : Source) (first : ℕ) (calls : List Ca
 called_claims c word first calls some are =
     All-from_recursion (λ (x : Call). IsClaim x.entry) calls
     (all_map (Calls c word first) (λ x. IsClaim x.entry) calls
-        (λ x k. listed_claim c.list x.entry some
-        (named_listed c.list (target c.kind k.item.instr) (scale_before c k.earlier) x.entry k.callee_is)) are)
+    (λ x k. listed_claim c.list x.entry some
+    (named_listed c.list (target c.kind k.item.instr) (scale_before c k.earlier) x.entry k.callee_is)) are)

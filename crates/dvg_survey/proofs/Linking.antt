@@ -17,10 +17,21 @@ pub names_push : (names : List Bool) (links : List Link) (l : Link) → IsKey l.
     → AreNames (with_word names (name_of l.call.entry)) (links ++ l ∷ [])
 names_push names links l own lt h place k =
     ⊎_elim
-    (λ same. grind (arith, (there_append links (l ∷ []) place.0 place.1), (at_holds place.0 place.1 l.call.entry),
-        (get_or-set_same names (word_number (name_of l.call.entry)) true false lt), same))
-    (λ other. grind (arith, (there_append links (l ∷ []) place.0 place.1), (at_means place.0 place.1 l.call.entry),
-        (others_among names (name_of l.call.entry) place other), (h place k), other))
+    (λ same. grind (
+      arith,
+      (there_append links (l ∷ []) place.0 place.1),
+      (at_holds place.0 place.1 l.call.entry),
+      (get_or-set_same names (word_number (name_of l.call.entry)) true false lt),
+      same,
+    ))
+    (λ other. grind (
+      arith,
+      (there_append links (l ∷ []) place.0 place.1),
+      (at_means place.0 place.1 l.call.entry),
+      (others_among names (name_of l.call.entry) place other),
+      (h place k),
+      other,
+    ))
     (here_or_other names (name_of l.call.entry) own place k)
 
 -- of no links, there are none
@@ -39,7 +50,7 @@ pub reach_more : (links : List Link) (from : Option ℕ) (calls : List Call) (k 
     → new ≡ reach old (record { call = get_or calls k d; from = from }) → new ≡ reach_all links from (take (k + 1) calls)
 reach_more links from calls k d old new lt h e =
     e ∙ ap (λ ls. reach ls (record { call = get_or calls k d; from = from })) h
-        ∙ sym (ap (reach_all links from) (take_more calls k d lt) ∙ reach_push links from (take k calls) (get_or calls k d))
+    ∙ sym (ap (reach_all links from) (take_more calls k d lt) ∙ reach_push links from (take k calls) (get_or calls k d))
 
 -- what holds of the links where they have the entry, and of them with one more where they don't, holds of those reached
 pub reach_keeps : (P : List Link → Type 0) (links : List Link) (l : Link)

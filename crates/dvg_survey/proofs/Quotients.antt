@@ -10,9 +10,9 @@ quotient d = grind (arith, ints)
 module _ (w : Window) (x_low x_high y_low y_high a b c d x_min x_max y_min y_max : ℤ) (x_min_is : x_min ≡ w.x_min)
     (x_max_is : x_max ≡ w.x_max) (y_min_is : y_min ≡ w.y_min) (y_max_is : y_max ≡ w.y_max)
     (left : (x : ℤ) → (a ≤ℤ x) ↔ ((pos 1024 *ℤ x_min) ≤ℤ ((pos 1024 *ℤ x) +ℤ x_low)))
-        (right : (x : ℤ) → (x ≤ℤ b) ↔ (((pos 1024 *ℤ x) +ℤ x_high) ≤ℤ (pos 1024 *ℤ x_max)))
+    (right : (x : ℤ) → (x ≤ℤ b) ↔ (((pos 1024 *ℤ x) +ℤ x_high) ≤ℤ (pos 1024 *ℤ x_max)))
     (bottom : (y : ℤ) → (c ≤ℤ y) ↔ ((pos 1024 *ℤ y_min) ≤ℤ ((pos 1024 *ℤ y) +ℤ y_low)))
-        (top : (y : ℤ) → (y ≤ℤ d) ↔ (((pos 1024 *ℤ y) +ℤ y_high) ≤ℤ (pos 1024 *ℤ y_max)))
+    (top : (y : ℤ) → (y ≤ℤ d) ↔ (((pos 1024 *ℤ y) +ℤ y_high) ≤ℤ (pos 1024 *ℤ y_max)))
     (box : IsBox (Span x_low x_high y_low y_high)) (x y : ℤ) where
   abbrev InRanges : Type 0
   InRanges = (a ≤ℤ x) × (x ≤ℤ b) × (c ≤ℤ y) × (y ≤ℤ d)

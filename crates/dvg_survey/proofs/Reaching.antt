@@ -41,7 +41,7 @@ module _ (rom : Rom) (list : List Entry) (edge : Edge) (e : Entry) where
     none_on : (Reaches edge e.lit (relative_corners v.extent v.place) → ⊥) → NotSoFar (v.item ∷ w.items)
     none_on not = none_append edge e.lit _ _
         (subst (λ (x : Seen). Reaches edge e.lit (relative_corners x.extent x.place) → ⊥)
-            (seen_is here_in (rom_word rom) e.addr NotSoFar here w v s) not)
+        (seen_is here_in (rom_word rom) e.addr NotSoFar here w v s) not)
         w.holds
 
     pub none_past : (step : Step) → step ≡ step_past Shape v → IsSoundStep step
@@ -64,8 +64,11 @@ module _ (rom : Rom) (list : List Entry) (edge : Edge) (e : Entry) (most : ℕ) 
 
   pub starts_down : (map : MemoryMap) → IsCertificate map list → Contains list e → Down e 0
   starts_down map some listed =
-      record { claim = listed_claim list e (map, some) listed; goes =
-      λ left found all f. subst (λ (n : ℕ). FindsStroke n rom list edge e found) (omega (arith, all)) f }
+      record {
+        claim = listed_claim list e (map, some) listed;
+        goes =
+            λ left found all f. subst (λ (n : ℕ). FindsStroke n rom list edge e found) (omega (arith, all)) f;
+      }
 
   module _ (last : Entry) (count : ℕ) (down : Down last count) where
     pub one_down : (map : MemoryMap) (v : Seen) (called : Entry) → IsCertificate map list → FirstReaches rom list edge last v
@@ -76,17 +79,25 @@ module _ (rom : Rom) (list : List Entry) (edge : Edge) (e : Entry) (most : ℕ) 
               (named_listed list (target Shape v.item.instr) (scale_before (shape_context rom.machine list last) first.earlier) called
               (sym (ap (λ (x : Seen). x.callee) first.seen) ∙ is));
           goes = λ left found all f. down.goes (suc left) found (omega (arith, all))
-              (inr (v, first, subst (λ o. IfSome o (λ c. FindsStroke left rom list edge c found)) (sym is) f,
-                  subst (λ o. IfNone o (IsLitDraw v.item.instr × (found ≡ Some v.item))) (sym is) tt));
+              (inr (
+                v,
+                first,
+                subst (λ o. IfSome o (λ c. FindsStroke left rom list edge c found)) (sym is) f,
+                subst (λ o. IfNone o (IsLitDraw v.item.instr × (found ≡ Some v.item))) (sym is) tt,
+              ));
         }
 
     pub ends_here : count < most → (v : Seen) → FirstReaches rom list edge last v → v.callee ≡ None
         → FindsStroke most rom list edge e (Some v.item)
     ends_here lt v first is =
         down.goes (suc (most - suc count)) (Some v.item) (omega (arith, lt))
-        (inr (v, first, subst (λ o. IfSome o (λ c. FindsStroke (most - suc count) rom list edge c (Some v.item))) (sym is) tt,
-            subst (λ o. IfNone o (IsLitDraw v.item.instr × (Some v.item ≡ Some v.item))) (sym is)
-            (draws_lit rom list edge last v first is, refl)))
+        (inr (
+          v,
+          first,
+          subst (λ o. IfSome o (λ c. FindsStroke (most - suc count) rom list edge c (Some v.item))) (sym is) tt,
+          subst (λ o. IfNone o (IsLitDraw v.item.instr × (Some v.item ≡ Some v.item))) (sym is)
+              (draws_lit rom list edge last v first is, refl),
+        ))
 
     pub no_further : count < most → NoneReaches rom list edge last → FindsStroke most rom list edge e None
     no_further lt none = down.goes (suc (most - suc count)) None (omega (arith, lt)) (inl (none, refl))

@@ -30,7 +30,7 @@ module _ (w : Window) (rom : Rom) (list : List Entry) (marks : List Bool) (e : E
       → Past c (rom_word rom) e.addr (CleanItems w marks c) step
   clean_past here k v s step goes sound clean =
       past c (rom_word rom) e.addr (CleanItems w marks c) here k v s (CleanItems w marks c) step goes sound
-          (k.holds, subst (IsCleanItem w marks) (seen_is c (rom_word rom) e.addr (CleanItems w marks c) here k v s) clean)
+      (k.holds, subst (IsCleanItem w marks) (seen_is c (rom_word rom) e.addr (CleanItems w marks c) here k v s) clean)
 
   -- ---- what an entry that is not clean breaks
 
@@ -44,9 +44,13 @@ module _ (w : Window) (rom : Rom) (list : List Entry) (marks : List Bool) (e : E
       marked : (g : Entry) → callee c f.earlier f.item.instr ≡ Some g → (b : Bool) → is_broken marks g ≡ b → Breaks w rom list e
       marked g is true m =
           let b = all g (named_listed list (target Shape f.item.instr) (scale_before c f.earlier) g is) m in
-          record { calls = record { at = f.item.at; entry = g } ∷ b.calls; goal = b.goal; leads =
-              (record { earlier = f.earlier; item = f.item; leads = f.leads; stands = f.stands; at = refl; callee_is = is }, b.leads);
-              breaks = b.breaks }
+          record {
+            calls = record { at = f.item.at; entry = g } ∷ b.calls;
+            goal = b.goal;
+            leads =
+                (record { earlier = f.earlier; item = f.item; leads = f.leads; stands = f.stands; at = refl; callee_is = is }, b.leads);
+            breaks = b.breaks;
+          }
       marked g is false m = own_breaks f (λ lit. f.faulty (lit, subst (IsUnbroken marks) (sym is) m))
 
       by : (o : Option Entry) → callee c f.earlier f.item.instr ≡ o → Breaks w rom list e
@@ -79,9 +83,9 @@ module _ (w : Window) (rom : Rom) (list : List Entry) where
   more_break cert old new e is listed breaks all f f_listed m =
       ⊎_elim
       (λ (same : (f.addr, f.key) ≡ (e.addr, e.key)). subst (Breaks w rom list)
-          (sym (only list cert.1.rising e f listed f_listed (ap (λ (p : KeyedWord). p.0) same) (ap (λ (p : KeyedWord). p.1) same))) breaks)
+      (sym (only list cert.1.rising e f listed f_listed (ap (λ (p : KeyedWord). p.0) same) (ap (λ (p : KeyedWord). p.1) same))) breaks)
       (λ other. all f f_listed (sym (others_among old (e.addr, e.key) (f.addr, f.key) other)
-          ∙ ap (λ (marks : List Bool). is_broken marks f) (sym is) ∙ m))
+      ∙ ap (λ (marks : List Bool). is_broken marks f) (sym is) ∙ m))
       (here_or_other old (e.addr, e.key) (listed_claim list e cert listed).key (f.addr, f.key) (listed_claim list f cert f_listed).key)
 
   -- ---- a sweep
@@ -153,9 +157,9 @@ module _ (w : Window) (rom : Rom) (list : List Entry) where
   clean_keeps : (marks : List Bool) (e : Entry) → IsClean w rom list marks e → ShapeKeepsWindow w rom list e
   clean_keeps marks e clean items p at =
       let lit : (format : Format) (instr : Instr) → cell_at (rom_word rom) p ≡ Holds format instr
-          → LitInWindow w (extent (shape_context rom.machine list e) items instr)
-          (place_before (shape_context rom.machine list e) items) =
-          λ format instr is. (clean items (record { at = p; format = format; instr = instr }) at is).0 in
+      → LitInWindow w (extent (shape_context rom.machine list e) items instr)
+      (place_before (shape_context rom.machine list e) items) =
+      λ format instr is. (clean items (record { at = p; format = format; instr = instr }) at is).0 in
       grind (arith, cell_at, lit, seen_at)
 
   -- an entry that is not marked leads to none that breaks the rule
@@ -167,8 +171,8 @@ module _ (w : Window) (rom : Rom) (list : List Entry) where
       let k = leads.0 in
       let unbroken = subst (IsUnbroken marks) k.callee_is (clean e listed m k.earlier k.item k.leads k.stands).1 in
       unbroken_keeps marks clean rest call.entry goal
-          (named_listed list (target Shape k.item.instr) (scale_before (shape_context rom.machine list e) k.earlier) call.entry
-          k.callee_is) unbroken leads.1
+      (named_listed list (target Shape k.item.instr) (scale_before (shape_context rom.machine list e) k.earlier) call.entry
+      k.callee_is) unbroken leads.1
 
   pub told : (swept left : List Entry) (old new : List Bool) → Covered swept old → IsSwept w rom list swept left old new
       → length left ≡ length swept → TellsBroken w rom list new
@@ -188,12 +192,12 @@ pub places_next : (w : Window) (rom : Rom) (list given : List Entry) → given �
     → (n : ℕ) (d : Entry) → n < length given → (old new : List EntryPlaces) (p : EntryPlaces) → p.entry ≡ get_or given n d
     → new ≡ old ++ p ∷ []
     → ((rom : Rom) (list : List Entry) → Contains list (get_or given n d) → TellsBroken w rom list marks
-        → ArePlaces w rom list (get_or given n d) p.places) → IsNotEmpty p.places
+    → ArePlaces w rom list (get_or given n d) p.places) → IsNotEmpty p.places
     → AreAllPlaces w rom list (take n given) old → AreAllPlaces w rom list (take (n + 1) given) new
 places_next w rom list given same marks tells n d lt old new p entry adds places some h =
     let e : Entry = get_or given n d in
     let there : Contains given e = (n, lt, get_or_default given n e d lt) in
     let own : ArePlaces w rom list e p.places =
-        places rom list (subst (λ (l : List Entry). Contains l e) same there)
-        (subst (λ (l : List Entry). TellsBroken w rom l marks) same tells) in
+    places rom list (subst (λ (l : List Entry). Contains l e) same there)
+    (subst (λ (l : List Entry). TellsBroken w rom l marks) same tells) in
     rw (take_more given n d lt, adds) (all_push w rom list (take n given) old e p entry own some h)

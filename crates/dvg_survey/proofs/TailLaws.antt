@@ -10,7 +10,7 @@ pub seen_first : (machine : Machine) (list : List Entry) (key : Key) (i : Item) 
     → v ≡ seen_with machine named begin.known (record { at = begin.at; format = i.format; instr = i.instr })
     → begin ≡ first_cursor Shape 0 key
     → named ≡ callee_at list to key → to ≡ target Shape i.instr → (v.extent ≡ (first_seen machine list key i).extent)
-        × (v.after ≡ (first_seen machine list key i).after)
+    × (v.after ≡ (first_seen machine list key i).after)
 seen_first machine list key i named to begin v value begins names leads = grind (arith, callee_at, target)
 
 -- a tail's part is no further than the tail, and the place
@@ -89,11 +89,11 @@ module _ (rom : Rom) (list : List Entry) (key : Key) (i : Item) (next : ℕ) (li
         let part : List Point = absolute_from past.place (relative_of (seen_at in_tail rest j)) in
         let behind : List Point = absolute_from past.place (lit_points in_tail rest) in
         let both = subst (HoldsAll box) (absolute_from_both past.place (relative_of (seen_at in_tail rest j)) (lit_points in_tail rest))
-            k in
+        k in
         subst (λ (ps : List Point). HoldsAll box (ps ++ absolute_points in_whole (rest ++ i ∷ []))) (sym (absolute_one rest j))
         (all_append (InBox box) (here ++ part) (absolute_points in_whole (rest ++ i ∷ []))
-            (all_append (InBox box) here part (all_left (InBox box) here (absolute_points in_tail rest) h)
-            (all_left (InBox box) part behind both))
+        (all_append (InBox box) here part (all_left (InBox box) here (absolute_points in_tail rest) h)
+        (all_left (InBox box) part behind both))
         (absolute_into rest (all_right (InBox box) here (absolute_points in_tail rest) h) (all_right (InBox box) part behind both)))
 
     absolute_back : (rest : List Item) → HoldsAll box (absolute_points in_whole (rest ++ i ∷ []))
@@ -115,17 +115,17 @@ module _ (rom : Rom) (list : List Entry) (key : Key) (i : Item) (next : ℕ) (li
             whole.relative relative lone (relative_least past.place (lit_points in_tail t.items) tail.relative t.relative)
             (λ box h k. subst (HoldsAll box) (sym (relative_all t.items)) (all_append (InBox box) behind alone k h))
             (λ box h. all_right (InBox box) behind alone (subst (HoldsAll box) (relative_all t.items) h))
-                (λ box h. all_left (InBox box) behind alone (subst (HoldsAll box) (relative_all t.items) h));
+            (λ box h. all_left (InBox box) behind alone (subst (HoldsAll box) (relative_all t.items) h));
         absolute = both_least (absolute_points in_tail t.items) (absolute_from past.place (lit_points in_tail t.items))
             (absolute_points in_whole (t.items ++ i ∷ []))
             tail.absolute (absolute_part past.place tail.relative) whole.absolute absolute t.absolute
-                (absolute_least past.place (lit_points in_tail t.items) tail.relative t.relative)
+            (absolute_least past.place (lit_points in_tail t.items) tail.relative t.relative)
             (λ box. absolute_into box t.items) (λ box h. (absolute_back box t.items h).0) (λ box h. (absolute_back box t.items h).1);
         near = box_more ITEM_REACH (ADDRESS_END + 2 - next + 1) (ADDRESS_END + 2 - i.at) whole.relative
             (omega (arith, next_further Shape i next goes, near))
             (IsNearBox-joined (ADDRESS_END + 2 - next + 1) first (relative_part past.place tail.relative) whole.relative
             (box_more ITEM_REACH 1 (ADDRESS_END + 2 - next + 1) first (omega arith) small)
-                (part_near past.place tail.relative (ADDRESS_END + 2 - next) place t.near)
+            (part_near past.place tail.relative (ADDRESS_END + 2 - next) place t.near)
             relative.first relative.second relative.least);
       }
     where

@@ -27,11 +27,23 @@ module _ (rom : Rom) (list : List Entry) (key : Key) (i : Item) (is : cell_at (r
       (λ (h : (earlier ≡ []) × (j.at ≡ i.at)).
       let same : j ≡ i = item_same j i h.1 (sym lead.1 ∙ ap (cell_at (rom_word rom)) h.1 ∙ is) in
       let items : j ∷ earlier ≡ i ∷ [] = cc (same, h.0) in
-      inr (record { next = p; goes = ap (next_address Shape) (sym same) ∙ lead.2; rest = []; leads = refl; scale =
-          ap (scale_before (keyed rom.machine list key)) items }))
+      inr (record {
+        next = p;
+        goes = ap (next_address Shape) (sym same) ∙ lead.2;
+        rest = [];
+        leads = refl;
+        scale =
+            ap (scale_before (keyed rom.machine list key)) items;
+      }))
       (λ (b : Behind earlier j.at). inr
-          (record { next = b.next; goes = b.goes; rest = j ∷ b.rest; leads = (b.leads, lead.1, lead.2); scale =
-          ap (λ (k : Key). unwrap_or (scale_set j.instr (callee_at list (target Shape j.instr) k)) k) b.scale }))
+      (record {
+        next = b.next;
+        goes = b.goes;
+        rest = j ∷ b.rest;
+        leads = (b.leads, lead.1, lead.2);
+        scale =
+            ap (λ (k : Key). unwrap_or (scale_set j.instr (callee_at list (target Shape j.instr) k)) k) b.scale;
+      }))
       (split earlier j.at lead.0)
 
   -- the item's own
@@ -44,8 +56,19 @@ module _ (rom : Rom) (list : List Entry) (key : Key) (i : Item) (is : cell_at (r
 
   own_or_further : (call : Call) → CallsFrom rom list (i.at, key) call → IsOwn call ⊎ IsFurther call
   own_or_further call c =
-      grind (arith, (split c.earlier c.item.at c.leads), item_same, (cell_at (rom_word rom)), (rom_word rom), callee_at, target,
-      (target Shape c.item.instr), scale_before, (keyed rom.machine list key), (callee_at list (target Shape c.item.instr)))
+      grind (
+        arith,
+        (split c.earlier c.item.at c.leads),
+        item_same,
+        (cell_at (rom_word rom)),
+        (rom_word rom),
+        callee_at,
+        target,
+        (target Shape c.item.instr),
+        scale_before,
+        (keyed rom.machine list key),
+        (callee_at list (target Shape c.item.instr)),
+      )
 
 -- from a place where no item stands there are none
 module _ (rom : Rom) (at : ℕ) (none : (format : Format) (instr : Instr) → cell_at (rom_word rom) at ≡ Holds format instr → ⊥) where
@@ -119,22 +142,24 @@ module _ (rom : Rom) (list : List Entry) (e : Entry) (old : List Bool) where
         own_more = subst (AllByRecursion (IsShapeCall rom list e)) (sym grown)
             (all_append (IsShapeCall rom list e) calls (call_of item callee) g.own
             (one_call (shape_context rom.machine list e) (rom_word rom) e.addr item g.items (g.leads, stands) callee
-                (ap (callee_at list (target Shape instr)) (sym g.knows) ∙ sym callee_is)))
+            (ap (callee_at list (target Shape instr)) (sym g.knows) ∙ sym callee_is)))
 
         covered : (all : List Call) → ((call : Call) → Contains more call → Contains all call)
             → ((call : Call) → IsFurther rom list scale item stands call → IsMet rom list old all call)
             → AllMet rom list old all (e.addr, e.key) × ((place : KeyedWord) → HasWord new place → AllMet rom list old all place)
         covered all within met =
             let among : (call : Call) → Contains (calls ++ call_of item callee) call → Contains all call =
-                λ call h. within call (subst (λ (cs : List Call). Contains cs call) (sym grown) h) in
+            λ call h. within call (subst (λ (cs : List Call). Contains cs call) (sym grown) h) in
             let met_here : AllMet rom list old all here = λ call c. ⊎_elim
             (λ o. inl (among call (Contains-append_right calls (call_of item callee) call
-                (at_call item call callee o.0 (callee_is ∙ o.1)))))
+            (at_call item call callee o.0 (callee_is ∙ o.1)))))
             (met call)
             (own_or_further rom list scale item stands call c) in
-            let both = g.covers all (λ call h. among call (Contains-append_left calls (call_of item callee) call h)) met_here in
-            (both.0, λ place there. ⊎_elim (both.1 place) (λ same. subst (AllMet rom list old all) (sym same) met_here)
-                (now_or_here place there))
+            let both = g.covers all (λ call h. among call (Contains-append_left calls (call_of item callee) call h)) met_here in (
+              both.0,
+              λ place there. ⊎_elim (both.1 place) (λ same. subst (AllMet rom list old all) (sym same) met_here)
+                  (now_or_here place there),
+            )
 
         pub walks_on : (past : Key) (next : ℕ) → past ≡ unwrap_or (scale_set instr callee) scale → IsKey past
             → next_address Shape item ≡ Some next → Goes new more next past

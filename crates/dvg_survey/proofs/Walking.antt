@@ -32,8 +32,15 @@ module _ (kind : Kind) (word : Source) (first at : ℕ) (items : List Item) wher
   pub none_past : (p : ℕ) → LeadsTo kind word first items p → AreAll kind word first items → NoneAt at items → (p ≡ at → ⊥)
       → NoneLead kind word first at
   none_past p leads all passed other others h =
-      grind (arith, shorter, no_more, (stand_before kind word first others), (same_lead kind word first others items),
-      (cases_lt (length items) (length others)), (cases_lt (length others) (length items)))
+      grind (
+        arith,
+        shorter,
+        no_more,
+        (stand_before kind word first others),
+        (same_lead kind word first others items),
+        (cases_lt (length items) (length others)),
+        (cases_lt (length others) (length items)),
+      )
 
   -- the next item is the last one, and neither it nor one before it stands here
   pub none_after : (i : Item) → LeadsTo kind word first items i.at → cell_at word i.at ≡ Holds i.format i.instr
@@ -86,11 +93,23 @@ module _ (c : Context) (word : Source) (first : ℕ) (P : List Item → Type 0) 
           record {
             on = λ next is.
                 let on = leads_on c.kind v step next is goes in
-                record { items = v.item ∷ w.items; leads = (here_leads, here_stands, on.0); knows =
-                    on.1 ∙ ap (λ (x : Seen). x.after) seen_is; sound = subst IsSoundStep is sound; holds = h };
-            last = λ known is. (v.item ∷ w.items,
-                record { stand = (here_leads, here_stands); last = λ i k. let no : None ≡ Some i.at =
-                sym (ends_at c.kind v step known is goes).0 ∙ k.0.2 in cc no }, h);
+                record {
+                  items = v.item ∷ w.items;
+                  leads = (here_leads, here_stands, on.0);
+                  knows =
+                      on.1 ∙ ap (λ (x : Seen). x.after) seen_is;
+                  sound = subst IsSoundStep is sound;
+                  holds = h;
+                };
+            last = λ known is. (
+              v.item ∷ w.items,
+              record {
+                stand = (here_leads, here_stands);
+                last = λ i k. let no : None ≡ Some i.at =
+                    sym (ends_at c.kind v step known is goes).0 ∙ k.0.2 in cc no;
+              },
+              h,
+            );
           }
 
 -- past an item, what all items so far light and come to
@@ -101,13 +120,13 @@ module _ (c : Context) (word : Source) (first : ℕ) (here : Cursor) (v : Seen) 
   lit_past old new w grows =
       past c word first (Lights c old) here w v s (Lights c new) step goes sound
       (subst (λ (x : Seen). IsLeast (absolute_corners x.extent x.place ++ absolute_points c w.items) new)
-          (seen_is c word first (Lights c old) here w v s) (grows (absolute_points c w.items) w.holds))
+      (seen_is c word first (Lights c old) here w v s) (grows (absolute_points c w.items) w.holds))
 
   pub survey_past : (old new : FrameSurvey) → Walked c word first (Surveys c old) here → IsSurveyPast old v here.known.scale new
       → Past c word first (Surveys c new) step
   survey_past old new w more =
       let among : IsSurveyAmong c (v.item ∷ w.items) new =
-          grind (arith, call_of, calls_among, (seen_is c word first (Surveys c old) here w v s)) in
+      grind (arith, call_of, calls_among, (seen_is c word first (Surveys c old) here w v s)) in
       past c word first (Surveys c old) here w v s (Surveys c new) step goes sound among
 
   pub losses_past : (at : ℕ) (old new : Losses) → Walked c word first (Loses c at old) here → (here.at ≡ at → ⊥)
@@ -122,8 +141,8 @@ module _ (c : Context) (word : Source) (first : ℕ) (here : Cursor) (v : Seen) 
       → step ≡ Last known → NoneLead c.kind word first at
   none_last at old w other known is =
       none_after c.kind word first at w.items v.item (here_leads c word first (Loses c at old) here w v s)
-          (here_stands c word first (Loses c at old) here w v s) (ends_at c.kind v step known is goes).0
-          (w.holds.2, λ e. other (sym s.at ∙ e))
+      (here_stands c word first (Loses c at old) here w v s) (ends_at c.kind v step known is goes).0
+      (w.holds.2, λ e. other (sym s.at ∙ e))
 
 -- nothing needs no box
 pub least_none : IsLeast [] Empty

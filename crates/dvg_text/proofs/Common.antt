@@ -27,8 +27,24 @@ pub use Rattle.dvg_text.specs.Reading.{Line, EntryLine, DoneLine, IsLine, Taken,
 pub use Rattle.dvg_text.specs.Grammar.{first_version_line, second_version_line, done_line, ended, text_of, address_token, key_token, rom_line, heading, entry_line, end_tokens, box_tokens, entry_tokens, Spells}
 pub use Rattle.dvg_cert.specs.declared.fault.CertWhy.TheVariants.{Form, Order, Count, After, TooLong, Memory, Unended}
 pub use Rattle.dvg_text.specs.Limits.{LONGEST_LINE, LINE_FEED, MOST_MAGNITUDE, SPACE}
-unfoldable pub use Rattle.dvg_text.specs.Private.Fields.{natural_in, address_in, rom_at, past, digits_off, natural_at, digit_at,
-    address_at, key_at, number_at, two_at, end_at, span_at, box_at, entry_at, done_at}
+unfoldable pub use Rattle.dvg_text.specs.Private.Fields.{
+  natural_in,
+  address_in,
+  rom_at,
+  past,
+  digits_off,
+  natural_at,
+  digit_at,
+  address_at,
+  key_at,
+  number_at,
+  two_at,
+  end_at,
+  span_at,
+  box_at,
+  entry_at,
+  done_at,
+}
 pub use Rattle.dvg_cert.specs.Entry.{IsNumber, IsKey, IsEnd, IsBox}
 pub use Rattle.dvg_cert.specs.declared.entry.Entry.{Entry}
 pub use Rattle.dvg_text.specs.Private.Fields.{NoDigitFirst, hex_value, nothing_left}

@@ -14,7 +14,7 @@ pub free_none : (c : ℕ) (xs : List ℕ) → position (λ b. b == c) xs ≡ Non
 free_none c xs e =
     let far : length xs ≤ position_or_len (λ b. b == c) xs = grind (arith, nat_tests) in
     subst (Without c) (take-length xs)
-        (free c (length xs) xs (omega arith) (λ k lt. fails_before_first (λ b. b == c) xs k 0 (omega (arith, far))))
+    (free c (length xs) xs (omega arith) (λ k lt. fails_before_first (λ b. b == c) xs k 0 (omega (arith, far))))
 
 -- where the byte stands first, looked for in the prefix alone
 pub found_in_prefix : (c n : ℕ) (xs : List ℕ) (i : ℕ) → n ≤ length xs → position (λ b. b == c) (take n xs) ≡ Some i
@@ -22,9 +22,11 @@ pub found_in_prefix : (c n : ℕ) (xs : List ℕ) (i : ℕ) → n ≤ length xs 
 found_in_prefix c n xs i le e =
     let p = position-Some (λ b. b == c) (take n xs) i 0 e in
     let lt : i < n = omega (arith, p.0, length-take-le n xs le) in
-    let at : get_or xs i 0 ≡ c = sym (get_or-take n xs i 0 lt) ∙ eqb-true (get_or (take n xs) i 0) c p.1 in
-    (sym (take-append-drop i xs) ∙ rw (drop-cons xs i 0 (omega arith), at, add-one) refl,
-        free c i xs (omega arith) (λ k less. ap (λ (b : ℕ). b == c) (sym (get_or-take n xs k 0 (omega arith))) ∙ p.2 k less), lt)
+    let at : get_or xs i 0 ≡ c = sym (get_or-take n xs i 0 lt) ∙ eqb-true (get_or (take n xs) i 0) c p.1 in (
+      sym (take-append-drop i xs) ∙ rw (drop-cons xs i 0 (omega arith), at, add-one) refl,
+      free c i xs (omega arith) (λ k less. ap (λ (b : ℕ). b == c) (sym (get_or-take n xs k 0 (omega arith))) ∙ p.2 k less),
+      lt,
+    )
 
 -- the same in all bytes
 pub found_at : (c : ℕ) (xs : List ℕ) (i : ℕ) → position (λ b. b == c) xs ≡ Some i → (xs ≡ take i xs ++ c ∷ drop (i + 1) xs)
@@ -34,9 +36,17 @@ found_at c xs i e = found_in_prefix c (length xs) xs i (omega arith) (ap (positi
 -- what memchr finds
 pub first_byte : (c : ℕ) (xs : List ℕ) (r : Option ℕ) → IsFirstByte (is_byte c) xs r → r ≡ position (λ b. b == c) xs
 first_byte c xs None h =
-    grind (arith, nat_tests, (position_or_len_is (λ b. b == c) xs (length xs) 0 (omega arith)
-    (λ k lt. grind (arith, (h k (omega arith) lt))) (λ lt. absurd (omega arith))))
+    grind (
+      arith,
+      nat_tests,
+      (position_or_len_is (λ b. b == c) xs (length xs) 0 (omega arith)
+          (λ k lt. grind (arith, (h k (omega arith) lt))) (λ lt. absurd (omega arith))),
+    )
 first_byte c xs (Some i) h =
-    grind (arith, nat_tests, (h.0.high),
-    (position_or_len_is (λ b. b == c) xs i 0 (omega (arith, h.0.high)) (λ k lt. grind (arith, (h.0.before k (omega arith) lt)))
-    (λ lt. h.1)))
+    grind (
+      arith,
+      nat_tests,
+      (h.0.high),
+      (position_or_len_is (λ b. b == c) xs i 0 (omega (arith, h.0.high)) (λ k lt. grind (arith, (h.0.before k (omega arith) lt)))
+          (λ lt. h.1)),
+    )

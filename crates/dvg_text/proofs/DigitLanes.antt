@@ -48,7 +48,7 @@ at_most x y = cond (leb x y) 255 0
 lanes_are : (xs : List ℕ) → length xs ≡ 16 → zip2 at_most (replicate 16 10) (zip2 minus xs (replicate 16 48)) ≡ map lane xs
 lanes_are xs long =
     ap (zip2 at_most (replicate 16 10)) (zip2_splat minus xs 16 48 long)
-        ∙ zip2_splat_left at_most 10 16 (map (λ x. minus x 48) xs) (length-map xs (λ x. minus x 48) ∙ long)
+    ∙ zip2_splat_left at_most 10 16 (map (λ x. minus x 48) xs) (length-map xs (λ x. minus x 48) ∙ long)
     ∙ map-map (at_most 10) (λ x. minus x 48) xs
 
 pub counted : (xs : List ℕ) (n : ℕ) → length xs ≡ 16
@@ -58,7 +58,7 @@ pub counted : (xs : List ℕ) (n : ℕ) → length xs ≡ 16
 counted xs n long e =
     let mask : mask_l (map (top 7) (zip2 at_most (replicate 16 10) (zip2 minus xs (replicate 16 48)))) % 2 ^ 64 ≡ mask_l (map other xs) =
     ap (λ l. mask_l (map (top 7) l) % 2 ^ 64) (lanes_are xs long) ∙ ap (λ l. mask_l l % 2 ^ 64) (all_tops xs)
-        ∙ mask_l-mod (map other xs) 64 (omega (arith, length-map xs other, long)) in
+    ∙ mask_l-mod (map other xs) 64 (omega (arith, length-map xs other, long)) in
     e ∙ ap (λ m. cond (eqb m 0) 16 (count_trailing_zeros 64 m)) mask ∙ first_set_mask_l other xs 16 long (omega arith)
 
 pub lanes : (xs : List ℕ) (n : ℕ) → length xs ≡ 16 → ((k : ℕ) → get_or xs k 0 < 256)

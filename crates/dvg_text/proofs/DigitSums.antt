@@ -43,7 +43,7 @@ seconds_of : (a b c d e f g h w : ℕ) → a < 256 → b < 256 → c < 256 → d
 seconds_of a b c d e f g h w A B C D E F G H is =
     let parts : w ≡ (((g + 256 * h) * 2 ^ 16 + (e + 256 * f)) * 2 ^ 16 + (c + 256 * d)) * 2 ^ 16 + (a + 256 * b) = omega arith in
     ap (λ (x : ℕ). bit_and x Seconds) parts
-        ∙ low_bytes (a + 256 * b) (c + 256 * d) (e + 256 * f) (g + 256 * h) (omega arith) (omega arith) (omega arith) ∙ omega arith
+    ∙ low_bytes (a + 256 * b) (c + 256 * d) (e + 256 * f) (g + 256 * h) (omega arith) (omega arith) (omega arith) ∙ omega arith
 
 -- each pair, with a hundred times the one before it
 abbrev fours : ℕ → ℕ
@@ -63,7 +63,7 @@ number_is a b c d e f g h w A B C D E F G H is =
     let pairs = seconds_of (10 * a + b) (10 * b + c) (10 * c + d) (10 * d + e) (10 * e + f) (10 * f + g) (10 * g + h) 0 (sums w)
     (omega arith) (omega arith) (omega arith) (omega arith) (omega arith) (omega arith) (omega arith) (omega arith) all in
     let at = fours_are (10 * a + b) (10 * c + d) (10 * e + f) (10 * g + h) (bit_and (sums w) Seconds) (omega arith) (omega arith)
-        (omega arith) (omega arith) pairs in
+    (omega arith) (omega arith) pairs in
     rw (at.0, at.1) (omega arith)
 
 -- ---- of bytes
@@ -91,9 +91,10 @@ parts : (n j : ℕ) (xs : List ℕ) → n ≤ length xs → AllDigits 10 (take n
 parts zero j xs le ds = (omega (arith, ap zeros {x = 0 + j} {y = j} (omega arith)), omega arith)
 parts (suc n) j [] le ds = absurd (omega arith)
 parts (suc n) j (x ∷ xs) le ds =
-    let r = parts n j xs (omega arith) ds.1 in
-    (omega (arith, digit_value_digit x (digit_from_value x ds.0), r.0, ap zeros {x = suc n + j} {y = suc (n + j)} (omega arith)),
-    omega (arith, ds.0, r.1))
+    let r = parts n j xs (omega arith) ds.1 in (
+      omega (arith, digit_value_digit x (digit_from_value x ds.0), r.0, ap zeros {x = suc n + j} {y = suc (n + j)} (omega arith)),
+      omega (arith, ds.0, r.1),
+    )
 
 abbrev little : List ℕ → ℕ
 little xs = slice_index xs 0 + slice_index xs 1 * 256 + slice_index xs 2 * 65536 + slice_index xs 3 * 16777216 + slice_index xs 4 *
@@ -123,13 +124,13 @@ moved_is k v t w few lt is =
     let all : 2 ^ a * 2 ^ b ≡ 2 ^ 64 = sym (pow-add 2 a b) ∙ ap (λ (i : ℕ). 2 ^ i) {y = 64} (omega arith) in
     let spread : (v + t * 2 ^ a) * 2 ^ b ≡ v * 2 ^ b + t * 2 ^ 64 = grind (arith, all) in
     rw (is, shifted_is k a t refl) (mul-mod_first (v + t * 2 ^ a) (2 ^ b) (2 ^ 64)) ∙ ap (λ (x : ℕ). x % 2 ^ 64) spread
-        ∙ add-mul-mod_self_right (v * 2 ^ b) t (2 ^ 64)
+    ∙ add-mul-mod_self_right (v * 2 ^ b) t (2 ^ 64)
     ∙ shl_exact a b 64 (omega (arith, lt, shifted_is k a 1 refl)) (omega arith) ∙ sym (shifted_is (8 - k) b v (omega arith))
 
 -- zeros before the digits
 padded : (k : ℕ) (ds : List ℕ) → AllDigits 10 ds → AllDigits 10 (replicate k 48 ++ ds)
     × (word (map digit_value (replicate k 48 ++ ds)) ≡ shifted k (word (map digit_value ds)))
-        × (digits_value 10 (replicate k 48 ++ ds) ≡ digits_value 10 ds)
+    × (digits_value 10 (replicate k 48 ++ ds) ≡ digits_value 10 ds)
 padded zero ds all = (all, refl, refl)
 padded (suc k) ds all = let r = padded k ds all in ((omega arith, r.0), omega (arith, r.1), r.2)
 
@@ -145,9 +146,9 @@ value_of xs count w long some few ds is =
     let q = parts count (8 - count) xs (omega arith) ds in
     let all : zeros (count + (8 - count)) ≡ zeros 8 = ap zeros {y = 8} (omega arith) in
     let full : length (replicate (8 - count) 48 ++ take count xs) ≡ 8 =
-        simp (length-append, length-replicate) (omega (arith, length-take-le count xs (omega arith))) in
+    simp (length-append, length-replicate) (omega (arith, length-take-le count xs (omega arith))) in
     let up = moved_is count (values count xs) (word (drop count xs) + zeros (8 - count) + 1) w few q.1
-        (omega (arith, is, little_is xs long, q.0, all)) in
+    (omega (arith, is, little_is xs long, q.0, all)) in
     number_of (replicate (8 - count) 48 ++ take count xs) (moved count w) full p.0 (up ∙ sym p.1) ∙ p.2
 
 -- ---- more than eight digits
@@ -161,8 +162,14 @@ after : (n : ℕ) (ds : List ℕ) → digits_value_after 10 n ds ≡ n * 10 ^ le
 after n [] = omega arith
 after n (d ∷ ds) =
     let p : ℕ = 10 ^ length ds in
-    omega (arith, after (n * 10 + digit_value d) ds, after (0 * 10 + digit_value d) ds, add-mul (n * 10) (digit_value d) p,
-        mul_assoc n 10 p, ap (λ (x : ℕ). n * x) (pow-succ' 10 (length ds)))
+    omega (
+      arith,
+      after (n * 10 + digit_value d) ds,
+      after (0 * 10 + digit_value d) ds,
+      add-mul (n * 10) (digit_value d) p,
+      mul_assoc n 10 p,
+      ap (λ (x : ℕ). n * x) (pow-succ' 10 (length ds)),
+    )
 
 after_both : (n : ℕ) (xs ys : List ℕ)
     → digits_value_after 10 n (xs ++ ys) ≡ digits_value_after 10 n xs * 10 ^ length ys + digits_value 10 ys
@@ -176,20 +183,23 @@ first_digits n xs ys le e = ap (take n) e ∙ take-take n 8 xs le
 pub halves : (count : ℕ) (xs : List ℕ) → 8 ≤ count → count ≤ 16 → count ≤ length xs → AllDigits 10 (take count xs)
     → AllDigits 10 (take (count - 8) (take 8 (drop 0 xs))) × AllDigits 10 (take 8 (take 8 (drop (count - 8) xs)))
     × (digits_value 10 (take (count - 8) (take 8 (drop 0 xs))) < 100000000)
-        × (digits_value 10 (take 8 (take 8 (drop (count - 8) xs))) < 100000000)
+    × (digits_value 10 (take 8 (take 8 (drop (count - 8) xs))) < 100000000)
     × (digits_value 10 (take count xs)
-        ≡ digits_value 10 (take (count - 8) (take 8 (drop 0 xs))) * 100000000 + digits_value 10 (take 8 (take 8 (drop (count - 8) xs))))
+    ≡ digits_value 10 (take (count - 8) (take 8 (drop 0 xs))) * 100000000 + digits_value 10 (take 8 (take 8 (drop (count - 8) xs))))
 halves count xs more few le h =
     let k : ℕ = count - 8 in
     let whole : take count xs ≡ take k (take 8 xs) ++ take 8 (take 8 (drop k xs)) =
-        ap (λ (n : ℕ). take n xs) {y = k + 8} (omega arith) ∙ take-add k 8 xs
-        ∙ rw (take-take k 8 xs (omega arith), take-take 8 8 (drop k xs) (omega arith)) refl in
+    ap (λ (n : ℕ). take n xs) {y = k + 8} (omega arith) ∙ take-add k 8 xs
+    ∙ rw (take-take k 8 xs (omega arith), take-take 8 8 (drop k xs) (omega arith)) refl in
     let d = both_digits (take k (take 8 xs)) (take 8 (take 8 (drop k xs))) (subst (AllDigits 10) whole h) in
     let eight : length (take 8 (take 8 (drop k xs))) ≡ 8 = grind (arith, take-take, length-take-le, length-drop) in
-    let short : length (take k (take 8 xs)) ≤ 8 = grind (arith, take-take, length-take-le) in
-    (d.0, d.1, digits_value_short own (take k (take 8 xs)) 8 d.0 short,
-        digits_value_short own (take 8 (take 8 (drop k xs))) 8 d.1 (omega (arith, eight)),
-        ap (digits_value 10) whole ∙ rw eight at (after_both 0 (take k (take 8 xs)) (take 8 (take 8 (drop k xs)))))
+    let short : length (take k (take 8 xs)) ≤ 8 = grind (arith, take-take, length-take-le) in (
+      d.0,
+      d.1,
+      digits_value_short own (take k (take 8 xs)) 8 d.0 short,
+      digits_value_short own (take 8 (take 8 (drop k xs))) 8 d.1 (omega (arith, eight)),
+      ap (digits_value 10) whole ∙ rw eight at (after_both 0 (take k (take 8 xs)) (take 8 (take 8 (drop k xs)))),
+    )
 
 -- ---- the digits among the first sixteen bytes
 

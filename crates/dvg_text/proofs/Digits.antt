@@ -25,8 +25,19 @@ not_long ds n le d =
 
 pub no_zero : (ds : List ℕ) (n : ℕ) → n ≤ MOST_MAGNITUDE → ds ≡ decimal n → get_or ds 0 0 ≡ 48 → length ds ≡ 1
 no_zero ds n le d z =
-    grind (arith, nat_lt, rules, common_steps, first_digit, digits_value, decimal_is_IsNumeral, digits_value-lt, length-decimal-le,
-    nat_tests, not_long)
+    grind (
+      arith,
+      nat_lt,
+      rules,
+      common_steps,
+      first_digit,
+      digits_value,
+      decimal_is_IsNumeral,
+      digits_value-lt,
+      length-decimal-le,
+      nat_tests,
+      not_long,
+    )
 
 pub spells : (ds : List ℕ) → AllDigits 10 ds → 0 < length ds → (get_or ds 0 0 ≡ 48 → length ds ≡ 1) → length ds ≤ 13
     → ds ≡ decimal (digits_value 10 ds)

@@ -44,8 +44,8 @@ line_read : (line more begun : Text) (t : Taken) → IsUnended t → Without LIN
 line_read [] more begun t u free short = ap (read more t) (sym (append-nil begun))
 line_read (b ∷ line) more begun t u free short =
     rw (in_line t begun b u free.0 (omega arith))
-        (line_read line more (begun ++ b ∷ []) t u free.1 (omega (arith, length-append begun (b ∷ []))))
-        ∙ ap (read more t) (append_assoc begun (b ∷ []) line)
+    (line_read line more (begun ++ b ∷ []) t u free.1 (omega (arith, length-append begun (b ∷ []))))
+    ∙ ap (read more t) (append_assoc begun (b ∷ []) line)
 
 ended_read : (line more : Text) (t new : Taken) → IsUnended t → Without LINE_FEED line → length line < LONGEST_LINE
     → next t line ≡ Ok new → read (ended line ++ more) t [] ≡ read more new []
@@ -62,8 +62,8 @@ entries_read map (f ∷ fs) es more h =
     let one = append_assoc es (f ∷ []) fs in
     ap (λ (x : Text). read x (Begun map es) []) (append_assoc (ended (entry_line f)) tail more)
     ∙ ended_read (entry_line f) (tail ++ more) (Begun map es) (Begun map (es ++ f ∷ [])) tt
-        (line_free (entry_tokens f) (graphics_entry map.rom_first map.rom_last f fits))
-        (omega (arith, length_entry map.rom_first map.rom_last f fits)) (entry_next map es fs f h)
+    (line_free (entry_tokens f) (graphics_entry map.rom_first map.rom_last f fits))
+    (omega (arith, length_entry map.rom_first map.rom_last f fits)) (entry_next map es fs f h)
     ∙ entries_read map fs (es ++ f ∷ []) more (rw one h) ∙ ap (λ (l : List Entry). read more (Begun map l) []) one
 
 begun_read : (here : Bool) (map : MemoryMap) (es : List Entry) (more : Text) → is_asteroids map ≡ here → IsCertificate map es
@@ -72,12 +72,12 @@ unfolding begun_with
 begun_read true map es more e h =
     let tail : Text = flat_map (λ e. ended (entry_line e)) es ++ more in
     rw e (ended_read first_version_line tail Nothing (Begun asteroids []) tt version_free.0 (omega arith) refl
-        ∙ ap (λ (m : MemoryMap). read tail (Begun m []) []) (sym (asteroids_is map e)) ∙ entries_read map es [] more h)
+    ∙ ap (λ (m : MemoryMap). read tail (Begun m []) []) (sym (asteroids_is map e)) ∙ entries_read map es [] more h)
 begun_read false map es more e h =
     let tail : Text = flat_map (λ e. ended (entry_line e)) es ++ more in
     rw e (ended_read second_version_line (ended (rom_line map) ++ tail) Nothing Versioned tt version_free.1 (omega arith) refl
     ∙ ended_read (rom_line map) tail Versioned (Begun map []) tt (rom_free map) (omega arith) (rom_next map (h.map_is, e))
-        ∙ entries_read map es [] more h)
+    ∙ entries_read map es [] more h)
 
 taken_read : (t : Taken) (more : Text) → IsTaken t → read (text_taken t ++ more) Nothing [] ≡ read more t []
 taken_read Nothing more h = refl
@@ -86,9 +86,9 @@ taken_read (Begun map es) more h = begun_read (is_asteroids map) map es more ref
 taken_read (Whole map es) more h =
     let n : ℕ = length es in
     let free = line_free (codes "done" ∷ decimal n ∷ [])
-        ((lit< tt, (lit< tt, (lit< tt, (lit< tt, tt)))), (graphic_decimal n (omega (arith, h.few)), tt)) in
+    ((lit< tt, (lit< tt, (lit< tt, (lit< tt, tt)))), (graphic_decimal n (omega (arith, h.few)), tt)) in
     rw append_assoc (begun_read (is_asteroids map) map es (ended (done_line n) ++ more) refl h)
-        ∙ ended_read (done_line n) more (Begun map es) (Whole map es) tt free (omega (arith, length_done n h.few)) (done_next map es h)
+    ∙ ended_read (done_line n) more (Begun map es) (Whole map es) tt free (omega (arith, length_done n h.few)) (done_next map es h)
 
 held_read : (text more : Text) (t : Taken) (rest : Text) → Holds text t rest → read (text ++ more) Nothing [] ≡ read more t rest
 held_read text more (Whole map es) rest h =
@@ -97,7 +97,7 @@ held_read text more (Whole map es) rest h =
     ∙ ap (read more (Whole map es)) (sym h.begun)
 held_read text more t rest h =
     ap (λ (x : Text). read (x ++ more) Nothing []) h.parts ∙ ap (λ (x : Text). read x Nothing []) (append_assoc (text_taken t) rest more)
-        ∙ taken_read t (rest ++ more) h.lines ∙ line_read rest more [] t tt h.begun.0 (omega (arith, h.begun.1))
+    ∙ taken_read t (rest ++ more) h.lines ∙ line_read rest more [] t tt h.begun.0 (omega (arith, h.begun.1))
 
 pub read_held : (text : Text) (t : Taken) (rest : Text) → Holds text t rest → read text Nothing [] ≡ Ok (t, rest)
 read_held text t rest h = ap (λ (x : Text). read x Nothing []) (sym (append-nil text)) ∙ held_read text [] t rest h
@@ -145,8 +145,12 @@ more_is text t rest b u other room k =
     let s = rest_free t rest k.holds.begun in
     let more = length-append rest (b ∷ []) in
     let free = Without-append LINE_FEED rest (b ∷ []) s.0 (ne_eqb b LINE_FEED other, tt) in record {
-      holds = record { parts = ap (λ (x : Text). x ++ b ∷ []) k.holds.parts ∙ append_assoc (text_taken t) rest (b ∷ []); lines =
-          k.holds.lines; begun = rest_of t (rest ++ b ∷ []) u free (omega (arith, s.1, room, more)) };
+      holds = record {
+        parts = ap (λ (x : Text). x ++ b ∷ []) k.holds.parts ∙ append_assoc (text_taken t) rest (b ∷ []);
+        lines =
+            k.holds.lines;
+        begun = rest_of t (rest ++ b ∷ []) u free (omega (arith, s.1, room, more));
+      };
       ends = k.ends ∙ rw (ends_push text b, ne_eqb b LINE_FEED other) (omega arith);
       short = omega (arith, k.short, more, length-append text (b ∷ []));
     }

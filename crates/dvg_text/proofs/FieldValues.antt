@@ -5,8 +5,16 @@ pub natural_some : (low high n : ℕ) (token : List ℕ) → n < 2 ^ 64 → low 
     → natural_in low high token ≡ Some n
 unfolding natural_in
 natural_some low high n token small from to e =
-    grind (arith, (digits_value 10 token), (digits_value 10), (decimal_is_IsNumeral n small), (bytes_eq (decimal n) token), (decimal n),
-    (bytes_eq-Decides (decimal n) token), nat_tests)
+    grind (
+      arith,
+      (digits_value 10 token),
+      (digits_value 10),
+      (decimal_is_IsNumeral n small),
+      (bytes_eq (decimal n) token),
+      (decimal n),
+      (bytes_eq-Decides (decimal n) token),
+      nat_tests,
+    )
 
 pub natural_none : (low high : ℕ) (token : List ℕ) → ((n : ℕ) → low ≤ n → n ≤ high → token ≡ decimal n → ⊥)
     → natural_in low high token ≡ None

@@ -33,9 +33,10 @@ other_said bytes p e map is same = grind (arith, nothing_left, rom_at, rom_again
 -- ---- its bytes
 
 pub version_free : Without LINE_FEED first_version_line × Without LINE_FEED second_version_line
-version_free =
-    ((refl, (refl, (refl, (refl, (refl, (refl, (refl, (refl, (refl, tt))))))))),
-    (refl, (refl, (refl, (refl, (refl, (refl, (refl, (refl, (refl, tt))))))))))
+version_free = (
+  (refl, (refl, (refl, (refl, (refl, (refl, (refl, (refl, (refl, tt))))))))),
+  (refl, (refl, (refl, (refl, (refl, (refl, (refl, (refl, (refl, tt))))))))),
+)
 
 pub rom_free : (map : MemoryMap) → Without LINE_FEED (rom_line map)
 rom_free map =

@@ -39,8 +39,20 @@ graphics_box b h = grind (arith, pos, graphic_decimal, negsuc)
 
 pub graphics_entry : (first last : ℕ) (e : Entry) → IsEntry first last e → Graphics (entry_tokens e)
 graphics_entry first last e h =
-    grind (arith, codes, address_token, key_token, end_tokens, graphic_hex, graphic_key, graphics_end, box_tokens, graphics_box, decimal,
-    graphic_decimal)
+    grind (
+      arith,
+      codes,
+      address_token,
+      key_token,
+      end_tokens,
+      graphic_hex,
+      graphic_key,
+      graphics_end,
+      box_tokens,
+      graphics_box,
+      decimal,
+      graphic_decimal,
+    )
 
 pub Without-append : (c : ℕ) (xs ys : Text) → Without c xs → Without c ys → Without c (xs ++ ys)
 Without-append c [] ys h k = k

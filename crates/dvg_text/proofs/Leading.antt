@@ -20,20 +20,39 @@ same_digits (x ∷ ds) (y ∷ es) r s hd he hr hs e =
 pub same_number : (m n : ℕ) (bytes r s : Text) → m < 2 ^ 64 → n < 2 ^ 64 → NoDigitFirst r → NoDigitFirst s → bytes ≡ decimal m ++ r
     → bytes ≡ decimal n ++ s → (m ≡ n) × (r ≡ s)
 same_number m n bytes r s hm hn hr hs em en =
-    grind (arith, (same_digits (decimal m) (decimal n) r s (first_digit (decimal m) m hm refl).1 (first_digit (decimal n) n hn refl).1 hr
-    hs (sym em ∙ en)), (decimal m), (decimal n), (first_digit (decimal m) m hm refl), (first_digit (decimal n) n hn refl), same_decimal)
+    grind (
+      arith,
+      (same_digits (decimal m) (decimal n) r s (first_digit (decimal m) m hm refl).1 (first_digit (decimal n) n hn refl).1 hr
+          hs (sym em ∙ en)),
+      (decimal m),
+      (decimal n),
+      (first_digit (decimal m) m hm refl),
+      (first_digit (decimal n) n hn refl),
+      same_decimal,
+    )
 
 led : (count n : ℕ) (bytes rest : Text) → AllDigits 10 (take count bytes) → NoDigitFirst (drop count bytes) → n < 2 ^ 64
     → NoDigitFirst rest → bytes ≡ decimal n ++ rest → take count bytes ≡ decimal n
 led count n bytes rest all stop small free e =
-    grind (arith, (same_digits (take count bytes) (decimal n) (drop count bytes) rest all (first_digit (decimal n) n small refl).1 stop
-    free (take-append-drop count bytes ∙ e)), (decimal n), (first_digit (decimal n) n small refl), (take-append-drop count bytes))
+    grind (
+      arith,
+      (same_digits (take count bytes) (decimal n) (drop count bytes) rest all (first_digit (decimal n) n small refl).1 stop
+          free (take-append-drop count bytes ∙ e)),
+      (decimal n),
+      (first_digit (decimal n) n small refl),
+      (take-append-drop count bytes),
+    )
 
 pub no_digits : (count : ℕ) (bytes : Text) → count ≡ 0 → count ≤ length bytes → AllDigits 10 (take count bytes)
     → NoDigitFirst (drop count bytes) → (n : ℕ) → (rest : Text) → n ≤ MOST_MAGNITUDE → NoDigitFirst rest → bytes ≡ decimal n ++ rest → ⊥
 no_digits count bytes is_zero within all stop n rest le free e =
-    grind (arith, (led count n bytes rest all stop (omega arith) free e), (length-take-le count bytes within),
-    (first_digit (decimal n) n (omega arith) refl), (decimal n))
+    grind (
+      arith,
+      (led count n bytes rest all stop (omega arith) free e),
+      (length-take-le count bytes within),
+      (first_digit (decimal n) n (omega arith) refl),
+      (decimal n),
+    )
 
 pub zero_led : (count : ℕ) (bytes : Text) → 1 < count → count ≤ length bytes → get_or bytes 0 0 ≡ 48 → AllDigits 10 (take count bytes)
     → NoDigitFirst (drop count bytes) → (n : ℕ) → (rest : Text) → n ≤ MOST_MAGNITUDE → NoDigitFirst rest → bytes ≡ decimal n ++ rest → ⊥
@@ -57,8 +76,14 @@ no_longer (x ∷ ds) r (y ∷ es) s all stop e = let tail : ds ++ r ≡ es ++ s 
 pub too_long : (bytes : Text) (i : ℕ) → i < length bytes → i ≡ 13 → AllDigits 10 (take (i + 1) bytes) → (n : ℕ) → (rest : Text)
     → n ≤ MOST_MAGNITUDE → NoDigitFirst rest → bytes ≡ decimal n ++ rest → ⊥
 too_long bytes i lt at all n rest le free e =
-    grind (arith, (no_longer (take (i + 1) bytes) (drop (i + 1) bytes) (decimal n) rest all free (take-append-drop (i + 1) bytes ∙ e)),
-    (decimal n), (take-append-drop (i + 1) bytes), (length-take-le (i + 1) bytes (omega arith)), (not_long (decimal n) n le refl))
+    grind (
+      arith,
+      (no_longer (take (i + 1) bytes) (drop (i + 1) bytes) (decimal n) rest all free (take-append-drop (i + 1) bytes ∙ e)),
+      (decimal n),
+      (take-append-drop (i + 1) bytes),
+      (length-take-le (i + 1) bytes (omega arith)),
+      (not_long (decimal n) n le refl),
+    )
 
 -- ---- a whole token
 

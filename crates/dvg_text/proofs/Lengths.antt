@@ -43,7 +43,7 @@ length_entry first last e h =
     let d = length-decimal-le 1 e.depth (omega arith) (omega (arith, h.depth)) (omega (arith, h.depth)) in
     let w = length-decimal-le 7 e.words (omega arith) (omega (arith, h.words_high)) (omega (arith, h.words_high)) in
     le_trans (join_le (entry_tokens e))
-        (simp weight-append (omega (arith, key_le e.key h.key, key_le e.scale h.scale, d, w, end_le e.stop h.stop, box_le e.lit h.lit)))
+    (simp weight-append (omega (arith, key_le e.key h.key, key_le e.scale h.scale, d, w, end_le e.stop h.stop, box_le e.lit h.lit)))
 
 pub length_done : (n : ℕ) → n ≤ MOST_ENTRIES → length (done_line n) ≤ 10
 length_done n h = omega (arith, length-decimal-le 4 n (omega arith) (omega arith) (omega arith), join_le (codes "done" ∷ decimal n ∷ []))

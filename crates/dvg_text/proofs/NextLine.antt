@@ -53,8 +53,15 @@ rom_is (Some p) line e = grind (arith, nat_tests, (rom_reads line), (other_said 
 
 later_is : (map : MemoryMap) (es : List Entry) (line : Text) → IsCertificate map es → IsNext (Begun map es) line (next (Begun map es) line)
 later_is map es line h =
-    grind (arith, nat_tests, (line_takes map.rom_first map.rom_last line (small_map map h.map_is)), line_again, certificate_push,
-    begun_push, length-append)
+    grind (
+      arith,
+      nat_tests,
+      (line_takes map.rom_first map.rom_last line (small_map map h.map_is)),
+      line_again,
+      certificate_push,
+      begun_push,
+      length-append,
+    )
 
 pub next_is : (t : Taken) (line : Text) → IsTaken t → IsUnended t → IsNext t line (next t line)
 next_is Nothing line h u = first_is line
@@ -94,7 +101,7 @@ pub entry_next : (map : MemoryMap) (es fs : List Entry) (e : Entry) → IsCertif
 entry_next map es fs e h =
     let fits = each_mid _ es e fs h.each in
     rw (line_again map.rom_first map.rom_last (entry_line e) (EntryLine e) (small_map map h.map_is) (fits, refl))
-        (grind (arith, nat_tests, (rising_mid es e fs h.rising), (length-append es (e ∷ fs)), (h.few)))
+    (grind (arith, nat_tests, (rising_mid es e fs h.rising), (length-append es (e ∷ fs)), (h.few)))
 
 pub done_next : (map : MemoryMap) (es : List Entry) → IsCertificate map es → next (Begun map es) (done_line (length es)) ≡ Ok (Whole map es)
 done_next map es h =

@@ -27,8 +27,13 @@ pub line_fault : (why : CertWhy) (taken : Taken) (line after : List ℕ) → IsT
     → length line < LONGEST_LINE → IsLineRefused taken line why
     → IsRefusal (text_taken taken ++ (line ++ LINE_FEED ∷ after)) (line_number taken) why × (why ≢ Unended)
 line_fault Memory (Begun map es) line after h u free short w =
-    grind (arith, (length-append es (w.0 ∷ [])), (regroup (begun_with map es) line after), (begun_with map es),
-    (entry_taken map es line w.0 w.1.1))
+    grind (
+      arith,
+      (length-append es (w.0 ∷ [])),
+      (regroup (begun_with map es) line after),
+      (begun_with map es),
+      (entry_taken map es line w.0 w.1.1),
+    )
 line_fault Memory taken line after h u free short w = absurd w
 line_fault why taken line after h u free short w =
     grind (arith, (text_taken taken), (append_assoc (text_taken taken) line (LINE_FEED ∷ after)), (rest_of taken line u free short))
@@ -53,11 +58,22 @@ long_at k taken begun rest h u clear n lt free =
     let line : List ℕ = begun ++ take k rest in
     let m : length line ≡ LONGEST_LINE - 1 = omega (arith, length-append begun (take k rest), length-take-le k rest (omega arith)) in
     let parts : text_taken taken ++ (begun ++ rest) ≡ (text_taken taken ++ line) ++ b ∷ drop (suc k) rest =
-    ap (λ (t : List ℕ). text_taken taken ++ (begun ++ t)) r.0 ∙ simp append_assoc in
-    (text_taken taken ++ line, b, drop (suc k) rest, taken, line, parts,
-        record { parts = refl; lines = h; begun =
-        rest_of taken line u (Without-append LINE_FEED begun (take k rest) clear r.1) (omega arith) }, meets_long taken line b u r.2 m,
-        refl)
+    ap (λ (t : List ℕ). text_taken taken ++ (begun ++ t)) r.0 ∙ simp append_assoc in (
+      text_taken taken ++ line,
+      b,
+      drop (suc k) rest,
+      taken,
+      line,
+      parts,
+      record {
+        parts = refl;
+        lines = h;
+        begun =
+            rest_of taken line u (Without-append LINE_FEED begun (take k rest) clear r.1) (omega arith);
+      },
+      meets_long taken line b u r.2 m,
+      refl,
+    )
 
 -- no line end where a line must have one
 pub end_fault : (why : CertWhy) (room : ℕ) (taken : Taken) (begun rest : List ℕ) → IsTaken taken → IsUnended taken → IsRest taken begun
@@ -77,8 +93,20 @@ pub after_refused : (line : ℕ) (f : CertFault) (taken : Taken) (begun rest : L
     → IsRefusal (text_taken taken ++ (begun ++ rest)) f.line f.why × (f.why ≢ Unended)
 after_refused line f (Whole map es) begun [] h r u n some e = absurd (omega arith)
 after_refused line f (Whole map es) begun (b ∷ more) h r u n some e =
-    rw (e, n, r) ((text_of map es, b, more, Whole map es, [], refl,
-        record { parts = sym (append-nil (text_of map es)); lines = h; begun = refl }, refl, refl), λ e. absurd cc)
+    rw (e, n, r) (
+      (
+        text_of map es,
+        b,
+        more,
+        Whole map es,
+        [],
+        refl,
+        record { parts = sym (append-nil (text_of map es)); lines = h; begun = refl },
+        refl,
+        refl,
+      ),
+      λ e. absurd cc,
+    )
 after_refused line f taken begun rest h r u n some e = absurd (u tt)
 
 -- the first line of all
@@ -99,8 +127,14 @@ pub line_refused : (why : CertWhy) (taken : Taken) (begun rest prefix after : Li
     → IsLineRefused taken (begun ++ prefix) why
     → IsRefusal (text_taken taken ++ (begun ++ rest)) (line_number taken) why × (why ≢ Unended)
 line_refused why taken begun rest prefix after h u r e free short w =
-    grind (arith, (rest_free taken begun r), Without-append, length-append, append_assoc,
-    (line_fault why taken (begun ++ prefix) after h u))
+    grind (
+      arith,
+      (rest_free taken begun r),
+      Without-append,
+      length-append,
+      append_assoc,
+      (line_fault why taken (begun ++ prefix) after h u),
+    )
 
 -- ---- entries whose lines stand first
 

@@ -10,9 +10,11 @@ sent_part old mid new text prefix piece tail e h s =
     let n : ℕ = s.0 in
     let parts : take (length prefix + n) text ≡ prefix ++ take n piece =
     ap (take (length prefix + n)) e ∙ take-append-add prefix (piece ++ tail) n
-        ∙ ap (λ (t : List ℕ). prefix ++ t) (take-append-le n piece tail s.1) in
-    (length prefix + n, omega (arith, ap length e, length-append prefix (piece ++ tail), length-append piece tail, s.1),
-        subst (λ (t : List ℕ). Appends old new t) (sym parts) (Appends-trans old mid new prefix (take n piece) h s.2))
+    ∙ ap (λ (t : List ℕ). prefix ++ t) (take-append-le n piece tail s.1) in (
+      length prefix + n,
+      omega (arith, ap length e, length-append prefix (piece ++ tail), length-append piece tail, s.1),
+      subst (λ (t : List ℕ). Appends old new t) (sym parts) (Appends-trans old mid new prefix (take n piece) h s.2),
+    )
 
 -- what was held is sent now, but for the rest
 pub buffered_on : (old mid new : Option (List ℕ)) (held rest text : List ℕ) → Buffered old mid held text → Buffered mid new rest held
@@ -40,8 +42,8 @@ pub put_in_part : (old mid new : Option (List ℕ)) (held part more tail text : 
     → text ≡ part ++ (more ++ tail) → AppendsPrefix mid new (held ++ more) → AppendsPrefix old new text
 put_in_part old mid new held part more tail text h e s =
     sent_part old mid new text h.0 (held ++ more) tail
-        (e ∙ ap (λ (t : List ℕ). t ++ (more ++ tail)) h.2 ∙ append_assoc h.0 held (more ++ tail)
-        ∙ ap (λ (t : List ℕ). h.0 ++ t) (sym (append_assoc held more tail))) h.1 s
+    (e ∙ ap (λ (t : List ℕ). t ++ (more ++ tail)) h.2 ∙ append_assoc h.0 held (more ++ tail)
+    ∙ ap (λ (t : List ℕ). h.0 ++ t) (sym (append_assoc held more tail))) h.1 s
 
 -- more was put behind what was held, and some of both was sent
 pub put_on : (old mid new : Option (List ℕ)) (held part more rest : List ℕ) → Buffered old mid held part
@@ -74,16 +76,16 @@ regroup z a b c d e f g h i j k l m n = simp (append_assoc, append-nil)
 
 pub spelled_entry : (before : List ℕ) (e : Entry)
     → (((((((((((((before ++ codes "shape") ++ SPACE ∷ address_token e.addr) ++ SPACE ∷ key_token e.key) ++ SPACE ∷ codes "end")
-        ++ spaced (end_tokens e.stop)) ++ SPACE ∷ codes "box") ++ spaced (box_tokens e.lit)) ++ SPACE ∷ codes "depth") ++ SPACE ∷ decimal
-        e.depth) ++ SPACE ∷ codes "words") ++ SPACE ∷ decimal e.words) ++ SPACE ∷ codes "scale") ++ SPACE ∷ key_token e.scale)
-        ++ LINE_FEED ∷ []
+    ++ spaced (end_tokens e.stop)) ++ SPACE ∷ codes "box") ++ spaced (box_tokens e.lit)) ++ SPACE ∷ codes "depth") ++ SPACE ∷ decimal
+    e.depth) ++ SPACE ∷ codes "words") ++ SPACE ∷ decimal e.words) ++ SPACE ∷ codes "scale") ++ SPACE ∷ key_token e.scale)
+    ++ LINE_FEED ∷ []
     ≡ before ++ ended (entry_line e)
 spelled_entry before e =
     rw (spaced_end e.stop, spaced_box e.lit)
-        (regroup before (codes "shape") (SPACE ∷ address_token e.addr) (SPACE ∷ key_token e.key) (SPACE ∷ codes "end")
-        (SPACE ∷ end_text e.stop) (SPACE ∷ codes "box") (SPACE ∷ box_text e.lit)
+    (regroup before (codes "shape") (SPACE ∷ address_token e.addr) (SPACE ∷ key_token e.key) (SPACE ∷ codes "end")
+    (SPACE ∷ end_text e.stop) (SPACE ∷ codes "box") (SPACE ∷ box_text e.lit)
     (SPACE ∷ codes "depth") (SPACE ∷ decimal e.depth) (SPACE ∷ codes "words") (SPACE ∷ decimal e.words) (SPACE ∷ codes "scale")
-        (SPACE ∷ key_token e.scale) (LINE_FEED ∷ [])
+    (SPACE ∷ key_token e.scale) (LINE_FEED ∷ [])
     ∙ ap (λ (l : List ℕ). before ++ ended l) (sym (entry_joined e)))
 
 -- where an error is returned
@@ -117,12 +119,16 @@ pub done_held : (old mid new : Option (List ℕ)) (map : MemoryMap) (es cert : L
     → Buffered mid new rest held → Buffered old new more (text_of map cert)
 done_held old mid new map es cert i n held rest more same all m p h k =
     let on = buffered_more old new rest (ended (done_line n)) (begun_with map (take i es))
-        (buffered_on old mid new held rest (begun_with map (take i es)) h k) in
+    (buffered_on old mid new held rest (begun_with map (take i es)) h k) in
     rw (p, ← same, ← m) (rw (all, take-length es) at on)
 
 -- a write failed before the last line was held
 pub begun_in_part : (old mid new : Option (List ℕ)) (map : MemoryMap) (es cert : List Entry) (i : ℕ) (held : List ℕ) → es ≡ cert
     → Buffered old mid held (begun_with map (take i es)) → AppendsPrefix mid new held → AppendsPrefix old new (text_of map cert)
 begun_in_part old mid new map es cert i held same h s =
-    grind (arith, (text_at map es i), append_assoc,
-    (sent_part old mid new (text_of map cert) h.0 held (flat_map (λ e. ended (entry_line e)) (drop i es) ++ ended (done_line (length es)))))
+    grind (
+      arith,
+      (text_at map es i),
+      append_assoc,
+      (sent_part old mid new (text_of map cert) h.0 held (flat_map (λ e. ended (entry_line e)) (drop i es) ++ ended (done_line (length es)))),
+    )

@@ -48,8 +48,13 @@ pub natural_again : (low high n : ℕ) (rest : Text) → n < 2 ^ 64 → low ≤ 
     → natural_at low high (decimal n ++ rest) ≡ Some (n, rest)
 unfolding natural_at
 natural_again low high n rest small from to stop =
-    grind (arith, (off_again (decimal n) rest (first_digit (decimal n) n small refl).1 stop), (decimal n),
-    (first_digit (decimal n) n small refl), (natural_some low high n (decimal n) small from to refl))
+    grind (
+      arith,
+      (off_again (decimal n) rest (first_digit (decimal n) n small refl).1 stop),
+      (decimal n),
+      (first_digit (decimal n) n small refl),
+      (natural_some low high n (decimal n) small from to refl),
+    )
 
 pub natural_reads : (low high : ℕ) (bytes : Text)
     → Says (natural_at low high bytes) (λ p. (bytes ≡ decimal p.0 ++ p.1) × (low ≤ p.0) × (p.0 ≤ high) × NoDigitFirst p.1)

@@ -24,12 +24,24 @@ fields_text e rest =
     codes "shape " ++ (address_token e.addr
     ++ (codes " " ++ (key_token e.key ++ (codes " end " ++ (end_text e.stop ++ (codes " box " ++ (box_text e.lit
     ++ (codes " depth " ++ (decimal e.depth
-        ++ (codes " words " ++ (decimal e.words ++ (codes " scale " ++ (key_token e.scale ++ rest)))))))))))))
+    ++ (codes " words " ++ (decimal e.words ++ (codes " scale " ++ (key_token e.scale ++ rest)))))))))))))
 
 pub entry_joined : (e : Entry) → entry_line e ≡ fields_text e []
 entry_joined e =
-    grind (arith, decimal, codes, key_token, address_token, join_with_byte, append_assoc, end_tokens, box_tokens, join_append,
-    signed_decimal, append-nil)
+    grind (
+      arith,
+      decimal,
+      codes,
+      key_token,
+      address_token,
+      join_with_byte,
+      append_assoc,
+      end_tokens,
+      box_tokens,
+      join_append,
+      signed_decimal,
+      append-nil,
+    )
 
 -- an entry's fields, and what follows its line
 pub fields_then : (e : Entry) (rest : Text) → fields_text e rest ≡ entry_line e ++ rest

@@ -47,7 +47,7 @@ OutdoesNone o = (o.words ≡ false) × (o.depth ≡ false) × (o.clocks ≡ fals
 abbrev pub IsFree : Leads → Outdone → Slot → Type 0
 IsFree leads o slot =
     (o.words ≡ false → slot ≢ leads.words.slot) × (o.depth ≡ false → slot ≢ leads.depth.slot)
-        × (o.clocks ≡ false → slot ≢ leads.clocks.slot)
+    × (o.clocks ≡ false → slot ≢ leads.clocks.slot)
 
 -- this frame in place of those that are outdone
 abbrev pub leads_with : Leads → Outdone → Lead → Leads

@@ -20,5 +20,5 @@ returns c = if_ok c.finish.result c.finish.ensures (λ lines all. record {
       (then c.push_accepted.ensures (then c.push_accepted-2.ensures (then c.push_accepted-3.ensures
       (then c.push_accepted-4.ensures (then c.push_accepted-5.ensures c.push_some-2.ensures))))))
       c.push_some-3.ensures) (then c.push_accepted-6.ensures c.push_some-4.ensures))
-          (then c.push_accepted-7.ensures c.push_some-5.ensures));
+      (then c.push_accepted-7.ensures c.push_some-5.ensures));
 })

@@ -23,10 +23,10 @@ returns c = if_ok c.finish.result c.finish.ensures (λ lines all. record {
   told = whole c.new-lines.ensures all
       (then (then (then (then (then (then (told_as (ap machine_lines c.machine-3.ensures) c.push_machine.ensures)
       (then (told_as (ap (λ n. Rule n ∷ []) (c.number-number.ensures ∙ ap fault_number c.from.ensures)) c.push.ensures)
-          (told_as (ap option_to_list c.why_line-told.ensures) c.push_some.ensures)))
+      (told_as (ap option_to_list c.why_line-told.ensures) c.push_some.ensures)))
       c.push_some-2.ensures) c.push_some-3.ensures)
       (told_as (ap (λ chain. way_lines c.call_item-call.result c.item_of-item.result (Path (MakerChain chain))) c.chain_of.ensures)
-          c.push_way.ensures)) c.push_some-4.ensures)
+      c.push_way.ensures)) c.push_some-4.ensures)
       (told_as (ap (λ cure. MakerCure cure ∷ []) (c.of-cure.ensures ∙ ap (λ map. cure_of map c.args.account) c.map.ensures.value))
-          c.push-2.ensures));
+      c.push-2.ensures));
 })

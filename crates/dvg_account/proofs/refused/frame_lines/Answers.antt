@@ -5,7 +5,7 @@ use Rattle.dvg_account.proofs.refused.frame_lines.Goals as goal
 pub returns : goal.returns
 returns c =
     let framed : IsItem Frame (frame_word c.args.inputs.now.machine c.args.frame.now) c.args.finding.now.fault.word
-        c.args.finding.now.before c.callee_of-callee.result c.new-2.result =
+    c.args.finding.now.before c.callee_of-callee.result c.new-2.result =
     rw c.new-framed.ensures at c.new-2.ensures in
     if_ok c.finish.result c.finish.ensures (λ lines all. record {
       why = c.of_frame-why.result;
@@ -23,7 +23,7 @@ returns c =
       told = whole c.new-lines.ensures all
           (then (then (then (then (then c.push_machine.ensures c.push_some.ensures)
           (then (told_as (ap (λ n. Rule n ∷ []) c.number-number.ensures) c.push.ensures) (then c.push-2.ensures c.push_some-2.ensures)))
-              c.push_lines.ensures)
+          c.push_lines.ensures)
           c.push_some-3.ensures)
           (told_as (ap (λ cure. cure ∷ []) c.frame_cure.ensures) c.push-3.ensures));
     })

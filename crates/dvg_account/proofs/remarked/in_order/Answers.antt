@@ -5,4 +5,4 @@ use Rattle.dvg_account.proofs.remarked.in_order.Goals as goal
 pub returns : goal.returns
 returns g c =
     rw (dedup_is _ _ _ c.dedup.ensures.filtered)
-        (IsStrictlySortedBy-dedup g.met.T.Ord.total g.met.T.Ord.matches_eq _ c.in_ok-sort.ensures.sorted)
+    (IsStrictlySortedBy-dedup g.met.T.Ord.total g.met.T.Ord.matches_eq _ c.in_ok-sort.ensures.sorted)

@@ -30,7 +30,7 @@ returns-clause-means c = λ zero.
     let mode_is = c.in-Some-mode_numbered.ensures.0 in
     let window_is = c.in-Some-window_for.ensures.0 in
     let means = subst (λ (v : Result Yes Refusal). IfOk v
-        (λ yes. MeansOn c.in-Some.machine c.in-Some-mode_numbered.mode c.in-Some-window_for.window c.args.rom.now c.args.cert.now
-        c.args.frame.now yes.words yes.depth)) (c.answer_of.ensures.accepted zero) c.check_on.ensures.means in
+    (λ yes. MeansOn c.in-Some.machine c.in-Some-mode_numbered.mode c.in-Some-window_for.window c.args.rom.now c.args.cert.now
+    c.args.frame.now yes.words yes.depth)) (c.answer_of.ensures.accepted zero) c.check_on.ensures.means in
     coe 0 1 (i. MeansOn (machine_is i) (mode_is i) (window_is i) c.args.rom.now c.args.cert.now c.args.frame.now c.answer_of.result.words
-        c.answer_of.result.depth) means
+    c.answer_of.result.depth) means

@@ -9,8 +9,12 @@ returns-in_default c =
 
 pub returns-in_default-map_between : goal.returns-in_default-map_between
 returns-in_default-map_between c =
-    record { verdict = Err unmade.Map; holds = (c.in-Some.ensures.1, c.in_default-map_between.ensures); told =
-        c.no_certificate-in_default-map_between.ensures c.args.text.now }
+    record {
+      verdict = Err unmade.Map;
+      holds = (c.in-Some.ensures.1, c.in_default-map_between.ensures);
+      told =
+          c.no_certificate-in_default-map_between.ensures c.args.text.now;
+    }
 
 pub returns-in-Ok : goal.returns-in-Ok
 returns-in-Ok c =

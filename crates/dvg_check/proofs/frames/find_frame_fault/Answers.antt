@@ -13,7 +13,7 @@ returns-in-Ok-clause-ok g c =
 pub frame_cause-requires-clause-broken : goal.frame_cause-requires-clause-broken
 frame_cause-requires-clause-broken g c =
     broken frame_number rule_of rule_of-number (frame_context c.args.machine (g.E.Entries.list c.args.entries.now))
-        (frame_word c.args.machine c.args.frame.now) 0
+    (frame_word c.args.machine c.args.frame.now) 0
     frame.Unmapped frame.Odd (FrameKeeps c.args.window.now c.args.budget) c.in-Err.fault.at c.in-Err.fault.why c.in-Err.fault.before
-        c.in-Err.fault.found
+    c.in-Err.fault.found
     (rw c.new.ensures at c.in-Err.ensures.err)

@@ -17,23 +17,26 @@ entries-init g c = grind (arith, (none_kept (IsTail c.args.window.now c.args.rom
 pub entries-preserved : goal.entries-preserved
 entries-preserved g c =
     record {
-      near = omega (arith, (claim_at c.args.list.now (c.entries.left - 1) no_entry c.requires.certificate
-          (omega (arith, c.entries.invariant.before, c.entries-test.true))).addr);
+      near = omega (
+        arith,
+        (claim_at c.args.list.now (c.entries.left - 1) no_entry c.requires.certificate
+            (omega (arith, c.entries.invariant.before, c.entries-test.true))).addr,
+      );
       before = omega (arith, c.entries.invariant.before);
       few = c.entries.invariant.few;
       tails = c.make_all.ensures;
       good = good_below (GoodShape c.args.mode c.args.window.now c.args.rom.now (g.E.Entries.list c.args.entries.now)) c.args.list.now
           c.entries.left c.entries.doubtful c.entries-test.true c.entries.invariant.before
           (c.if-not-shows.ensures c.args.window.now c.args.rom.now (g.E.Entries.list c.args.entries.now) c.make_all.ensures refl)
-              c.entries.invariant.good;
+          c.entries.invariant.good;
     }
 
 pub returns-clause-good : goal.returns-clause-good
 returns-clause-good g c =
     subst (λ (l : List Entry). AllByRecursion (GoodShape c.args.mode c.args.window.now c.args.rom.now l)
-        (take c.entries.doubtful c.args.list.now)) c.requires.list
+    (take c.entries.doubtful c.args.list.now)) c.requires.list
     (all_take (GoodShape c.args.mode c.args.window.now c.args.rom.now (g.E.Entries.list c.args.entries.now)) c.args.list.now
-        c.entries.doubtful c.entries.invariant.few
+    c.entries.doubtful c.entries.invariant.few
     (λ k past lt. c.entries.invariant.good k past (omega (arith, c.entries-test.false)) lt))
 
 pub entries-preserved-then-not-shows : goal.entries-preserved-then-not-shows

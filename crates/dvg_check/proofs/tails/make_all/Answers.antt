@@ -4,5 +4,7 @@ use Rattle.dvg_check.proofs.tails.make_all.Goals as goal
 
 pub keys-preserved-in-Some-tail_at : goal.keys-preserved-in-Some-tail_at
 keys-preserved-in-Some-tail_at g c =
-    record { tails = one_more_kept (IsTail c.args.window.now c.args.rom.now (g.E.Entries.list c.args.entries.now)) c.keys.tails
-        c.keep.new.slots _ c.keep.ensures.kept c.keys.invariant.tails c.in-Some-tail_at.ensures }
+    record {
+      tails = one_more_kept (IsTail c.args.window.now c.args.rom.now (g.E.Entries.list c.args.entries.now)) c.keys.tails
+          c.keep.new.slots _ c.keep.ensures.kept c.keys.invariant.tails c.in-Some-tail_at.ensures;
+    }

@@ -13,12 +13,12 @@ returns-then-sum-limit-clause-err g c =
     let source = g.F.Fetch.words c.args.words.now in
     let here = c.loop-format.here in
     let names : c.callee-called.result ≡ callee_at list (target here.kind c.in-Holds.instr) here.scale =
-        rw c.target.ensures at c.callee-called.ensures.value in
+    rw c.target.ensures at c.callee-called.ensures.value in
     let all = ap (λ (r : ClockRange). r.most) c.plus-sum.ensures.value in
     over c.args.states.now source list c.args.shapes.now c.args.first.now c.args.limit c.requires.walkable here c.loop-format.sum
-        c.loop-format.invariant c.in-Holds.format c.in-Holds.instr (sym c.in-Holds.ensures.value) c.callee-called.result names
-        c.item_clocks-clocks.result c.item_clocks-clocks.ensures.value c.item_clocks-clocks.ensures.ordered
-        c.item_clocks-clocks.ensures.few (omega (arith, all, c.if-sum-limit.true))
+    c.loop-format.invariant c.in-Holds.format c.in-Holds.instr (sym c.in-Holds.ensures.value) c.callee-called.result names
+    c.item_clocks-clocks.result c.item_clocks-clocks.ensures.value c.item_clocks-clocks.ensures.ordered
+    c.item_clocks-clocks.ensures.few (omega (arith, all, c.if-sum-limit.true))
 
 pub loop-format-preserved : goal.loop-format-preserved
 loop-format-preserved g c =
@@ -26,15 +26,15 @@ loop-format-preserved g c =
     let source = g.F.Fetch.words c.args.words.now in
     let here = c.loop-format.here in
     let names : c.callee-called.result ≡ callee_at list (target here.kind c.in-Holds.instr) here.scale =
-        rw c.target.ensures at c.callee-called.ensures.value in
+    rw c.target.ensures at c.callee-called.ensures.value in
     let all = ap (λ (r : ClockRange). r.most) c.plus-sum.ensures.value in
     subst (Going c.args.states.now source list c.args.shapes.now c.args.first.now c.args.limit c.in-Some.next)
-        (sym c.plus-sum.ensures.value)
+    (sym c.plus-sum.ensures.value)
     (onward c.args.states.now source list c.args.shapes.now c.args.first.now c.args.limit c.requires.walkable here c.loop-format.sum
-        c.loop-format.invariant c.in-Holds.format c.in-Holds.instr (sym c.in-Holds.ensures.value) c.callee-called.result names
-        c.item_clocks-clocks.result c.item_clocks-clocks.ensures.value c.item_clocks-clocks.ensures.ordered
-        c.item_clocks-clocks.ensures.few (omega (arith, all, c.if-sum-limit.false)) c.in-Some.next
-        (sym c.past.ensures.value ∙ c.in-Some.is) c.in-Some.ensures.key)
+    c.loop-format.invariant c.in-Holds.format c.in-Holds.instr (sym c.in-Holds.ensures.value) c.callee-called.result names
+    c.item_clocks-clocks.result c.item_clocks-clocks.ensures.value c.item_clocks-clocks.ensures.ordered
+    c.item_clocks-clocks.ensures.few (omega (arith, all, c.if-sum-limit.false)) c.in-Some.next
+    (sym c.past.ensures.value ∙ c.in-Some.is) c.in-Some.ensures.key)
 
 pub returns-in-None-clause-ok : goal.returns-in-None-clause-ok
 returns-in-None-clause-ok g c =
@@ -42,10 +42,10 @@ returns-in-None-clause-ok g c =
     let source = g.F.Fetch.words c.args.words.now in
     let here = c.loop-format.here in
     let names : c.callee-called.result ≡ callee_at list (target here.kind c.in-Holds.instr) here.scale =
-        rw c.target.ensures at c.callee-called.ensures.value in
+    rw c.target.ensures at c.callee-called.ensures.value in
     let all = ap (λ (r : ClockRange). r.most) c.plus-sum.ensures.value in
     subst (IsTaken c.args.states.now source list c.args.shapes.now c.args.first.now c.args.limit) (sym c.plus-sum.ensures.value)
     (done c.args.states.now source list c.args.shapes.now c.args.first.now c.args.limit c.requires.walkable here c.loop-format.sum
-        c.loop-format.invariant c.in-Holds.format c.in-Holds.instr (sym c.in-Holds.ensures.value) c.callee-called.result names
-        c.item_clocks-clocks.result c.item_clocks-clocks.ensures.value c.item_clocks-clocks.ensures.ordered
-        c.item_clocks-clocks.ensures.few (omega (arith, all, c.if-sum-limit.false)) (sym c.past.ensures.value ∙ c.in-None.is))
+    c.loop-format.invariant c.in-Holds.format c.in-Holds.instr (sym c.in-Holds.ensures.value) c.callee-called.result names
+    c.item_clocks-clocks.result c.item_clocks-clocks.ensures.value c.item_clocks-clocks.ensures.ordered
+    c.item_clocks-clocks.ensures.few (omega (arith, all, c.if-sum-limit.false)) (sym c.past.ensures.value ∙ c.in-None.is))

@@ -11,9 +11,9 @@ use Rattle.dvg_clocks.proofs.judging.judge_seen.Goals as goal
 pub clocks_by-clocks-requires : goal.clocks_by-clocks-requires
 clocks_by-clocks-requires g c =
     accepted c.args.rom.now c.args.frame.now c.args.window c.args.budget c.requires c.in-Ok.yes c.in-Ok-judged.made.cert.entries
-        (rw c.in-Ok-judged.is at c.explain_judging-judged.ensures.ok)
+    (rw c.in-Ok-judged.is at c.explain_judging-judged.ensures.ok)
     (subst (VerdictByMade c.args.rom.now c.args.frame.now c.args.window c.args.budget) (sym c.own_verdict.ensures ∙ c.in-Ok.is)
-        c.explain_judging-judged.ensures.verdict)
+    c.explain_judging-judged.ensures.verdict)
 
 pub returns-in-Ok-clocks-clause-timed : goal.returns-in-Ok-clocks-clause-timed
 returns-in-Ok-clocks-clause-timed g c =
@@ -37,8 +37,8 @@ returns-in-Ok-clocks-clause-timed g c =
       );
       means =
           subst (λ (v : Result Yes FrameRefusal). IfOk v
-              (λ (y : Yes). Means Exact (record { frame = c.args.frame.now; rom = c.args.rom.now }) c.args.window y.words y.depth)) is
-              c.explain_judging-judged.ensures.means;
+          (λ (y : Yes). Means Exact (record { frame = c.args.frame.now; rom = c.args.rom.now }) c.args.window y.words y.depth)) is
+          c.explain_judging-judged.ensures.means;
       least = subst (λ (v : Result Yes FrameRefusal). IfOk v
           (λ (y : Yes). AreLeast c.args.rom.now c.args.frame.now c.args.window y.words y.depth)) is c.explain_judging-judged.ensures.least;
       clocks = λ board. (rw c.in-Ok-clocks.is at clocks.circuit) board;

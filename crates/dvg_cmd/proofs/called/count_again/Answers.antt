@@ -10,9 +10,9 @@ once_more : (xs : List CalledCount) (at : ℕ) (d : CalledCount) (n : ℕ) → a
     → slice_set xs at (record { called = (get_or xs at d).called; count = n }) ≡ again_at xs at
 once_more xs at d n within more =
     ap (λ m. slice_set xs at (record { called = (get_or xs at d).called; count = m })) more
-        ∙ ap (again xs at) (sym (slice_get-get_or xs at d within))
+    ∙ ap (again xs at) (sym (slice_get-get_or xs at d within))
 
 pub returns-then-at-counts : goal.returns-then-at-counts
 returns-then-at-counts c =
     once_more c.args.counts.now c.args.at c.index-counts-at.result c.saturating_add-there.result (grind (arith, common_steps))
-        (grind (arith, common_steps))
+    (grind (arith, common_steps))

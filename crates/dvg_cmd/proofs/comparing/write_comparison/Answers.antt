@@ -14,11 +14,11 @@ pub returns-in_err-write_lines-clause-prefix : goal.returns-in_err-write_lines-c
 returns-in_err-write_lines-clause-prefix g c =
     on_err c.from_residual-in_err-write_lines.result
     (one_cut (comparison_lines (of_each (λ name. string_bytes name) c.args.names.now) c.args.comparison.now)
-        (g.W.Write.contents c.args.out.now) (g.W.CountedWrite.whole_writes c.args.out.now) _ _ _
+    (g.W.Write.contents c.args.out.now) (g.W.CountedWrite.whole_writes c.args.out.now) _ _ _
     (next_frame c.args.names.now c.as_slice-reaching.result.now c.loop-i.i c.min-i-end.result c.min-i-end.ensures c.loop-i-test.true
-        c.if-reaching-i.true c.index-names-i.result c.index-names-i.is) _ _ _ c.loop-i.invariant.sent
+    c.if-reaching-i.true c.index-names-i.result c.index-names-i.is) _ _ _ c.loop-i.invariant.sent
     _ (append-nil (c.as_bytes.result.now ++ codes ": touched\n")
-        ∙ ap (λ b. b ++ codes ": touched\n") (c.as_bytes.ensures.value ∙ c.as_str.ensures.value)) c.in_err-write_lines.ensures.prefix)
+    ∙ ap (λ b. b ++ codes ": touched\n") (c.as_bytes.ensures.value ∙ c.as_str.ensures.value)) c.in_err-write_lines.ensures.prefix)
 
 pub loop-i-preserved : goal.loop-i-preserved
 loop-i-preserved g c =
@@ -27,6 +27,6 @@ loop-i-preserved g c =
 pub returns-clause-sent : goal.returns-clause-sent
 returns-clause-sent g c =
     all_sent (comparison_lines (of_each (λ name. string_bytes name) c.args.names.now) c.args.comparison.now)
-        (g.W.Write.contents c.args.out.now) (g.W.CountedWrite.whole_writes c.args.out.now) _
+    (g.W.Write.contents c.args.out.now) (g.W.CountedWrite.whole_writes c.args.out.now) _
     (no_frame c.args.names.now c.as_slice-reaching.result.now c.loop-i.i c.min-i-end.result c.min-i-end.ensures c.loop-i-test.false) _ _
-        c.loop-i.invariant.sent
+    c.loop-i.invariant.sent

@@ -9,8 +9,12 @@ returns-in_err-write_make_line_and-in-Err-clause-prefix g c =
 
 pub returns-in_ok-write_make_line_and-in-Err-clause-ok : goal.returns-in_ok-write_make_line_and-in-Err-clause-ok
 returns-in_ok-write_make_line_and-in-Err-clause-ok g c =
-    rw c.in-Err.is (record { written = c.in_ok-write_make_line_and-in-Err.ensures.written; one_write =
-    c.in_ok-write_make_line_and-in-Err.ensures.one_write; outcome_is = refl })
+    rw c.in-Err.is (record {
+      written = c.in_ok-write_make_line_and-in-Err.ensures.written;
+      one_write =
+          c.in_ok-write_make_line_and-in-Err.ensures.one_write;
+      outcome_is = refl;
+    })
 
 pub returns-in-Ok-clause-ok : goal.returns-in-Ok-clause-ok
 returns-in-Ok-clause-ok g c = search rules

@@ -22,8 +22,8 @@ returns-in-Err-clause-answer c = by
 
     by : (l : LineClocks)
         → IsAnswerOf (judged_timed (record { timing = c.args.timing.now; line = l }) c.args.own.now.machine c.args.own.now.rom.now
-            c.args.own.now.map c.args.own.now.budget c.args.own.now.window) c.args.frame.now
-            (told_with l (Judged (Err (Check c.in-Err.refusal))))
+        c.args.own.now.map c.args.own.now.budget c.args.own.now.window) c.args.frame.now
+        (told_with l (Judged (Err (Check c.in-Err.refusal))))
     by line.Told = said line.Told
     by line.LeftOut = said line.LeftOut
 
@@ -33,10 +33,10 @@ returns-in-Ok-clause-verdict c =
     let said = c.explain_timed-timed.ensures in
     subst (VerdictOnBytes own.machine own.rom.now own.map c.args.frame.now own.budget own.window) (sym c.own_verdict.ensures)
     (own_verdict own.machine own.rom.now own.map c.args.frame.now own.budget own.window c.in-Ok.image c.in-Ok.rom c.in-Ok.ensures.ok _
-        (record { verdict = said.own; means = said.means; least = said.least; refused = said.refused; told = said.told }))
+    (record { verdict = said.own; means = said.means; least = said.least; refused = said.refused; told = said.told }))
 
 pub returns-in-Ok-clause-answer : goal.returns-in-Ok-clause-answer
 returns-in-Ok-clause-answer c l =
     let own = c.args.own.now in
     timed_answers (record { timing = c.args.timing.now; line = l }) own.machine own.rom.now own.map c.args.frame.now own.budget
-        own.window c.in-Ok.image c.in-Ok.rom c.in-Ok.ensures.ok c.explain_timed-timed.result.answer c.explain_timed-timed.ensures.timed
+    own.window c.in-Ok.image c.in-Ok.rom c.in-Ok.ensures.ok c.explain_timed-timed.result.answer c.explain_timed-timed.ensures.timed

@@ -9,7 +9,7 @@ unfolding limited
 returns-clause-bytes g c =
     let read : List ℕ = take c.in_ok-len.len c.read_prefix.new.buf in
     let first : IsPrefix 2049 (g.R.Read.remaining c.args.frame.now) read =
-        record { first = rw c.told-buffer at c.in_ok-len.ensures.prefix } in
+    record { first = rw c.told-buffer at c.in_ok-len.ensures.prefix } in
     record {
       read = read;
       from = read_from (g.R.Read.remaining c.args.frame.now) read first;

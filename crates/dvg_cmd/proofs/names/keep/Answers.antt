@@ -10,4 +10,4 @@ pub returns-else-not-is_full : goal.returns-else-not-is_full
 returns-else-not-is_full c =
     let name = c.args.name.now.items in
     sym (take-append-le MOST_NAME_READ name (c.args.byte ∷ []) (grind (arith, common_steps))
-        ∙ take_all MOST_NAME_READ name (grind (arith, common_steps)))
+    ∙ take_all MOST_NAME_READ name (grind (arith, common_steps)))

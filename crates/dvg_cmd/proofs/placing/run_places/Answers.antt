@@ -11,16 +11,31 @@ returns-in_err-images-clause-refused g c =
 
 pub returns-in_err-cert-clause-refused : goal.returns-in_err-cert-clause-refused
 returns-in_err-cert-clause-refused g c =
-    grind (arith, (told_err c.from_residual-in_err-cert.result), frames_run_number, of_each,
-    (frames_refused c.in_ok-images.ensures.images c.in_ok-bytes.ensures.bytes c.deref.ensures.value c.args.roots.now
-    c.in_err-cert.field-0.0 c.in_err-cert.ensures.err c.in_err-cert.ensures.told))
+    grind (
+      arith,
+      (told_err c.from_residual-in_err-cert.result),
+      frames_run_number,
+      of_each,
+      (frames_refused c.in_ok-images.ensures.images c.in_ok-bytes.ensures.bytes c.deref.ensures.value c.args.roots.now
+          c.in_err-cert.field-0.0 c.in_err-cert.ensures.err c.in_err-cert.ensures.told),
+    )
 
 pub returns-in_err-write_each-clause-prefix : goal.returns-in_err-write_each-clause-prefix
 returns-in_err-write_each-clause-prefix g c =
-    grind (arith, (places_made c.in_ok-images.ensures.images c.in_ok-bytes.ensures.bytes c.deref.ensures.value c.args.roots.now
-    c.args.window c.in_ok-cert.cert.entries c.in_ok-places.places.items c.in_ok-cert.ensures.ok c.in_ok-places.ensures), joined, of_each)
+    grind (
+      arith,
+      (places_made c.in_ok-images.ensures.images c.in_ok-bytes.ensures.bytes c.deref.ensures.value c.args.roots.now
+          c.args.window c.in_ok-cert.cert.entries c.in_ok-places.places.items c.in_ok-cert.ensures.ok c.in_ok-places.ensures),
+      joined,
+      of_each,
+    )
 
 pub returns-clause-text : goal.returns-clause-text
 returns-clause-text g c =
-    grind (arith, (places_made c.in_ok-images.ensures.images c.in_ok-bytes.ensures.bytes c.deref.ensures.value c.args.roots.now
-    c.args.window c.in_ok-cert.cert.entries c.in_ok-places.places.items c.in_ok-cert.ensures.ok c.in_ok-places.ensures), joined, of_each)
+    grind (
+      arith,
+      (places_made c.in_ok-images.ensures.images c.in_ok-bytes.ensures.bytes c.deref.ensures.value c.args.roots.now
+          c.args.window c.in_ok-cert.cert.entries c.in_ok-places.places.items c.in_ok-cert.ensures.ok c.in_ok-places.ensures),
+      joined,
+      of_each,
+    )

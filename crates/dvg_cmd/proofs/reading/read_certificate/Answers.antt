@@ -15,8 +15,13 @@ feeding-preserved g c =
     let fed = fed_on c.short_text.ensures before.0 piece c.feeding.reader _ _ before.1 c.in-Ok.ensures in
     record {
       piece = grind (arith, common_steps);
-      text = (before.0 ++ piece, fed.0, Consumes-trans _ _ _ before.0 piece before.2 c.in_ok-len.ensures.bytes, fed.1,
-          λ lt. grind (arith, common_steps));
+      text = (
+        before.0 ++ piece,
+        fed.0,
+        Consumes-trans _ _ _ before.0 piece before.2 c.in_ok-len.ensures.bytes,
+        fed.1,
+        λ lt. grind (arith, common_steps),
+      );
       counts = grind (arith, common_steps);
     }
 

@@ -8,6 +8,9 @@ skipping-preserved-then-len-room g c =
 
 pub skipping-preserved : goal.skipping-preserved
 skipping-preserved g c =
-    search (rules, last_skipped c.args.most c.skipping.left c.min-room.result _ _ _ (take c.in_ok-len.len c.fill.new.buf)
-    c.skipping.invariant.skipped (grind (arith, common_steps)) (grind (arith, common_steps)) c.in_ok-len.ensures.bytes
-    (grind (arith, common_steps)))
+    search (
+      rules,
+      last_skipped c.args.most c.skipping.left c.min-room.result _ _ _ (take c.in_ok-len.len c.fill.new.buf)
+          c.skipping.invariant.skipped (grind (arith, common_steps)) (grind (arith, common_steps)) c.in_ok-len.ensures.bytes
+          (grind (arith, common_steps)),
+    )

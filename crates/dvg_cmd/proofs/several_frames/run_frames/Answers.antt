@@ -22,26 +22,36 @@ returns-in_err-run_named-clause-prefix g c =
 
 pub loop-frame-init : goal.loop-frame-init
 loop-frame-init g c =
-    search (rules, no_lines g.R.Read.remaining g.R.CountedRead.failures (g.J.FrameJudge.judging c.args.judge.now) c.args.listing
-    c.args.start (g.W.Write.contents c.args.out.now) c.new-progress.result (g.W.CountedWrite.whole_writes c.args.out.now),
-    alike_itself (g.J.FrameJudge.judging c.args.judge.now))
+    search (
+      rules,
+      no_lines g.R.Read.remaining g.R.CountedRead.failures (g.J.FrameJudge.judging c.args.judge.now) c.args.listing
+          c.args.start (g.W.Write.contents c.args.out.now) c.new-progress.result (g.W.CountedWrite.whole_writes c.args.out.now),
+      alike_itself (g.J.FrameJudge.judging c.args.judge.now),
+    )
 
 pub loop-frame-preserved : goal.loop-frame-preserved
 loop-frame-preserved g c =
-    search (rules, more_lines g.R.Read.remaining g.R.CountedRead.failures _ c.args.listing c.args.start c.loop-frame.yielded
-    c.in-Some.frame _ _ _ _ _ _ _ c.loop-frame.invariant.reports _ _
-    (writes_alike _ _ c.loop-frame.invariant.same c.args.start g.R.Read.remaining g.R.CountedRead.failures c.args.listing c.in-Some.frame
-    _ _ _ _ _ _ c.in_ok-run_named.ensures.ok), alike_on _ _ _ c.loop-frame.invariant.same c.in_ok-run_named.ensures.same)
+    search (
+      rules,
+      more_lines g.R.Read.remaining g.R.CountedRead.failures _ c.args.listing c.args.start c.loop-frame.yielded
+          c.in-Some.frame _ _ _ _ _ _ _ c.loop-frame.invariant.reports _ _
+          (writes_alike _ _ c.loop-frame.invariant.same c.args.start g.R.Read.remaining g.R.CountedRead.failures c.args.listing c.in-Some.frame
+          _ _ _ _ _ _ c.in_ok-run_named.ensures.ok),
+      alike_on _ _ _ c.loop-frame.invariant.same c.in_ok-run_named.ensures.same,
+    )
 
 pub returns-in_err-write_summary-clause-prefix : goal.returns-in_err-write_summary-clause-prefix
 returns-in_err-write_summary-clause-prefix g c =
     let all : Drains g.I.Iterator.next_gives c.args.frames c.loop-frame.yielded = search rules in
     let cut = cut_summary g.R.Read.remaining g.R.CountedRead.failures _ c.args.listing c.args.start _ _ _ _ _ _ _ _
-        c.new-progress.ensures c.loop-frame.invariant.reports c.in_err-write_summary.ensures.prefix in
+    c.new-progress.ensures c.loop-frame.invariant.reports c.in_err-write_summary.ensures.prefix in
     on_err c.from_residual-in_err-write_summary.result (c.loop-frame.yielded, all.1.0, all.1.1, cut)
 
 pub returns-clause-report : goal.returns-clause-report
 returns-clause-report g c =
-    let all : Drains g.I.Iterator.next_gives c.args.frames c.loop-frame.yielded = search rules in
-    (c.loop-frame.yielded, all, with_summary g.R.Read.remaining g.R.CountedRead.failures _ c.args.listing c.args.start _ _ _ _ _ _ _ _
-        c.new-progress.ensures c.loop-frame.invariant.reports _ c.in_ok-write_summary.ensures.sent)
+    let all : Drains g.I.Iterator.next_gives c.args.frames c.loop-frame.yielded = search rules in (
+      c.loop-frame.yielded,
+      all,
+      with_summary g.R.Read.remaining g.R.CountedRead.failures _ c.args.listing c.args.start _ _ _ _ _ _ _ _
+          c.new-progress.ensures c.loop-frame.invariant.reports _ c.in_ok-write_summary.ensures.sent,
+    )

@@ -18,7 +18,11 @@ pub returns-in_err-write_listed-clause-prefix : goal.returns-in_err-write_listed
 returns-in_err-write_listed-clause-prefix g c =
     on_err c.from_residual.result (record {
       line = record { name = c.as_str-2.result.now; answer = c.answer_opened-answer.result.0; behind = c.answer_opened-answer.result.1 };
-      line_of = record { name_is = c.as_str-2.ensures.value; answers = c.answer_opened-answer.ensures.answers; asked =
-          c.answer_opened-answer.ensures.behind };
+      line_of = record {
+        name_is = c.as_str-2.ensures.value;
+        answers = c.answer_opened-answer.ensures.answers;
+        asked =
+            c.answer_opened-answer.ensures.behind;
+      };
       written = c.in_err-write_listed.ensures.prefix;
     })

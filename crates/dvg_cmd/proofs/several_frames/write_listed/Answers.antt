@@ -11,10 +11,10 @@ returns-clause-sent g c =
     let shown : is_written c.args.listing.lines (line_outcome line) ≡ true = grind (arith, common_steps) in
     on_ok c.write_answer.result c.write_answer.ensures.sent
     (λ last. subst (λ ts. Sent ts (g.W.Write.contents c.args.out.now) (g.W.Write.contents c.write_answer.new.out)
-        (g.W.CountedWrite.whole_writes c.args.out.now) (g.W.CountedWrite.whole_writes c.write_answer.new.out))
-        (sym (texts_shown c.args.listing c.args.written line shown))
-        (both_sent (blank_line (has_account c.args.listing.detail) c.args.written) (line_text line ∷ []) _ _ _ _ _ _
-        c.in_ok-write_apart.ensures.sent last))
+    (g.W.CountedWrite.whole_writes c.args.out.now) (g.W.CountedWrite.whole_writes c.write_answer.new.out))
+    (sym (texts_shown c.args.listing c.args.written line shown))
+    (both_sent (blank_line (has_account c.args.listing.detail) c.args.written) (line_text line ∷ []) _ _ _ _ _ _
+    c.in_ok-write_apart.ensures.sent last))
 
 pub returns-clause-prefix : goal.returns-clause-prefix
 returns-clause-prefix g c =
@@ -22,6 +22,6 @@ returns-clause-prefix g c =
     let shown : is_written c.args.listing.lines (line_outcome line) ≡ true = grind (arith, common_steps) in
     on_fail c.write_answer.result c.write_answer.ensures.prefix
     (λ last. subst (λ ts. AppendsPrefix (g.W.Write.contents c.args.out.now) (g.W.Write.contents c.write_answer.new.out) (joined ts))
-        (sym (texts_shown c.args.listing c.args.written line shown))
-        (both_cut (blank_line (has_account c.args.listing.detail) c.args.written) (line_text line ∷ []) _ _ _ _ _
-        (g.W.CountedWrite.whole_writes c.write_apart.new.out) c.in_ok-write_apart.ensures.sent last))
+    (sym (texts_shown c.args.listing c.args.written line shown))
+    (both_cut (blank_line (has_account c.args.listing.detail) c.args.written) (line_text line ∷ []) _ _ _ _ _
+    (g.W.CountedWrite.whole_writes c.write_apart.new.out) c.in_ok-write_apart.ensures.sent last))

@@ -9,12 +9,12 @@ returns-in-Ok-clause-answer c =
     let own = c.args.own.now in
     let asked = c.args.asked.now in
     subst (IsAnswerOf (judged_timed asked own.machine own.rom.now own.map own.budget own.window) c.args.frame.now)
-        (sym c.timed_answer.ensures)
+    (sym c.timed_answer.ensures)
     (kept_answers asked own.machine own.rom.now own.map c.args.frame.now own.budget own.window c.in-Ok.frame c.args.kept.now c.requires
-        c.in-Ok.ensures.range c.in-Ok.ensures.frame c.judge.result c.judge.ensures.timed)
+    c.in-Ok.ensures.range c.in-Ok.ensures.frame c.judge.result c.judge.ensures.timed)
 
 pub returns-in-Err-clause-answer : goal.returns-in-Err-clause-answer
 returns-in-Err-clause-answer c =
     let own = c.args.own.now in
     range_answers c.args.asked.now own.machine own.rom.now own.map c.args.frame.now own.budget own.window c.in-Err.refusal
-        c.in-Err.ensures.refused
+    c.in-Err.ensures.refused

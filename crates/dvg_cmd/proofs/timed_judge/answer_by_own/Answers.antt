@@ -10,15 +10,20 @@ returns-in-Ok c =
     let own = c.args.own.now in
     let asked = c.args.asked.now in
     let said : IsTimed asked.timing c.in-Ok.rom c.in-Ok.frame own.window own.budget c.judge_timed.result =
-        record { verdict = c.judge_timed.ensures.verdict; means = c.judge_timed.ensures.means; least = c.judge_timed.ensures.least;
-        clocks = c.judge_timed.ensures.clocks; refused = c.judge_timed.ensures.refused } in
+    record {
+      verdict = c.judge_timed.ensures.verdict;
+      means = c.judge_timed.ensures.means;
+      least = c.judge_timed.ensures.least;
+      clocks = c.judge_timed.ensures.clocks;
+      refused = c.judge_timed.ensures.refused;
+    } in
     subst (IsAnswerOf (judged_timed asked own.machine own.rom.now own.map own.budget own.window) c.args.frame.now)
-        (sym c.timed_answer.ensures)
+    (sym c.timed_answer.ensures)
     (timed_answers asked own.machine own.rom.now own.map c.args.frame.now own.budget own.window c.in-Ok.frame c.in-Ok.rom
-        c.in-Ok.ensures.ok c.judge_timed.result said)
+    c.in-Ok.ensures.ok c.judge_timed.result said)
 
 pub returns-in-Err : goal.returns-in-Err
 returns-in-Err c =
     let own = c.args.own.now in
     plain_answers c.args.asked.now own.machine own.rom.now own.map c.args.frame.now own.budget own.window c.in-Err.refusal
-        (c.in-Err.ensures.err own.window)
+    (c.in-Err.ensures.err own.window)

@@ -10,5 +10,5 @@ returns c =
     c.deref.ensures.value ∙ c.in_ok-text.ensures ∙ ap (text_of map) c.new.ensures.items ∙ rom_text map c.nearest_map-map.ensures.1 in
     let cut : c.within-allowed.result.now ≡ ended (rom_line map) =
     c.within-allowed.ensures (ended second_version_line) (ended (rom_line map)) (ended (done_line 0)) text refl
-        (short_done 0 (omega arith)) in
+    (short_done 0 (omega arith)) in
     allowed_before IsRomLine (rom_line map) _ _ _ (map, c.nearest_map-map.ensures, refl) c.common.ensures.first c.common.ensures.same cut

@@ -19,8 +19,8 @@ returns-in-Span-Span c =
     let y0 : SFits w64 c.min-in-Span-Span.result = search rules in
     let y1 : SFits w64 c.max-in-Span-Span.result = search rules in
     let h = joined_is c.args.first.now c.args.second.now _ c.in-Span-Span.x_min c.in-Span-Span.x_max c.in-Span-Span.y_min
-        c.in-Span-Span.y_max c.in-Span-Span.left c.in-Span-Span.right c.in-Span-Span.bottom c.in-Span-Span.top c.min.result c.max.result
-        c.min-in-Span-Span.result c.max-in-Span-Span.result c.in-Span-Span.is-0 c.in-Span-Span.is-1 (simp to_z-of_z)
+    c.in-Span-Span.y_max c.in-Span-Span.left c.in-Span-Span.right c.in-Span-Span.bottom c.in-Span-Span.top c.min.result c.max.result
+    c.min-in-Span-Span.result c.max-in-Span-Span.result c.in-Span-Span.is-0 c.in-Span-Span.is-1 (simp to_z-of_z)
     (record { lower = simp to_z-of_z at c.min.ensures.value; upper = simp to_z-of_z at c.max.ensures.value })
     (record { lower = simp to_z-of_z at c.min-in-Span-Span.ensures.value; upper = simp to_z-of_z at c.max-in-Span-Span.ensures.value }) in
     record { first = h.first; second = h.second; least = h.least }

@@ -16,7 +16,7 @@ returns c =
     let y0 : SFits w64 c.min-2.result = search rules in
     let y1 : SFits w64 c.max-2.result = search rules in
     let box = Span (to_z w64 (of_z w64 c.min.result)) (to_z w64 (of_z w64 c.max.result)) (to_z w64 (of_z w64 c.min-2.result))
-        (to_z w64 (of_z w64 c.max-2.result)) in
+    (to_z w64 (of_z w64 c.max-2.result)) in
     let h = spanning_is c.args.p.now c.args.q.now box c.min.result c.max.result c.min-2.result c.max-2.result (simp to_z-of_z)
     (record { lower = simp to_z-of_z at c.min.ensures.value; upper = simp to_z-of_z at c.max.ensures.value })
     (record { lower = simp to_z-of_z at c.min-2.ensures.value; upper = simp to_z-of_z at c.max-2.ensures.value }) in

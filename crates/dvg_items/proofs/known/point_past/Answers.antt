@@ -6,4 +6,4 @@ use Rattle.dvg_items.proofs.known.point_past.Goals as goal
 pub returns-clause-near : goal.returns-clause-near
 returns-clause-near c =
     subst (IsNear (c.args.at + 1)) (sym c.shift.ensures)
-        (reached_shift ITEM_REACH c.args.at 1 (c.args.at + 1) c.args.point c.args.by.now refl c.requires.point c.requires.by)
+    (reached_shift ITEM_REACH c.args.at 1 (c.args.at + 1) c.args.point c.args.by.now refl c.requires.point c.requires.by)

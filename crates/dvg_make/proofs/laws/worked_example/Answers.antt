@@ -21,8 +21,10 @@ module _ (P : List Item → Item → Type 0) where
   both_items : P [] draw_item → P (draw_item ∷ []) return_item → EachItem example_rom 2048 P
   both_items first last earlier i lead is =
       all_kept Shape (rom_word example_rom) 2048 Item Here (draw_item ∷ []) return_item (refl, draw_there Profile, refl)
-          (return_there Profile) refl ((tt, here [] draw_item (draw_there Profile) first),
-          here (draw_item ∷ []) return_item (return_there Profile) last) earlier i.at lead i refl is
+      (return_there Profile) refl (
+        (tt, here [] draw_item (draw_there Profile) first),
+        here (draw_item ∷ []) return_item (return_there Profile) last,
+      ) earlier i.at lead i refl is
 
 -- ---- its box
 

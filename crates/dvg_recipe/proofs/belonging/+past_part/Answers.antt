@@ -74,43 +74,45 @@ pub past_repeat-returns-then-eq : goal.past_repeat-returns-then-eq
 past_repeat-returns-then-eq t c =
     let next = c.past_part.new.here.items in
     let is : next ≡ c.loop.here.items =
-        same_text next c.in_ok-before.before.items c.if-eq.ensures ∙ c.in_ok-before.ensures.items ∙ c.deref.ensures.value in
+    same_text next c.in_ok-before.before.items c.if-eq.ensures ∙ c.in_ok-before.ensures.items ∙ c.deref.ensures.value in
     turns_same (PartLeads c.args.body.now c.args.places.now) c.loop.counter c.args.least c.args.most c.args.here.now.items
-        c.loop.here.items next (omega (arith, c.loop-test.true)) (omega (arith, c.if-most-least.false)) c.loop.invariant
-        c.in_ok-past_part.ensures is
+    c.loop.here.items next (omega (arith, c.loop-test.true)) (omega (arith, c.if-most-least.false)) c.loop.invariant
+    c.in_ok-past_part.ensures is
 
 pub past_repeat-loop-preserved : goal.past_repeat-loop-preserved
 past_repeat-loop-preserved t c =
     turn_next (PartLeads c.args.body.now c.args.places.now) c.loop.counter (c.loop.counter + 1) c.args.here.now.items c.loop.here.items
-        c.past_part.new.here.items (omega arith) c.loop.invariant c.in_ok-past_part.ensures
+    c.past_part.new.here.items (omega arith) c.loop.invariant c.in_ok-past_part.ensures
 
 pub past_repeat-loop-2-init : goal.past_repeat-loop-2-init
 past_repeat-loop-2-init t c =
     let R = PartLeads c.args.body.now c.args.places.now in
     let here : IsPast (TimesOver c.args.least R) c.args.here.now.items c.loop.here.items =
     subst (λ n. IsPast (TimesOver n R) c.args.here.now.items c.loop.here.items)
-        (omega (arith, c.loop-test.false, c.loop.auto.counter-end)) c.loop.invariant in
-    (here, turns_first R c.args.least c.args.here.now.items c.loop.here.items c.in_ok-next.next.items
-        (sym (c.in_ok-next.ensures.items ∙ c.deref-2.ensures.value)) here)
+    (omega (arith, c.loop-test.false, c.loop.auto.counter-end)) c.loop.invariant in (
+      here,
+      turns_first R c.args.least c.args.here.now.items c.loop.here.items c.in_ok-next.next.items
+          (sym (c.in_ok-next.ensures.items ∙ c.deref-2.ensures.value)) here,
+    )
 
 pub past_repeat-returns-then-has_all : goal.past_repeat-returns-then-has_all
 past_repeat-returns-then-has_all t c =
     let R = PartLeads c.args.body.now c.args.places.now in
     let next = c.past_part-in-loop-2.new.here.items in
     let here = turn_next R c.loop-2.counter (c.loop-2.counter + 1) c.args.here.now.items c.loop-2.here.items next (omega arith)
-        c.loop-2.invariant.0 c.in_ok-past_part-2.ensures in
+    c.loop-2.invariant.0 c.in_ok-past_part-2.ensures in
     let known : (j : ℕ) → Contains next j → Contains c.loop-2.next.items j =
     λ j there. subst (λ (l : List ℕ). Contains l j) c.deref-in-loop-2.ensures.value
-        (c.if-has_all.ensures refl j (subst (λ (l : List ℕ). Contains l j) (sym c.deref-in-loop-2-2.ensures.value) there)) in
+    (c.if-has_all.ensures refl j (subst (λ (l : List ℕ). Contains l j) (sym c.deref-in-loop-2-2.ensures.value) there)) in
     turns_closed R c.args.least c.loop-2.counter (c.loop-2.counter + 1) c.args.here.now.items c.loop-2.next.items next (omega arith)
-        (omega (arith, c.loop-2.auto.counter)) c.loop-2.invariant.1 here known c.args.most (omega (arith, c.loop-2-test.true))
+    (omega (arith, c.loop-2.auto.counter)) c.loop-2.invariant.1 here known c.args.most (omega (arith, c.loop-2-test.true))
 
 pub past_repeat-loop-2-preserved : goal.past_repeat-loop-2-preserved
 past_repeat-loop-2-preserved t c =
     let R = PartLeads c.args.body.now c.args.places.now in
     let next = c.past_part-in-loop-2.new.here.items in
     let here = turn_next R c.loop-2.counter (c.loop-2.counter + 1) c.args.here.now.items c.loop-2.here.items next (omega arith)
-        c.loop-2.invariant.0 c.in_ok-past_part-2.ensures in (
+    c.loop-2.invariant.0 c.in_ok-past_part-2.ensures in (
       here,
       turns_more R c.args.least c.loop-2.counter (c.loop-2.counter + 1) c.args.here.now.items c.loop-2.next.items next (omega arith)
           (omega (arith, c.loop-2.auto.counter)) c.loop-2.invariant.1 here c.add_all.new.set.items
@@ -120,4 +122,4 @@ past_repeat-loop-2-preserved t c =
 pub past_repeat-returns : goal.past_repeat-returns
 past_repeat-returns t c =
     subst (λ n. IsPast (Turns c.args.least n (PartLeads c.args.body.now c.args.places.now)) c.args.here.now.items c.loop-2.next.items)
-        (omega (arith, c.loop-2-test.false, c.loop-2.auto.counter-end, c.if-most-least.false)) c.loop-2.invariant.1
+    (omega (arith, c.loop-2-test.false, c.loop-2.auto.counter-end, c.if-most-least.false)) c.loop-2.invariant.1

@@ -13,19 +13,19 @@ returns-then-has_end-clause-ok c =
     let all = c.in_ok-all.all in
     let end = c.has_end.ensures.0 c.if-has_end.true in
     let those = subst (λ (o : ItemsOver). AreThose (RecipeLeads c.args.recipe.now o) c.in_ok-here.here.items)
-        (c.in_ok-places.ensures ∙ ap (λ (l : List Item). record { rom = c.args.rom.now; items = l }) c.deref.ensures.value)
-        c.in_ok-here.ensures in
+    (c.in_ok-places.ensures ∙ ap (λ (l : List Item). record { rom = c.args.rom.now; items = l }) c.deref.ensures.value)
+    c.in_ok-here.ensures in
     let there = subst (λ (l : List ℕ). Contains l (length all.items.items)) c.deref-2.ensures.value end.1 in
     belongs_if c.args.rom.now c.args.frame.now all c.in_ok-all.ensures.items c.args.recipe.now c.prove_whole.ensures end.0
-        ((those.each (length all.items.items)).0 there)
+    ((those.each (length all.items.items)).0 there)
 
 pub returns-clause-err : goal.returns-clause-err
 returns-clause-err c b =
     let all = c.in_ok-all.all in
     let those = subst (λ (o : ItemsOver). AreThose (RecipeLeads c.args.recipe.now o) c.in_ok-here.here.items)
-        (c.in_ok-places.ensures ∙ ap (λ (l : List Item). record { rom = c.args.rom.now; items = l }) c.deref.ensures.value)
-        c.in_ok-here.ensures in
+    (c.in_ok-places.ensures ∙ ap (λ (l : List Item). record { rom = c.args.rom.now; items = l }) c.deref.ensures.value)
+    c.in_ok-here.ensures in
     let only = only_if c.args.rom.now c.args.frame.now all c.in_ok-all.ensures.items c.args.recipe.now b in
     let there = subst (λ (l : List ℕ). Contains l (length all.items.items)) (sym c.deref-2.ensures.value)
-        ((those.each (length all.items.items)).1 only.1) in
+    ((those.each (length all.items.items)).1 only.1) in
     not_both c.has_end.result c.if-has_end.false (c.has_end.ensures.1 (only.0, there))

@@ -10,12 +10,12 @@ loop-index-preserved c =
     elim c.if-is_jump.branch [
       | then-is_jump+in_ok-push w ↦
           push_next (JumpLeads c.args.to c.args.places.now) c.args.here.now c.loop-index.next.items c.loop-index.index-index
-              (c.loop-index.index-index + 1) 0 (omega arith) c.loop-index-test.true c.loop-index.invariant
+          (c.loop-index.index-index + 1) 0 (omega arith) c.loop-index-test.true c.loop-index.invariant
           index (index + 1) c.if-is_jump.next.items refl ((λ i. (w.next-is i).items) ∙ w.in_ok-push.ensures.items)
-              (c.is_jump.ensures.yes w.if-is_jump.true) (λ j leads. omega (arith, leads.next))
+          (c.is_jump.ensures.yes w.if-is_jump.true) (λ j leads. omega (arith, leads.next))
       | else-is_jump w ↦
           skip_next (JumpLeads c.args.to c.args.places.now) c.args.here.now c.loop-index.next.items c.loop-index.index-index
-              (c.loop-index.index-index + 1) 0 (omega arith) c.loop-index-test.true c.loop-index.invariant
+          (c.loop-index.index-index + 1) 0 (omega arith) c.loop-index-test.true c.loop-index.invariant
           index c.if-is_jump.next.items refl (λ i. (w.next-is i).items) (c.is_jump.ensures.no w.if-is_jump.false)
     ]
 

@@ -10,12 +10,12 @@ loop-index-preserved c =
     elim c.if-taken.branch [
       | then-taken+in_ok-push w ↦
           push_next (PieceLeads c.args.piece.now c.args.places.now) c.args.here.now c.loop-index.next.items c.loop-index.index-index
-              (c.loop-index.index-index + 1) 0 (omega arith) c.loop-index-test.true c.loop-index.invariant
+          (c.loop-index.index-index + 1) 0 (omega arith) c.loop-index-test.true c.loop-index.invariant
           index (index + 1) c.if-taken.next.items refl ((λ i. (w.next-is i).items) ∙ w.in_ok-push.ensures.items)
-              (c.in_ok-taken.ensures.yes w.if-taken.true) (λ j leads. omega (arith, leads.next))
+          (c.in_ok-taken.ensures.yes w.if-taken.true) (λ j leads. omega (arith, leads.next))
       | else-taken w ↦
           skip_next (PieceLeads c.args.piece.now c.args.places.now) c.args.here.now c.loop-index.next.items c.loop-index.index-index
-              (c.loop-index.index-index + 1) 0 (omega arith) c.loop-index-test.true c.loop-index.invariant
+          (c.loop-index.index-index + 1) 0 (omega arith) c.loop-index-test.true c.loop-index.invariant
           index c.if-taken.next.items refl (λ i. (w.next-is i).items) (c.in_ok-taken.ensures.no w.if-taken.false)
     ]
 

@@ -11,6 +11,6 @@ returns c =
     recipe_those recipe items c.in_ok-here.here.items c.past_part.new.here.items c.in_ok-here-2.here.items
     (those_of c.lists.result.now recipe.lists items c.in_ok-here.here.items c.lists.ensures c.in_ok-here.ensures)
     (part_to c.body.result.now recipe.body items c.in_ok-here.here.items c.past_part.new.here.items c.body.ensures.value
-        c.in_ok-past_part.ensures)
+    c.in_ok-past_part.ensures)
     (subst (λ (l : List Jump). IsPast (JumpsLead l items) c.past_part.new.here.items c.in_ok-here-2.here.items) c.jumps.ensures.value
-        c.in_ok-here-2.ensures)
+    c.in_ok-here-2.ensures)

@@ -9,12 +9,12 @@ loop-area-preserved c =
     elim c.match-start_of.branch [
       | in-Some+in_ok-add w ↦
           starts_add c.args.lists.now c.args.places.now c.loop-area.area-index (c.loop-area.area-index + 1) _ c.loop-area.here.items
-              (omega arith) c.loop-area-test.true c.loop-area.invariant
+          (omega arith) c.loop-area-test.true c.loop-area.invariant
           w.in-Some.index c.match-start_of.here.items w.in-Some.ensures.some w.in-Some.ensures.only
           (subst (λ (l : List ℕ). IsJoined c.loop-area.here.items (w.in-Some.index ∷ []) l) (sym (λ i. (w.here-is i).items))
-              w.in_ok-add.ensures)
+          w.in_ok-add.ensures)
       | in_default w ↦
           starts_skip c.args.lists.now c.args.places.now c.loop-area.area-index (c.loop-area.area-index + 1) _ c.loop-area.here.items
-              (omega arith) c.loop-area-test.true c.loop-area.invariant
+          (omega arith) c.loop-area-test.true c.loop-area.invariant
           c.match-start_of.here.items (λ i. (w.here-is i).items) w.in_default.ensures.none
     ]

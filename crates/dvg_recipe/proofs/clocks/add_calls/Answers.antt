@@ -21,18 +21,18 @@ loop-to-preserved g c =
           (clocks_in c.args.counting.now.shapes.now) (λ i. i.instr ≡ Jsrl to) here more) c.args.targets.now c.loop-to.to-index
           (c.loop-to.to-index + 1) 0 (omega arith) c.loop-to-test.true
           (λ to there. on_more c.args.counting.now.timing.now.states (g.E.Entries.list c.args.counting.now.entries.now)
-              (clocks_in c.args.counting.now.shapes.now) (λ i. i.instr ≡ Jsrl to) here c.loop-to.next more e.kept
-              (c.loop-to.invariant.0 to there))
+          (clocks_in c.args.counting.now.shapes.now) (λ i. i.instr ≡ Jsrl to) here c.loop-to.next more e.kept
+          (c.loop-to.invariant.0 to there))
           (on_fewer c.args.counting.now.timing.now.states (g.E.Entries.list c.args.counting.now.entries.now)
-              (clocks_in c.args.counting.now.shapes.now) (AreAlike c.args.counting.now.timing.now.states c.somewhere-call.result) _ here
-              more (λ i is. subst (λ (j : Item). AreAlike c.args.counting.now.timing.now.states j i) (sym c.somewhere-call.ensures)
-              (calls_alike c.args.counting.now.timing.now.states _ i _ is)) e.past),
+          (clocks_in c.args.counting.now.shapes.now) (AreAlike c.args.counting.now.timing.now.states c.somewhere-call.result) _ here
+          more (λ i is. subst (λ (j : Item). AreAlike c.args.counting.now.timing.now.states j i) (sym c.somewhere-call.ensures)
+          (calls_alike c.args.counting.now.timing.now.states _ i _ is)) e.past),
       no_more_on _ _ _ c.loop-to.invariant.1 e.kept,
     )
 
 pub returns-clause-past : goal.returns-clause-past
 returns-clause-past g c =
     on_calls c.args.counting.now.timing.now.states (g.E.Entries.list c.args.counting.now.entries.now)
-        (clocks_in c.args.counting.now.shapes.now) c.args.targets.now c.args.here.now c.loop-to.next
+    (clocks_in c.args.counting.now.shapes.now) c.args.targets.now c.args.here.now c.loop-to.next
     (λ to there. c.loop-to.invariant.0 to
-        (subst (λ (l : List ℕ). Contains l to) (sym (take_all c.loop-to.to-index c.args.targets.now c.loop-to-test.false)) there))
+    (subst (λ (l : List ℕ). Contains l to) (sym (take_all c.loop-to.to-index c.args.targets.now c.loop-to-test.false)) there))

@@ -8,5 +8,5 @@ abbrev pub invariant-loop-to : goal.invariant-loop-to
 invariant-loop-to g l =
     ((to : ℕ) → Contains (take l.to-index l.targets) to
     → TakeOn l.counting.timing.now.states (g.E.Entries.list l.counting.entries.now) (clocks_in l.counting.shapes.now)
-        (λ i. i.instr ≡ Jsrl to) l.here l.next)
+    (λ i. i.instr ≡ Jsrl to) l.here l.next)
     × AreNoMore l.initial.next l.next

@@ -10,9 +10,9 @@ pub returns-in-Holds-clause-past : goal.returns-in-Holds-clause-past
 returns-in-Holds-clause-past g c =
     on_ok_then c.add_item.result _ _
     (λ past. on_fewer c.args.counting.now.timing.now.states (g.E.Entries.list c.args.counting.now.entries.now)
-        (clocks_in c.args.counting.now.shapes.now) (AreAlike c.args.counting.now.timing.now.states c.somewhere.result)
-        (λ i. Takes (Fixed c.args.words.0 c.args.words.1) i.format i.instr) c.args.here.now c.add_item.new.next
+    (clocks_in c.args.counting.now.shapes.now) (AreAlike c.args.counting.now.timing.now.states c.somewhere.result)
+    (λ i. Takes (Fixed c.args.words.0 c.args.words.1) i.format i.instr) c.args.here.now c.add_item.new.next
     (λ i is. subst (λ (j : Item). AreAlike c.args.counting.now.timing.now.states j i) (sym c.somewhere.ensures)
-        (same_alike c.args.counting.now.timing.now.states 0 c.in-Holds.format c.in-Holds.instr i
-        (sym c.in-Holds.is ∙ c.cell_of_words.ensures.value ∙ is))) past)
+    (same_alike c.args.counting.now.timing.now.states 0 c.in-Holds.format c.in-Holds.instr i
+    (sym c.in-Holds.is ∙ c.cell_of_words.ensures.value ∙ is))) past)
     c.add_item.ensures.past

@@ -22,9 +22,9 @@ loop-scale-preserved g c =
 pub returns-clause-past : goal.returns-clause-past
 returns-clause-past g c =
     on_ok_then c.add_at-2.result _ _
-        (λ h. on_alike c.args.counting.now.timing.now.states (g.E.Entries.list c.args.counting.now.entries.now)
-        (clocks_in c.args.counting.now.shapes.now) c.args.item.now c.args.here.now c.add_at-2.new.next (each h.0 h.1))
-        (on_ok_both c.add_at-2.result _ _ c.add_at-2.ensures.past c.add_at-2.ensures.kept)
+    (λ h. on_alike c.args.counting.now.timing.now.states (g.E.Entries.list c.args.counting.now.entries.now)
+    (clocks_in c.args.counting.now.shapes.now) c.args.item.now c.args.here.now c.add_at-2.new.next (each h.0 h.1))
+    (on_ok_both c.add_at-2.result _ _ c.add_at-2.ensures.past c.add_at-2.ensures.kept)
   where
     each : ((n : ClockRange) → IsUnder n (most_at c.args.here.now Any)
         → IsUnder (taken_past c.args.counting.now.timing.now.states (g.E.Entries.list c.args.counting.now.entries.now)
@@ -34,9 +34,9 @@ returns-clause-past g c =
         → AreNoMore c.loop-scale.next c.add_at-2.new.next
         → (scale : Key) (n : ClockRange) → IsUnder n (most_at c.args.here.now scale)
         → IsUnder (taken_past c.args.counting.now.timing.now.states (g.E.Entries.list c.args.counting.now.entries.now)
-            (clocks_in c.args.counting.now.shapes.now) c.args.item.now scale n)
-            (most_at c.add_at-2.new.next (scale_past c.args.counting.now.timing.now.states
-            (g.E.Entries.list c.args.counting.now.entries.now) (clocks_in c.args.counting.now.shapes.now) c.args.item.now scale))
+        (clocks_in c.args.counting.now.shapes.now) c.args.item.now scale n)
+        (most_at c.add_at-2.new.next (scale_past c.args.counting.now.timing.now.states
+        (g.E.Entries.list c.args.counting.now.entries.now) (clocks_in c.args.counting.now.shapes.now) c.args.item.now scale))
     each past kept (At s) n under =
         kept.each _ _ (c.loop-scale.invariant.0 s n (scale_below c.args.here.now.at c.loop-scale.scale s n (search rules) under) under)
     each past kept Any n under = past n under

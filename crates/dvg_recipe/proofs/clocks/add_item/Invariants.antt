@@ -9,7 +9,7 @@ abbrev pub invariant-loop-scale : goal.invariant-loop-scale
 invariant-loop-scale g l =
     ((s : ℕ) (n : ClockRange) → s < l.scale → IsUnder n (get_or l.here.at s None)
     → IsUnder (taken_past l.counting.timing.now.states (g.E.Entries.list l.counting.entries.now) (clocks_in l.counting.shapes.now) l.item
-        (At s) n)
+    (At s) n)
     (most_at l.next (scale_past l.counting.timing.now.states (g.E.Entries.list l.counting.entries.now) (clocks_in l.counting.shapes.now)
-        l.item (At s))))
+    l.item (At s))))
     × AreNoMore l.initial.next l.next

@@ -16,20 +16,20 @@ pub returns-in-Call : goal.returns-in-Call
 returns-in-Call g c =
     on_ok_then c.add_calls.result _ _
     (λ h. on_kind c.args.counting.now.timing.now.states (g.E.Entries.list c.args.counting.now.entries.now)
-        (clocks_in c.args.counting.now.shapes.now) _ c.args.piece.now.kind c.args.here.now c.add_calls.new.next (sym c.in-Call.is)
-        (subst (λ (l : List ℕ). TakeOn c.args.counting.now.timing.now.states (g.E.Entries.list c.args.counting.now.entries.now)
-        (clocks_in c.args.counting.now.shapes.now) (λ i. TakesCall l i.instr) c.args.here.now c.add_calls.new.next) c.deref.ensures.value
-        h))
+    (clocks_in c.args.counting.now.shapes.now) _ c.args.piece.now.kind c.args.here.now c.add_calls.new.next (sym c.in-Call.is)
+    (subst (λ (l : List ℕ). TakeOn c.args.counting.now.timing.now.states (g.E.Entries.list c.args.counting.now.entries.now)
+    (clocks_in c.args.counting.now.shapes.now) (λ i. TakesCall l i.instr) c.args.here.now c.add_calls.new.next) c.deref.ensures.value
+    h))
     c.add_calls.ensures.past
 
 pub returns-in-Draw : goal.returns-in-Draw
 returns-in-Draw g c =
     on_ok_then c.add_item.result _ _
     (λ h. on_kind c.args.counting.now.timing.now.states (g.E.Entries.list c.args.counting.now.entries.now)
-        (clocks_in c.args.counting.now.shapes.now) _ c.args.piece.now.kind c.args.here.now c.add_item.new.next (sym c.in-Draw.is)
-        (on_fewer c.args.counting.now.timing.now.states (g.E.Entries.list c.args.counting.now.entries.now)
-        (clocks_in c.args.counting.now.shapes.now) (AreAlike c.args.counting.now.timing.now.states c.draw_of.result) _ c.args.here.now
-        c.add_item.new.next (λ i taken. c.draw_of.ensures.alike c.args.counting.now.timing.now.states i taken) h))
+    (clocks_in c.args.counting.now.shapes.now) _ c.args.piece.now.kind c.args.here.now c.add_item.new.next (sym c.in-Draw.is)
+    (on_fewer c.args.counting.now.timing.now.states (g.E.Entries.list c.args.counting.now.entries.now)
+    (clocks_in c.args.counting.now.shapes.now) (AreAlike c.args.counting.now.timing.now.states c.draw_of.result) _ c.args.here.now
+    c.add_item.new.next (λ i taken. c.draw_of.ensures.alike c.args.counting.now.timing.now.states i taken) h))
     c.add_item.ensures.past
 
 pub returns-in-Fixed : goal.returns-in-Fixed

@@ -14,13 +14,13 @@ loop-scale-preserved g c =
           (clocks_in c.args.counting.now.shapes.now) (λ i. IsLabsAt s i.instr) here more) c.args.range.now.scales c.loop-scale.scale
           (c.loop-scale.scale + 1) (omega arith) e.past
           (λ s lt there. on_more c.args.counting.now.timing.now.states (g.E.Entries.list c.args.counting.now.entries.now)
-              (clocks_in c.args.counting.now.shapes.now) (λ i. IsLabsAt s i.instr) here c.loop-scale.next more e.kept
-              (c.loop-scale.invariant.0 s lt there)),
+          (clocks_in c.args.counting.now.shapes.now) (λ i. IsLabsAt s i.instr) here c.loop-scale.next more e.kept
+          (c.loop-scale.invariant.0 s lt there)),
       no_more_on _ _ _ c.loop-scale.invariant.1 e.kept,
     )
 
 pub returns-clause-past : goal.returns-clause-past
 returns-clause-past g c =
     on_places c.args.counting.now.timing.now.states (g.E.Entries.list c.args.counting.now.entries.now)
-        (clocks_in c.args.counting.now.shapes.now) c.args.range.now c.args.here.now c.loop-scale.next
+    (clocks_in c.args.counting.now.shapes.now) c.args.range.now c.args.here.now c.loop-scale.next
     (λ s there. c.loop-scale.invariant.0 s (in_scales c.args.range.now.scales s c.loop-scale.scale (search rules) there) there)

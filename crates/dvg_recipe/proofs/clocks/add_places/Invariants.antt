@@ -8,5 +8,5 @@ abbrev pub invariant-loop-scale : goal.invariant-loop-scale
 invariant-loop-scale g l =
     ((s : ℕ) → s < l.scale → get_or l.range.scales s false ≡ true
     → TakeOn l.counting.timing.now.states (g.E.Entries.list l.counting.entries.now) (clocks_in l.counting.shapes.now)
-        (λ i. IsLabsAt s i.instr) l.here l.next)
+    (λ i. IsLabsAt s i.instr) l.here l.next)
     × AreNoMore l.initial.next l.next

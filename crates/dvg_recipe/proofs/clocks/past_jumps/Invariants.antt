@@ -7,4 +7,4 @@ use Rattle.dvg_recipe.proofs.clocks.past_jumps.Given as goal
 abbrev pub invariant-loop-jump : goal.invariant-loop-jump
 invariant-loop-jump g l =
     Spend l.counting.timing.now.states (g.E.Entries.list l.counting.entries.now) (clocks_in l.counting.shapes.now)
-        (SpellsJumps (take l.jump-index l.jumps)) l.initial.here l.here
+    (SpellsJumps (take l.jump-index l.jumps)) l.initial.here l.here

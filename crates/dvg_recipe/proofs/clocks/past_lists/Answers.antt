@@ -9,8 +9,13 @@ use Rattle.dvg_recipe.proofs.clocks.past_lists.Goals as goal
 
 pub past_jumps-requires-clause-fits : goal.past_jumps-requires-clause-fits
 past_jumps-requires-clause-fits g c =
-    record { each = λ jump there. (MOST_LEVELS, MOST_NESTED,
-        c.jumps.ensures.fits jump (subst (λ (l : List Jump). Contains l jump) c.jumps.ensures.value there)) }
+    record {
+      each = λ jump there. (
+        MOST_LEVELS,
+        MOST_NESTED,
+        c.jumps.ensures.fits jump (subst (λ (l : List Jump). Contains l jump) c.jumps.ensures.value there),
+      );
+    }
 
 pub returns : goal.returns
 returns g c =
@@ -19,11 +24,11 @@ returns g c =
     let between = c.in_ok-here-2.here in
     if_ok_on c.past_jumps.result _ _
     (λ ends h. end_with c.args.counting.now.timing.now.states (g.E.Entries.list c.args.counting.now.entries.now)
-        (clocks_in c.args.counting.now.shapes.now) recipe start between ends
+    (clocks_in c.args.counting.now.shapes.now) recipe start between ends
     (subst (λ (l : List Area). StartWith c.args.counting.now.timing.now.states (g.E.Entries.list c.args.counting.now.entries.now)
-        (clocks_in c.args.counting.now.shapes.now) l start) c.lists.ensures c.in_ok-here.ensures)
+    (clocks_in c.args.counting.now.shapes.now) l start) c.lists.ensures c.in_ok-here.ensures)
     (subst (λ (p : Part). Spend c.args.counting.now.timing.now.states (g.E.Entries.list c.args.counting.now.entries.now)
-        (clocks_in c.args.counting.now.shapes.now) (Spells p) start between) c.body.ensures.value c.in_ok-here-2.ensures)
+    (clocks_in c.args.counting.now.shapes.now) (Spells p) start between) c.body.ensures.value c.in_ok-here-2.ensures)
     (subst (λ (l : List Jump). Spend c.args.counting.now.timing.now.states (g.E.Entries.list c.args.counting.now.entries.now)
-        (clocks_in c.args.counting.now.shapes.now) (SpellsJumps l) between ends) c.jumps.ensures.value h))
+    (clocks_in c.args.counting.now.shapes.now) (SpellsJumps l) between ends) c.jumps.ensures.value h))
     c.past_jumps.ensures

@@ -9,14 +9,14 @@ use Rattle.dvg_recipe.proofs.clocks.past_row.Goals as goal
 pub add_piece-requires-clause-fits : goal.add_piece-requires-clause-fits
 add_piece-requires-clause-fits g c =
     subst (λ (p : Piece). PieceFits p.kind) (sym c.piece-item.is)
-        (c.requires.fits.each _ (Contains-get_or c.args.row.now c.loop-piece.piece-index c.piece-item.result c.loop-piece-test.true))
+    (c.requires.fits.each _ (Contains-get_or c.args.row.now c.loop-piece.piece-index c.piece-item.result c.loop-piece-test.true))
 
 pub loop-piece-preserved : goal.loop-piece-preserved
 loop-piece-preserved g c =
     row_next c.args.counting.now.timing.now.states (g.E.Entries.list c.args.counting.now.entries.now)
-        (clocks_in c.args.counting.now.shapes.now) c.args.row.now c.loop-piece.piece-index (c.loop-piece.piece-index + 1)
-        c.piece-item.result c.args.here.now c.loop-piece.here c.add_piece.new.next (omega arith) c.loop-piece-test.true
-        c.loop-piece.invariant
+    (clocks_in c.args.counting.now.shapes.now) c.args.row.now c.loop-piece.piece-index (c.loop-piece.piece-index + 1)
+    c.piece-item.result c.args.here.now c.loop-piece.here c.add_piece.new.next (omega arith) c.loop-piece-test.true
+    c.loop-piece.invariant
     (subst (λ (p : Piece). TakeOn c.args.counting.now.timing.now.states (g.E.Entries.list c.args.counting.now.entries.now)
-        (clocks_in c.args.counting.now.shapes.now) (λ i. Takes p.kind i.format i.instr) c.loop-piece.here c.add_piece.new.next)
-        c.piece-item.is c.in_ok-add_piece.ensures)
+    (clocks_in c.args.counting.now.shapes.now) (λ i. Takes p.kind i.format i.instr) c.loop-piece.here c.add_piece.new.next)
+    c.piece-item.is c.in_ok-add_piece.ensures)

@@ -7,4 +7,4 @@ use Rattle.dvg_recipe.proofs.clocks.past_row.Given as goal
 abbrev pub invariant-loop-piece : goal.invariant-loop-piece
 invariant-loop-piece g l =
     Spend l.counting.timing.now.states (g.E.Entries.list l.counting.entries.now) (clocks_in l.counting.shapes.now)
-        (AddsRow (take l.piece-index l.row)) l.initial.here l.here
+    (AddsRow (take l.piece-index l.row)) l.initial.here l.here

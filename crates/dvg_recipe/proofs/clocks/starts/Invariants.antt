@@ -6,4 +6,4 @@ use Rattle.dvg_recipe.proofs.clocks.starts.Given as goal
 abbrev pub invariant-loop-area : goal.invariant-loop-area
 invariant-loop-area g l =
     StartWith l.counting.timing.now.states (g.E.Entries.list l.counting.entries.now) (clocks_in l.counting.shapes.now)
-        (take l.area-index l.lists) l.here
+    (take l.area-index l.lists) l.here

@@ -17,7 +17,7 @@ pub returns-in-Some-clause-sound : goal.returns-in-Some-clause-sound
 returns-in-Some-clause-sound c =
     let h = scale_at _ c.args.hulls.now.items c.in-Some.index c.in-Some.old c.args.hull.now c.deref.ensures.value c.in-Some.ensures in
     join_sound c.args.hulls.now.items c.in-Some.index c.joined.result c.in-Some.old c.args.hull.now h.within h.at c.joined.ensures
-        c.requires.sound c.requires.hull
+    c.requires.sound c.requires.hull
 
 pub returns-in_ok-push-in-None-clause-sound : goal.returns-in_ok-push-in-None-clause-sound
 returns-in_ok-push-in-None-clause-sound c =

@@ -20,9 +20,11 @@ add_part-returns-in-Row-clause-carries g t c =
     let here = c.args.here.now in
     let next = c.add_row.new.next.items in
     if_ok_on c.add_row.result _ _
-    (λ u h fine. let x = h fine in
-    (x.0, part_as w list budget (Row c.in-Row.row) c.args.part.now here next (sym c.in-Row.is)
-        (subst (λ l. Carries w list budget (AddsRow l) here next) c.deref.ensures.value x.1)))
+    (λ u h fine. let x = h fine in (
+      x.0,
+      part_as w list budget (Row c.in-Row.row) c.args.part.now here next (sym c.in-Row.is)
+          (subst (λ l. Carries w list budget (AddsRow l) here next) c.deref.ensures.value x.1),
+    ))
     c.add_row.ensures.carries
 
 pub add_part-returns-in_ok-add_part-in-Then-clause-carries : goal.add_part-returns-in_ok-add_part-in-Then-clause-carries
@@ -41,9 +43,9 @@ add_part-returns-in_ok-add_part-in-Then-clause-carries g t c =
       x.0,
       part_as w list budget (Then' (place_of a) a.value (place_of b) b.value) c.args.part.now here next (sym c.in-Then.is)
           (then_both w list budget a.value b.value here between next
-              (part_as w list budget _ a.value here between c.deref-in-Then.ensures x.1)
+          (part_as w list budget _ a.value here between c.deref-in-Then.ensures x.1)
           (from_as w list budget (Spells b.value) _ between next c.deref-in-Then-3.ensures.value
-              (part_as w list budget _ b.value _ next c.deref-in-Then-2.ensures y.1))),
+          (part_as w list budget _ b.value _ next c.deref-in-Then-2.ensures y.1))),
     ))
     c.add_part-in-Then.ensures.carries
 
@@ -71,7 +73,7 @@ add_part-returns-in_ok-add_part-in-Either-clause-carries g t c =
 pub add_part-returns-in_ok-add_part-in-Either-clause-kept : goal.add_part-returns-in_ok-add_part-in-Either-clause-kept
 add_part-returns-in_ok-add_part-in-Either-clause-kept g t c =
     if_ok_on c.add_part-in-Either-2.result _ _ (λ u h. under_on _ _ _ c.in_ok-add_part-in-Either.ensures.kept h)
-        c.add_part-in-Either-2.ensures.kept
+    c.add_part-in-Either-2.ensures.kept
 
 pub add_part-returns-in-Repeat-clause-carries : goal.add_part-returns-in-Repeat-clause-carries
 add_part-returns-in-Repeat-clause-carries g t c =
@@ -84,9 +86,11 @@ add_part-returns-in-Repeat-clause-carries g t c =
     let most = c.in-Repeat.most in
     let body = c.in-Repeat.body in
     if_ok_on c.add_repeat.result _ _
-    (λ u h fine. let x = h fine in
-    (x.0, part_as w list budget (Repeat' least most (place_of body) body.value) c.args.part.now here next (sym c.in-Repeat.is)
-        (subst (λ (p : Part). Carries w list budget (Turns least most (Spells p)) here next) c.deref-in-Repeat.ensures x.1)))
+    (λ u h fine. let x = h fine in (
+      x.0,
+      part_as w list budget (Repeat' least most (place_of body) body.value) c.args.part.now here next (sym c.in-Repeat.is)
+          (subst (λ (p : Part). Carries w list budget (Turns least most (Spells p)) here next) c.deref-in-Repeat.ensures x.1),
+    ))
     c.add_repeat.ensures.carries
 
 pub add_repeat-loop-init : goal.add_repeat-loop-init
@@ -108,9 +112,11 @@ add_repeat-loop-preserved g t c =
     let behind = c.add_part.new.next.items in
     let e = c.in_ok-add_part.ensures in (
       λ fine. let y = e.carries fine in
-          let x = c.loop.invariant.0 y.0 in
-          (x.0, one_turn w list budget c.args.body.now c.loop.counter (c.loop.counter + 1) c.args.here.now c.loop.there.items behind
-              (omega arith) x.1 (from_as w list budget R _ c.loop.there.items behind c.deref.ensures.value y.1)),
+          let x = c.loop.invariant.0 y.0 in (
+            x.0,
+            one_turn w list budget c.args.body.now c.loop.counter (c.loop.counter + 1) c.args.here.now c.loop.there.items behind
+                (omega arith) x.1 (from_as w list budget R _ c.loop.there.items behind c.deref.ensures.value y.1),
+          ),
       e.sound,
     )
 
@@ -125,10 +131,15 @@ add_repeat-loop-2-init g t c =
     let all = c.add_all.new.hulls.items in (
       λ fine. let x = c.loop.invariant.0 fine in
           let turns : Carries w list budget (TimesOver c.args.least R) here c.loop.there.items =
-              subst (λ n. Carries w list budget (TimesOver n R) here c.loop.there.items)
-              (omega (arith, c.loop-test.false, c.loop.auto.counter-end)) x.1 in
-          (x.0, (turns, least_turns w list budget c.args.body.now c.args.least here c.loop.there.items all
-              (subst (λ (l : List Hull). AreUnder l all) c.deref-2.ensures.value e.added) turns)),
+          subst (λ n. Carries w list budget (TimesOver n R) here c.loop.there.items)
+          (omega (arith, c.loop-test.false, c.loop.auto.counter-end)) x.1 in (
+            x.0,
+            (
+              turns,
+              least_turns w list budget c.args.body.now c.args.least here c.loop.there.items all
+                  (subst (λ (l : List Hull). AreUnder l all) c.deref-2.ensures.value e.added) turns,
+            ),
+          ),
       c.loop.invariant.1,
       e.kept,
       e.sound,
@@ -147,10 +158,15 @@ add_repeat-loop-2-preserved g t c =
       λ fine. let y = turn_ensures.carries fine in
           let x = c.loop-2.invariant.0 y.0 in
           let turn = one_turn w list budget c.args.body.now c.loop-2.counter (c.loop-2.counter + 1) c.args.here.now c.loop-2.there.items
-              behind (omega arith) x.1.0 (from_as w list budget R _ c.loop-2.there.items behind c.deref-in-loop-2.ensures.value y.1) in
-          (x.0, (turn, more_turns w list budget c.args.body.now c.args.least c.loop-2.counter (c.loop-2.counter + 1) c.args.here.now
-              behind c.loop-2.next.items all (omega arith) x.1.1 turn e.kept
-              (subst (λ (l : List Hull). AreUnder l all) c.deref-in-loop-2-2.ensures.value e.added))),
+          behind (omega arith) x.1.0 (from_as w list budget R _ c.loop-2.there.items behind c.deref-in-loop-2.ensures.value y.1) in (
+            x.0,
+            (
+              turn,
+              more_turns w list budget c.args.body.now c.args.least c.loop-2.counter (c.loop-2.counter + 1) c.args.here.now
+                  behind c.loop-2.next.items all (omega arith) x.1.1 turn e.kept
+                  (subst (λ (l : List Hull). AreUnder l all) c.deref-in-loop-2-2.ensures.value e.added),
+            ),
+          ),
       turn_ensures.sound,
       under_on _ _ _ c.loop-2.invariant.2 e.kept,
       e.sound,
@@ -161,6 +177,8 @@ add_repeat-returns-clause-carries g t c =
     let w = c.args.asked.now.window in
     let list = g.E.Entries.list c.args.entries.now in
     let budget = c.args.asked.now.budget in
-    λ fine. let x = c.loop-2.invariant.0 fine in
-    (x.0, subst (λ n. Carries w list budget (Turns c.args.least n (Spells c.args.body.now)) c.args.here.now c.loop-2.next.items)
-        (omega (arith, c.loop-2-test.false, c.loop-2.auto.counter-end, c.requires.turns)) x.1.1)
+    λ fine. let x = c.loop-2.invariant.0 fine in (
+      x.0,
+      subst (λ n. Carries w list budget (Turns c.args.least n (Spells c.args.body.now)) c.args.here.now c.loop-2.next.items)
+          (omega (arith, c.loop-2-test.false, c.loop-2.auto.counter-end, c.requires.turns)) x.1.1,
+    )

@@ -6,7 +6,7 @@ use Rattle.dvg_recipe.proofs.judge.+add_part.Given as goal
 abbrev pub invariant-add_repeat-loop : goal.invariant-add_repeat-loop
 invariant-add_repeat-loop g l =
     IfFine l.fn.notes l.notes (Carries l.asked.window (g.E.Entries.list l.entries) l.asked.budget (TimesOver l.counter (Spells l.body))
-        l.here l.there.items)
+    l.here l.there.items)
     × AreSoundHulls l.there.items
 
 abbrev pub invariant-add_repeat-loop-2 : goal.invariant-add_repeat-loop-2

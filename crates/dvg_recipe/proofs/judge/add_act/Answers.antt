@@ -34,7 +34,7 @@ loop-hull-preserved g c =
           (omega arith) lt
           (c.loop-hull.invariant.1 (e.fine fine)) e.kept
           (λ k i act format. does_so list _ _ _ k i c.act_change-change.ensures.value (act.each _ format) (act.into _)) (e.keeps fine)
-              (e.added fine),
+          (e.added fine),
       under_on _ _ _ c.loop-hull.invariant.2 e.kept,
       e.sound,
       c.see.ensures ∙ c.loop-hull.invariant.4,
@@ -44,4 +44,4 @@ pub returns-clause-leads : goal.returns-clause-leads
 returns-clause-leads g c =
     let list = g.E.Entries.list c.args.entries.now in
     λ fine. lead_whole c.args.asked.now.window list c.args.asked.now.budget (IsAct list c.args.act.now) c.args.here.now
-        c.loop-hull.next.items c.loop-hull.hull-index (omega (arith, c.loop-hull-test.false)) (c.loop-hull.invariant.1 fine)
+    c.loop-hull.next.items c.loop-hull.hull-index (omega (arith, c.loop-hull-test.false)) (c.loop-hull.invariant.1 fine)

@@ -16,7 +16,7 @@ loop-to-preserved g c =
       λ fine. each_next (λ to. LeadOn w list budget (IsAct list (CallAct to)) here more) c.args.targets.now c.loop-to.to-index
           (c.loop-to.to-index + 1) 0 (omega arith) c.loop-to-test.true
           (λ to there. lead_more w list budget (IsAct list (CallAct to)) here c.loop-to.next.items more e.kept
-              (c.loop-to.invariant.1 (e.fine fine) to there)) (e.leads fine),
+          (c.loop-to.invariant.1 (e.fine fine) to there)) (e.leads fine),
       under_on _ _ _ c.loop-to.invariant.2 e.kept,
       e.sound,
       e.noted ∙ c.loop-to.invariant.4,
@@ -25,6 +25,6 @@ loop-to-preserved g c =
 pub returns-clause-leads : goal.returns-clause-leads
 returns-clause-leads g c =
     λ fine. lead_calls c.args.asked.now.window (g.E.Entries.list c.args.entries.now) c.args.asked.now.budget c.args.here.now
-        c.loop-to.next.items c.args.targets.now
+    c.loop-to.next.items c.args.targets.now
     (λ to there. c.loop-to.invariant.1 fine to
-        (subst (λ (l : List ℕ). Contains l to) (sym (take_all c.loop-to.to-index c.args.targets.now c.loop-to-test.false)) there))
+    (subst (λ (l : List ℕ). Contains l to) (sym (take_all c.loop-to.to-index c.args.targets.now c.loop-to-test.false)) there))

@@ -7,5 +7,5 @@ invariant-loop-to g l =
     let list = g.E.Entries.list l.entries in
     (l.broken ≡ None → l.initial.broken ≡ None)
     × (l.broken ≡ None → (to : ℕ) → Contains (take l.to-index l.targets) to
-        → LeadOn l.asked.window list l.asked.budget (IsAct list (CallAct to)) l.here l.next.items)
+    → LeadOn l.asked.window list l.asked.budget (IsAct list (CallAct to)) l.here l.next.items)
     × AreUnder l.initial.next.items l.next.items × AreSoundHulls l.next.items × (l.notes ≡ l.initial.notes)

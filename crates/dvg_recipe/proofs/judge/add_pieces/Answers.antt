@@ -14,7 +14,9 @@ returns-clause-carries g c =
     let behind = c.in_ok-behind.behind.items in
     let all = c.add_all.new.hulls.items in
     if_ok_on c.add_all.result _ _
-    (λ u h fine. let x = c.in_ok-behind.ensures.carries fine in
-    (x.0, behind_under w list budget R c.args.here.now behind all (subst (λ (l : List Hull). AreUnder l all) c.deref.ensures.value h)
-        (from_as w list budget R _ c.args.here.now behind c.in_ok-copy.ensures.items x.1)))
+    (λ u h fine. let x = c.in_ok-behind.ensures.carries fine in (
+      x.0,
+      behind_under w list budget R c.args.here.now behind all (subst (λ (l : List Hull). AreUnder l all) c.deref.ensures.value h)
+          (from_as w list budget R _ c.args.here.now behind c.in_ok-copy.ensures.items x.1),
+    ))
     c.add_all.ensures.added

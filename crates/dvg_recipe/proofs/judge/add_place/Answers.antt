@@ -5,6 +5,7 @@ use Rattle.dvg_recipe.proofs.Doing.{places_near}
 use Rattle.dvg_recipe.proofs.judge.add_place.Goals as goal
 
 pub add_act-requires-clause-fits : goal.add_act-requires-clause-fits
-add_act-requires-clause-fits g c =
-    (subst (λ (r : Rectangle). IsNearRectangle 1 r) (sym c.places_of-places.ensures) (places_near c.args.range.now c.requires.fits),
-        c.requires.scale)
+add_act-requires-clause-fits g c = (
+  subst (λ (r : Rectangle). IsNearRectangle 1 r) (sym c.places_of-places.ensures) (places_near c.args.range.now c.requires.fits),
+  c.requires.scale,
+)

@@ -19,7 +19,7 @@ loop-scale-preserved g c =
       λ fine. scales_next (λ s. LeadOn w list budget (IsAct list (PlaceAct (places_of range) s)) here more) range.scales n (n + 1)
           (omega arith) (e.leads fine)
           (λ s lt there. lead_more w list budget (IsAct list (PlaceAct (places_of range) s)) here c.loop-scale.next.items more e.kept
-              (inv.1 (e.fine fine) s lt there)),
+          (inv.1 (e.fine fine) s lt there)),
       under_on _ _ _ inv.2 e.kept,
       e.sound,
       e.noted ∙ inv.4,
@@ -28,5 +28,5 @@ loop-scale-preserved g c =
 pub returns-clause-leads : goal.returns-clause-leads
 returns-clause-leads g c =
     λ fine. lead_places c.args.asked.now.window (g.E.Entries.list c.args.entries.now) c.args.asked.now.budget c.args.here.now
-        c.loop-scale.next.items c.args.range.now
+    c.loop-scale.next.items c.args.range.now
     (λ s there. c.loop-scale.invariant.1 fine s (in_scales c.args.range.now.scales s c.loop-scale.scale (search rules) there) there)

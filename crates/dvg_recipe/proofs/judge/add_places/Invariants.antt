@@ -8,5 +8,5 @@ invariant-loop-scale g l =
     let list = g.E.Entries.list l.entries in
     (l.broken ≡ None → l.initial.broken ≡ None)
     × (l.broken ≡ None → (s : ℕ) → s < l.scale → get_or l.range.scales s false ≡ true
-        → LeadOn l.asked.window list l.asked.budget (IsAct list (PlaceAct (places_of l.range) s)) l.here l.next.items)
+    → LeadOn l.asked.window list l.asked.budget (IsAct list (PlaceAct (places_of l.range) s)) l.here l.next.items)
     × AreUnder l.initial.next.items l.next.items × AreSoundHulls l.next.items × (l.notes ≡ l.initial.notes)

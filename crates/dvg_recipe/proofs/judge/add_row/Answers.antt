@@ -13,7 +13,9 @@ returns-then-row-eq1-clause-carries g c =
     let budget = c.args.asked.now.budget in
     let next = c.add_piece.new.next.items in
     if_ok_on c.add_piece.result _ _
-    (λ u h fine. let x = h fine in
-    (x.0, row_one w list budget c.args.row.now c.index-row-0.result c.args.here.now next (omega (arith, c.if-row-eq1.true))
-        (subst (λ (p : Piece). LeadOn w list budget (IsTaken p.kind) c.args.here.now next) c.index-row-0.is x.1)))
+    (λ u h fine. let x = h fine in (
+      x.0,
+      row_one w list budget c.args.row.now c.index-row-0.result c.args.here.now next (omega (arith, c.if-row-eq1.true))
+          (subst (λ (p : Piece). LeadOn w list budget (IsTaken p.kind) c.args.here.now next) c.index-row-0.is x.1),
+    ))
     c.add_piece.ensures.leads

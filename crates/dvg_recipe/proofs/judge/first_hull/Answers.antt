@@ -3,5 +3,9 @@ use Rattle.dvg_recipe.proofs.judge.first_hull.Goals as goal
 
 pub returns-clause-first : goal.returns-clause-first
 returns-clause-first c =
-    record { hull = _; listed = (zero, omega arith, refl); inside =
-    record { scale = refl; place = tt; words = omega arith; depth = omega arith } }
+    record {
+      hull = _;
+      listed = (zero, omega arith, refl);
+      inside =
+          record { scale = refl; place = tt; words = omega arith; depth = omega arith };
+    }

@@ -21,10 +21,10 @@ returns-clause-means g c =
     (λ answer h.
     let members = c.in_ok-ends.ensures.good (sym c.see_end.ensures ∙ h.0) in
     let last : (t : Hull) → Contains ends t → IsCounted yes.words yes.depth t =
-        λ t there. c.counts.ensures t (subst (λ (l : List Hull). Contains l t) (sym c.deref-2.ensures.value) there) in
+    λ t there. c.counts.ensures t (subst (λ (l : List Hull). Contains l t) (sym c.deref-2.ensures.value) there) in
     subst (λ (x : Accepted). AllMean rom recipe w x.words x.depth) (sym h.1)
     (every_means rom list w budget recipe yes.words yes.depth
-        (record { rom = c.prove_whole.ensures; list = c.requires.list; good = c.requires.good }) c.prove_for_board.ensures c.requires.board
+    (record { rom = c.prove_whole.ensures; list = c.requires.list; good = c.requires.good }) c.prove_for_board.ensures c.requires.board
     (every_good w list budget recipe yes.words yes.depth rom made ends members.1 last h.2)))
     c.accepted.ensures
 
@@ -41,7 +41,7 @@ returns-clause-good g c =
     (λ answer h.
     let members = c.in_ok-ends.ensures.good (sym c.see_end.ensures ∙ h.0) in
     let last : (t : Hull) → Contains ends t → IsCounted yes.words yes.depth t =
-        λ t there. c.counts.ensures t (subst (λ (l : List Hull). Contains l t) (sym c.deref-2.ensures.value) there) in
+    λ t there. c.counts.ensures t (subst (λ (l : List Hull). Contains l t) (sym c.deref-2.ensures.value) there) in
     good_frames rom list w budget recipe yes.words yes.depth c.requires.list c.requires.good
-        (every_list w list budget recipe yes.words yes.depth rom c.requires.made ends members.1 last h.2))
+    (every_list w list budget recipe yes.words yes.depth rom c.requires.made ends members.1 last h.2))
     c.accepted.ensures

@@ -38,6 +38,8 @@ loop-hull-preserved c =
 
 pub returns-clause-leads : goal.returns-clause-leads
 returns-clause-leads c =
-    λ fine. (sym c.loop-hull.invariant.2 ∙ (c.end.ensures fine).0,
-        λ list. lead_whole c.args.asked.now.window list c.args.asked.now.budget IsJump c.args.here.now c.loop-hull.next.items
-        c.loop-hull.hull-index (omega (arith, c.loop-hull-test.false)) (c.loop-hull.invariant.0 list (c.end.ensures fine).1))
+    λ fine. (
+      sym c.loop-hull.invariant.2 ∙ (c.end.ensures fine).0,
+      λ list. lead_whole c.args.asked.now.window list c.args.asked.now.budget IsJump c.args.here.now c.loop-hull.next.items
+          c.loop-hull.hull-index (omega (arith, c.loop-hull-test.false)) (c.loop-hull.invariant.0 list (c.end.ensures fine).1),
+    )

@@ -8,7 +8,7 @@ use Rattle.dvg_recipe.proofs.judge.past_jumps.Goals as goal
 pub past_part-requires-clause-fits : goal.past_part-requires-clause-fits
 past_part-requires-clause-fits g c =
     subst (λ (j : Jump). IsWithin j.body) (sym c.jump-item.is)
-        (c.requires.fits.each _ (Contains-get_or c.args.jumps.now c.loop-jump.jump-index c.jump-item.result c.loop-jump-test.true))
+    (c.requires.fits.each _ (Contains-get_or c.args.jumps.now c.loop-jump.jump-index c.jump-item.result c.loop-jump-test.true))
 
 pub loop-jump-preserved : goal.loop-jump-preserved
 loop-jump-preserved g c =
@@ -25,7 +25,7 @@ loop-jump-preserved g c =
                 c.args.here.items c.loop-jump.here.items there next (omega arith) c.loop-jump-test.true before.1
                 (subst (λ (l : List Hull). LeadOn w list budget IsJump l there) c.deref.ensures.value (on.1 list))
                 (subst (λ (j : Jump). Carries w list budget (Spells j.body) there next) c.jump-item.is
-                    (from_as w list budget _ _ there next c.deref-in-loop-jump.ensures.value part.1)),
+                (from_as w list budget _ _ there next c.deref-in-loop-jump.ensures.value part.1)),
           ),
       c.in_ok-here.ensures.sound,
     )

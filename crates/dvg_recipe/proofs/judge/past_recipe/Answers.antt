@@ -9,8 +9,13 @@ use Rattle.dvg_recipe.proofs.judge.past_recipe.Goals as goal
 
 pub past_jumps-requires-clause-fits : goal.past_jumps-requires-clause-fits
 past_jumps-requires-clause-fits g c =
-    record { each = λ jump there. (MOST_LEVELS, MOST_NESTED,
-        c.jumps.ensures.fits jump (subst (λ (l : List Jump). Contains l jump) c.jumps.ensures.value there)) }
+    record {
+      each = λ jump there. (
+        MOST_LEVELS,
+        MOST_NESTED,
+        c.jumps.ensures.fits jump (subst (λ (l : List Jump). Contains l jump) c.jumps.ensures.value there),
+      );
+    }
 
 pub returns-clause-good : goal.returns-clause-good
 returns-clause-good g c =
@@ -26,11 +31,11 @@ returns-clause-good g c =
     let b = c.in_ok-here-2.ensures.carries j.0 in
     let s = c.in_ok-here.ensures.starts b.0 in
     let lists : AreListStarts w list budget recipe.lists start =
-        subst (λ (l : List Area). AreListStarts w list budget l start) c.lists.ensures (s.1 list) in
+    subst (λ (l : List Area). AreListStarts w list budget l start) c.lists.ensures (s.1 list) in
     let body : Carries w list budget (Spells recipe.body) start between =
-        subst (λ (p : Part). Carries w list budget (Spells p) start between) c.body.ensures.value
-        (from_as w list budget _ _ start between c.deref.ensures.value b.1) in
+    subst (λ (p : Part). Carries w list budget (Spells p) start between) c.body.ensures.value
+    (from_as w list budget _ _ start between c.deref.ensures.value b.1) in
     let jumps : Carries w list budget (SpellsJumps recipe.jumps) between ends.items =
-        subst (λ (l : List Jump). Carries w list budget (SpellsJumps l) between ends.items) c.jumps.ensures.value j.1 in
+    subst (λ (l : List Jump). Carries w list budget (SpellsJumps l) between ends.items) c.jumps.ensures.value j.1 in
     (s.0, every_front w list budget recipe start between ends.items lists body jumps))
     c.past_jumps.ensures.carries

@@ -9,7 +9,7 @@ use Rattle.dvg_recipe.proofs.judge.past_row.Goals as goal
 pub past_piece-requires-clause-fits : goal.past_piece-requires-clause-fits
 past_piece-requires-clause-fits g c =
     subst (λ (p : Piece). PieceFits p.kind) (sym c.piece-item.is)
-        (c.requires.fits.each _ (Contains-get_or c.args.row.now c.loop-piece.piece-index c.piece-item.result c.loop-piece-test.true))
+    (c.requires.fits.each _ (Contains-get_or c.args.row.now c.loop-piece.piece-index c.piece-item.result c.loop-piece-test.true))
 
 pub loop-piece-preserved : goal.loop-piece-preserved
 loop-piece-preserved g c =
@@ -20,7 +20,7 @@ loop-piece-preserved g c =
       λ fine. let on = c.in_ok-here.ensures.leads fine in
           let before = c.loop-piece.invariant.0 on.0 in
           let here : LeadOn w list budget (IsTaken c.piece-item.result.kind) c.loop-piece.here.items next =
-              subst (λ (l : List Hull). LeadOn w list budget (IsTaken c.piece-item.result.kind) l next) c.deref.ensures.value on.1 in (
+          subst (λ (l : List Hull). LeadOn w list budget (IsTaken c.piece-item.result.kind) l next) c.deref.ensures.value on.1 in (
             before.0,
             row_next w list budget c.args.row.now c.loop-piece.piece-index (c.loop-piece.piece-index + 1) c.piece-item.result
                 c.args.here.items c.loop-piece.here.items next (omega arith) c.loop-piece-test.true before.1

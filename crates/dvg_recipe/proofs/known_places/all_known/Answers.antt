@@ -9,7 +9,7 @@ use Rattle.dvg_recipe.proofs.known_places.all_known.Goals as goal
 pub known_past-requires-clause-fits : goal.known_past-requires-clause-fits
 known_past-requires-clause-fits c =
     subst (λ (i : Item). InstrFits i.instr) (sym c.item-item.is)
-        (c.requires.fits _ (Contains-get_or c.args.items.now c.loop-item.item-index c.item-item.result c.loop-item-test.true))
+    (c.requires.fits _ (Contains-get_or c.args.items.now c.loop-item.item-index c.item-item.result c.loop-item-test.true))
 
 pub loop-item-preserved : goal.loop-item-preserved
 loop-item-preserved c =
@@ -23,8 +23,8 @@ loop-item-preserved c =
       known_next rom c.args.items.now n (n + 1) c.item-item.result c.loop-item.known.items c.push-in-loop-item.new.self.items
           c.loop-item.here next (omega arith) c.loop-item-test.true inv.2 c.in_ok-push-2.ensures.items
           (λ earlier came. subst (λ (i : Item). ComesTo rom (i ∷ earlier) next) c.item-item.is
-              (subst (λ (r : Rom). ComesTo r (c.item-item.result ∷ earlier) next) inv.0
-              (e.comes earlier (subst (λ (r : Rom). ComesTo r earlier c.loop-item.here) (sym inv.0) came))))
+          (subst (λ (r : Rom). ComesTo r (c.item-item.result ∷ earlier) next) inv.0
+          (e.comes earlier (subst (λ (r : Rom). ComesTo r earlier c.loop-item.here) (sym inv.0) came))))
           (subst (λ m. IsSoundCursor (record { at = m; known = next })) (omega (arith, inv.1)) e.sound),
     )
 

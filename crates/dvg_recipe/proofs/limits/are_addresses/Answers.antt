@@ -10,9 +10,16 @@ returns-then-to-ge-ADDRESS_END c =
 
 pub loop-to-preserved : goal.loop-to-preserved
 loop-to-preserved c =
-    record { each = each_next (λ to. to < ADDRESS_END) c.args.targets.now c.loop-to.to-index (c.loop-to.to-index + 1) 0 (omega arith)
-    c.loop-to-test.true c.loop-to.invariant.each (omega (arith, c.if-to-ge-ADDRESS_END.false)) }
+    record {
+      each = each_next (λ to. to < ADDRESS_END) c.args.targets.now c.loop-to.to-index (c.loop-to.to-index + 1) 0 (omega arith)
+          c.loop-to-test.true c.loop-to.invariant.each (omega (arith, c.if-to-ge-ADDRESS_END.false));
+    }
 
 pub returns : goal.returns
-returns c = (λ yes. record { each =
-    each_of_all (λ to. to < ADDRESS_END) c.args.targets.now c.loop-to.to-index c.loop-to-test.false c.loop-to.invariant.each }, λ h. refl)
+returns c = (
+  λ yes. record {
+    each =
+        each_of_all (λ to. to < ADDRESS_END) c.args.targets.now c.loop-to.to-index c.loop-to-test.false c.loop-to.invariant.each;
+  },
+  λ h. refl,
+)

@@ -7,9 +7,9 @@ use Rattle.dvg_recipe.proofs.limits.row_fits.Goals as goal
 pub returns-then-not-piece_fits : goal.returns-then-not-piece_fits
 returns-then-not-piece_fits c =
     never _ (λ h. not_each (λ (p : Piece). PieceFits p.kind) c.args.row.now c.loop-piece.piece-index c.piece-item.result
-        c.loop-piece-test.true
+    c.loop-piece-test.true
     (λ fits. untrue c.piece_fits.result c.if-not-piece_fits.true
-        (c.piece_fits.ensures.1 (subst (λ (p : Piece). PieceFits p.kind) (sym c.piece-item.is) fits))) h.each)
+    (c.piece_fits.ensures.1 (subst (λ (p : Piece). PieceFits p.kind) (sym c.piece-item.is) fits))) h.each)
 
 pub loop-piece-preserved : goal.loop-piece-preserved
 loop-piece-preserved c =
@@ -20,6 +20,11 @@ loop-piece-preserved c =
     }
 
 pub returns : goal.returns
-returns c = (λ yes. record { each =
-    each_of_all (λ (p : Piece). PieceFits p.kind) c.args.row.now c.loop-piece.piece-index c.loop-piece-test.false
-    c.loop-piece.invariant.each }, λ h. refl)
+returns c = (
+  λ yes. record {
+    each =
+        each_of_all (λ (p : Piece). PieceFits p.kind) c.args.row.now c.loop-piece.piece-index c.loop-piece-test.false
+        c.loop-piece.invariant.each;
+  },
+  λ h. refl,
+)

@@ -10,5 +10,5 @@ pub returns-in-Row : goal.returns-in-Row
 returns-in-Row t c =
     c.row_options.ensures
     ∙ ap (λ (row : List Piece). min (c.args.turns * sum_by (λ (piece : Piece). piece_options piece.kind) row) MOST_COUNTED)
-        c.deref.ensures.value
+    c.deref.ensures.value
     ∙ ap (λ (part : Part). min (options c.args.turns part) MOST_COUNTED) (sym c.in-Row.is)

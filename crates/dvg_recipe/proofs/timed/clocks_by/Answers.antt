@@ -14,9 +14,9 @@ returns-clause-take c =
     let kept = c.in_ok-shapes.shapes in
     let most = c.in_ok-most_of_lists.field-0 in
     let told : AreTold t rom list kept =
-        subst (λ (l : List Entry). AreTold t rom l kept) c.entries-list.ensures.value c.in_ok-shapes.ensures in
+    subst (λ (l : List Entry). AreTold t rom l kept) c.entries-list.ensures.value c.in_ok-shapes.ensures in
     let under : AreListsUnder t list (clocks_in kept) recipe most =
-        subst (λ (l : List Entry). AreListsUnder t l (clocks_in kept) recipe most) c.in_ok-entries.ensures
-        c.in_ok-most_of_lists.ensures.lists in
+    subst (λ (l : List Entry). AreListsUnder t l (clocks_in kept) recipe most) c.in_ok-entries.ensures
+    c.in_ok-most_of_lists.ensures.lists in
     all_take t rom recipe c.requires.good.0 list c.requires.good.1 kept most c.requires.board c.requires.good.2 told under
-        (λ frame b. record { frame = b.frame; rom = c.prove_whole.ensures })
+    (λ frame b. record { frame = b.frame; rom = c.prove_whole.ensures })

@@ -5,6 +5,9 @@ use Rattle.dvg_recipe.proofs.witness.find_in_recipe.Goals as goal
 
 pub find_in_jumps-requires-clause-fits : goal.find_in_jumps-requires-clause-fits
 find_in_jumps-requires-clause-fits g c = record {
-  each = λ jump there. (MOST_LEVELS, MOST_NESTED,
-      c.jumps-2.ensures.fits jump (subst (λ (l : List Jump). Contains l jump) c.jumps-2.ensures.value there));
+  each = λ jump there. (
+    MOST_LEVELS,
+    MOST_NESTED,
+    c.jumps-2.ensures.fits jump (subst (λ (l : List Jump). Contains l jump) c.jumps-2.ensures.value there),
+  );
 }

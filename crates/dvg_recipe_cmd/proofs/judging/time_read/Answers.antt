@@ -9,4 +9,4 @@ returns-in-Ok c =
     let options = c.args.explained.now.options in
     subst (IsTimedRead c.args.image.now c.args.read.now.recipe options c.args.clocks.now) (sym c.told_yes.ensures)
     (told_read c.args.image.now c.args.read.now.recipe options c.args.clocks.now c.in-Ok.timed c.args.clocks.now.line refl
-        (record { means = said.means; fits = said.fits; take = said.take; within = said.within }))
+    (record { means = said.means; fits = said.fits; take = said.take; within = said.within }))

@@ -5,4 +5,4 @@ pub returns-in-Ok : goal.returns-in-Ok
 returns-in-Ok c =
     let ready = c.in-Ok.ensures.ok in
     timed_answer c.args.explained.now.rom.now c.args.explained.now.options _ _ ready.0 ready.1 ready.2 c.args.clocks.now
-        c.time_read.result.0 c.time_read.ensures
+    c.time_read.result.0 c.time_read.ensures

@@ -19,8 +19,11 @@ returns-in_err-outcome-clause-prefix g c =
 
 pub loop-recipe-preserved : goal.loop-recipe-preserved
 loop-recipe-preserved g c =
-    search (rules, more_recipes g.R.Read.remaining g.R.CountedRead.failures _ _ _ c.loop-recipe.yielded _ _ _ _ _
-    c.loop-recipe.invariant.so_far c.in-Some.recipe _ _ _ _ (rw c.of-wanted.ensures at c.in_ok-outcome.ensures.ok) c.or_worse-worst.ensures)
+    search (
+      rules,
+      more_recipes g.R.Read.remaining g.R.CountedRead.failures _ _ _ c.loop-recipe.yielded _ _ _ _ _
+          c.loop-recipe.invariant.so_far c.in-Some.recipe _ _ _ _ (rw c.of-wanted.ensures at c.in_ok-outcome.ensures.ok) c.or_worse-worst.ensures,
+    )
 
 pub returns-clause-report : goal.returns-clause-report
 returns-clause-report g c =

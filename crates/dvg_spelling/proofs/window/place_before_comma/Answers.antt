@@ -9,5 +9,5 @@ returns-in_err-place-clause-none c =
 pub returns-in_err-place_of-clause-none : goal.returns-in_err-place_of-clause-none
 returns-in_err-place_of-clause-none c =
     rw c.from_residual-in_err-place_of.ensures
-        (λ n rest le is. c.in_err-place_of.ensures.none n le
-        (rw c.in_ok-place.was at (parts c.args.text.now c.split_once.result c.split_once.ensures.cases n rest le is)).0)
+    (λ n rest le is. c.in_err-place_of.ensures.none n le
+    (rw c.in_ok-place.was at (parts c.args.text.now c.split_once.result c.split_once.ensures.cases n rest le is)).0)

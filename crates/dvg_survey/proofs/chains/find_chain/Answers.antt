@@ -12,17 +12,20 @@ loop-next-init g c =
 
 pub reach_from-requires-clause-entry : goal.reach_from-requires-clause-entry
 reach_from-requires-clause-entry g c =
-    grind (arith, (reached_claim c.args.rom.now c.args.frame.now c.args.cert.now.entries c.args.goal.now _ _ _ c.loop-next.next
-    c.in-Some.link (c.args.cert.now.map, c.entries-listed.ensures.certificate) c.loop-next.invariant (sym c.get.ensures ∙ c.in-Some.is)))
+    grind (
+      arith,
+      (reached_claim c.args.rom.now c.args.frame.now c.args.cert.now.entries c.args.goal.now _ _ _ c.loop-next.next
+          c.in-Some.link (c.args.cert.now.map, c.entries-listed.ensures.certificate) c.loop-next.invariant (sym c.get.ensures ∙ c.in-Some.is)),
+    )
 
 pub loop-next-preserved : goal.loop-next-preserved
 loop-next-preserved g c =
     let other : c.in-Some.link.call.entry ≡ c.args.goal.now → ⊥ =
-        λ e. let no : true ≡ false =
-        sym ((entry_decides c.in-Some.link.call.entry c.args.goal.now).1 e) ∙ sym c.eq.ensures ∙ c.if-eq.false in cc no in
+    λ e. let no : true ≡ false =
+    sym ((entry_decides c.in-Some.link.call.entry c.args.goal.now).1 e) ∙ sym c.eq.ensures ∙ c.if-eq.false in cc no in
     gone_on c.args.rom.now c.args.frame.now c.args.cert.now.entries c.args.goal.now _ _ c.reach_from.new.visited _ c.in-Some.link
-        c.reach_from.new.reached c.loop-next.invariant (sym c.get.ensures ∙ c.in-Some.is) other
-        (rw c.requires at c.in_ok-reach_from.ensures)
+    c.reach_from.new.reached c.loop-next.invariant (sym c.get.ensures ∙ c.in-Some.is) other
+    (rw c.requires at c.in_ok-reach_from.ensures)
 
 pub returns-in_default-clause-none : goal.returns-in_default-clause-none
 returns-in_default-clause-none g c =

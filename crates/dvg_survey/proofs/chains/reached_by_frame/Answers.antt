@@ -9,10 +9,12 @@ add_all-requires g c =
     let k = frame_context c.args.machine (g.E.Entries.list c.args.entries.now) in
     let word = frame_word c.args.machine c.args.frame.now in
     rw c.deref.ensures.value (called_claims k word 0 c.in_ok-survey.survey.calls.items c.requires
-        (calls_own k word 0 c.in_ok-survey.survey.calls.items (is.0, is.1, is.2.are_calls)))
+    (calls_own k word 0 c.in_ok-survey.survey.calls.items (is.0, is.1, is.2.are_calls)))
 
 pub returns : goal.returns
 returns g c =
-    let is = rw c.new-framed.ensures at c.in_ok-survey.ensures in
-    (c.in_ok-survey.survey.calls.items, (is.0, is.1, is.2.are_calls),
-        rw (c.in_ok-reached.ensures, c.deref.ensures.value) at c.in_ok-add_all.ensures)
+    let is = rw c.new-framed.ensures at c.in_ok-survey.ensures in (
+      c.in_ok-survey.survey.calls.items,
+      (is.0, is.1, is.2.are_calls),
+      rw (c.in_ok-reached.ensures, c.deref.ensures.value) at c.in_ok-add_all.ensures,
+    )

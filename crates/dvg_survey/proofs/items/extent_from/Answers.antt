@@ -8,15 +8,15 @@ pub loop-seen-preserved : goal.loop-seen-preserved
 loop-seen-preserved g c =
     let word = g.F.Fetch.words c.args.memory.now in
     (lit_past (context_of word.machine (g.E.Entries.list c.args.entries.now) c.args.walk.now) word c.args.walk.now.first _ _
-        c.in-Some.ensures.some _ c.step.ensures.value c.step.ensures.sound c.loop-seen.lit c.lit_with-lit.result c.loop-seen.invariant
-        c.lit_with-lit.ensures).on _ c.in-Onward.is
+    c.in-Some.ensures.some _ c.step.ensures.value c.step.ensures.sound c.loop-seen.lit c.lit_with-lit.result c.loop-seen.invariant
+    c.lit_with-lit.ensures).on _ c.in-Onward.is
 
 pub returns-in-Last : goal.returns-in-Last
 returns-in-Last g c =
     let word = g.F.Fetch.words c.args.memory.now in
     (lit_past (context_of word.machine (g.E.Entries.list c.args.entries.now) c.args.walk.now) word c.args.walk.now.first _ _
-        c.in-Some.ensures.some _ c.step.ensures.value c.step.ensures.sound c.loop-seen.lit c.lit_with-lit.result c.loop-seen.invariant
-        c.lit_with-lit.ensures).last _ c.in-Last.is
+    c.in-Some.ensures.some _ c.step.ensures.value c.step.ensures.sound c.loop-seen.lit c.lit_with-lit.result c.loop-seen.invariant
+    c.lit_with-lit.ensures).last _ c.in-Last.is
 
 pub returns : goal.returns
 returns g c = at_nothing _ _ _ _ _ c.loop-seen.invariant (where_none c.see.result c.in_default.not-Some c.see.ensures.none)

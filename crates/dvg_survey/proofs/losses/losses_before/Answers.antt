@@ -8,16 +8,16 @@ pub items-preserved : goal.items-preserved
 items-preserved g c =
     let word = g.F.Fetch.words c.args.memory.now in
     (losses_past (context_of word.machine (g.E.Entries.list c.args.entries.now) c.args.walk.now) word c.args.walk.now.first _ _
-        c.in-Some.ensures.some _ c.step.ensures.value c.step.ensures.sound
+    c.in-Some.ensures.some _ c.step.ensures.value c.step.ensures.sound
     c.args.at c.items.losses c.past-losses.result c.items.invariant (λ here. omega (arith, here, c.items-test.true))
-        c.past-losses.ensures.place c.past-losses.ensures.scale).on _ c.in-Onward.is
+    c.past-losses.ensures.place c.past-losses.ensures.scale).on _ c.in-Onward.is
 
 pub returns-in-Last-clause-none : goal.returns-in-Last-clause-none
 returns-in-Last-clause-none g c =
     let word = g.F.Fetch.words c.args.memory.now in
     none_last (context_of word.machine (g.E.Entries.list c.args.entries.now) c.args.walk.now) word c.args.walk.now.first _ _
-        c.in-Some.ensures.some _ c.step.ensures.value c.step.ensures.sound c.args.at c.items.losses c.items.invariant
-        (λ here. omega (arith, here, c.items-test.true)) _ c.in-Last.is
+    c.in-Some.ensures.some _ c.step.ensures.value c.step.ensures.sound c.args.at c.items.losses c.items.invariant
+    (λ here. omega (arith, here, c.items-test.true)) _ c.in-Last.is
 
 pub returns-in_default-clause-none : goal.returns-in_default-clause-none
 returns-in_default-clause-none g c = grind (arith, begins, all_here, none_past)

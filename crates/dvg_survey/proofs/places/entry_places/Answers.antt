@@ -4,5 +4,8 @@ use Rattle.dvg_survey.proofs.places.entry_places.Goals as goal
 
 pub loop-entry-preserved : goal.loop-entry-preserved
 loop-entry-preserved g c =
-    grind (arith, (places_next c.args.window.now c.args.rom.now c.args.cert.now.entries c.entries-list.result.now
-    c.entries-list.ensures.value c.in_ok-broken.broken c.in_ok-broken.ensures c.loop-entry.entry-index))
+    grind (
+      arith,
+      (places_next c.args.window.now c.args.rom.now c.args.cert.now.entries c.entries-list.result.now
+          c.entries-list.ensures.value c.in_ok-broken.broken c.in_ok-broken.ensures c.loop-entry.entry-index),
+    )

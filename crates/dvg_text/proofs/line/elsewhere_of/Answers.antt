@@ -7,7 +7,7 @@ use Rattle.dvg_text.proofs.Common.{rules}
 pub returns-in_err-map-clause-none : goal.returns-in_err-map-clause-none
 returns-in_err-map-clause-none c = none_as c.from_residual-in_err-map.result refl (λ e map is same.
     let here : map ≡ map_of (c.in_ok-first.first, c.in_ok-first.last) =
-        other_said c.args.line.now (c.in_ok-first.first, c.in_ok-first.last) (sym c.in_ok-first.was ∙ c.whole_rom.ensures) map is same in
+    other_said c.args.line.now (c.in_ok-first.first, c.in_ok-first.last) (sym c.in_ok-first.was ∙ c.whole_rom.ensures) map is same in
     c.in_err-map.ensures.none (subst IsMap here is.0))
 
 pub returns-then-is_asteroids-clause-none : goal.returns-then-is_asteroids-clause-none

@@ -9,9 +9,9 @@ returns-clause-read c =
     let long = c.in_ok-window.ensures.variant.0 refl in
     let same = c.in_ok-window.ensures.cases.same in
     let digits =
-        subst (AllDigits 10) (take-take count 16 c.args.bytes.now c.leading_digits-count.ensures.few)
-        (rw same at c.leading_digits-count.ensures.digits) in
+    subst (AllDigits 10) (take-take count 16 c.args.bytes.now c.leading_digits-count.ensures.few)
+    (rw same at c.leading_digits-count.ensures.digits) in
     let ends = window_ends count c.args.bytes.now long (omega arith) (rw same at (c.leading_digits-count.ensures.end (omega arith))) in
     let value = (rw same at c.number_of_digits-number.ensures) ∙ ap (digits_value 10) (take-take count 16 c.args.bytes.now (omega arith)) in
     rw take_rest (magnitude_read count c.number_of_digits-number.result c.args.bytes.now digits value (omega arith) (omega arith)
-        (omega arith) ends c.if-bytes-eq48.false (omega arith))
+    (omega arith) ends c.if-bytes-eq48.false (omega arith))

@@ -12,7 +12,7 @@ returns-in-Ok-None c =
     let u = not_whole c.args.lines.now (λ h. let t = c.if-is_whole.ensures.1 h in absurd (search rules)) in
     let e : EndsLine (LONGEST_LINE - c.len.result) c.args.rest.now (Ok None) = rw c.in-Ok-None.field-0-is at c.in-Ok-None.ensures in
     begins c.args.lines.now c.args.begun.now.items c.args.rest.now c.push_bytes.new.buffer.items c.requires.taken u c.requires.begun e.0
-        (omega (arith, e.1)) c.push_bytes.ensures
+    (omega (arith, e.1)) c.push_bytes.ensures
 
 pub returns-in-Err : goal.returns-in-Err
 returns-in-Err c = grind (arith, not_whole, end_fault)

@@ -8,9 +8,9 @@ loop-i-init g c = grind (arith, first_held, begun_with)
 pub returns-in_err-make_room-clause-prefix : goal.returns-in_err-make_room-clause-prefix
 returns-in_err-make_room-clause-prefix g c =
     sent_err c.from_residual.result
-        (begun_in_part (g.W.Write.contents c.args.out.now) (g.W.Write.contents c.loop-i.out) (g.W.Write.contents c.make_room.new.out)
-        c.args.cert.now.map c.entries-entries.result.now c.args.cert.now.entries c.loop-i.i c.loop-i.text.items
-        c.entries-entries.ensures.value c.loop-i.invariant.0 c.in_err-make_room.ensures.prefix)
+    (begun_in_part (g.W.Write.contents c.args.out.now) (g.W.Write.contents c.loop-i.out) (g.W.Write.contents c.make_room.new.out)
+    c.args.cert.now.map c.entries-entries.result.now c.args.cert.now.entries c.loop-i.i c.loop-i.text.items
+    c.entries-entries.ensures.value c.loop-i.invariant.0 c.in_err-make_room.ensures.prefix)
 
 pub loop-i-preserved : goal.loop-i-preserved
 loop-i-preserved g c = (
@@ -24,9 +24,9 @@ loop-i-preserved g c = (
 pub returns-in_err-make_room-2-clause-prefix : goal.returns-in_err-make_room-2-clause-prefix
 returns-in_err-make_room-2-clause-prefix g c =
     sent_err c.from_residual-in_err-make_room-2.result
-        (begun_in_part (g.W.Write.contents c.args.out.now) (g.W.Write.contents c.loop-i.out) (g.W.Write.contents c.make_room-2.new.out)
-        c.args.cert.now.map c.entries-entries.result.now c.args.cert.now.entries c.loop-i.i c.loop-i.text.items
-        c.entries-entries.ensures.value c.loop-i.invariant.0 c.in_err-make_room-2.ensures.prefix)
+    (begun_in_part (g.W.Write.contents c.args.out.now) (g.W.Write.contents c.loop-i.out) (g.W.Write.contents c.make_room-2.new.out)
+    c.args.cert.now.map c.entries-entries.result.now c.args.cert.now.entries c.loop-i.i c.loop-i.text.items
+    c.entries-entries.ensures.value c.loop-i.invariant.0 c.in_err-make_room-2.ensures.prefix)
 
 pub returns : goal.returns
 returns g c =
@@ -36,10 +36,10 @@ returns g c =
     let all : List ℕ = c.as_slice.result.now in
     let text : List ℕ = text_of c.args.cert.now.map c.args.cert.now.entries in
     let held : Buffered old mid all text =
-        done_held old (g.W.Write.contents c.loop-i.out) mid c.args.cert.now.map c.entries-entries.result.now c.args.cert.now.entries
-        c.loop-i.i _ c.loop-i.text.items c.make_room-2.new.text.items all
+    done_held old (g.W.Write.contents c.loop-i.out) mid c.args.cert.now.map c.entries-entries.result.now c.args.cert.now.entries
+    c.loop-i.i _ c.loop-i.text.items c.make_room-2.new.text.items all
     c.entries-entries.ensures.value (omega arith) refl (c.as_slice.ensures.value ∙ c.push_done.ensures) c.loop-i.invariant.0
-        c.in_ok-make_room-2.ensures.ok in
+    c.in_ok-make_room-2.ensures.ok in
     record {
       ok = on_ok_weaker c.write_bytes.result (held_sent old mid new all text held) c.write_bytes.ensures.ok;
       prefix = on_err_weaker c.write_bytes.result (held_sent_in_part old mid new all text held) c.write_bytes.ensures.prefix;

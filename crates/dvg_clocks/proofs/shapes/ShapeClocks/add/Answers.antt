@@ -11,6 +11,6 @@ returns c addr key =
     found_in addr key c.insert.new.self.entries
     ∙ c.in_ok-insert.ensures.updates.0 (addr, key)
     ∙ ap (λ b. cond b (Some c.args.clocks) (lookup (pair_eq (addr, key)) c.self.inside.found.entries))
-        (sym (pair_of c.args.entry.now.addr c.args.entry.now.key (addr, key)))
+    (sym (pair_of c.args.entry.now.addr c.args.entry.now.key (addr, key)))
     ∙ ap (cond ((c.args.entry.now.addr == addr) && same_key c.args.entry.now.key key) (Some c.args.clocks))
-        (sym (found_in addr key c.self.inside.found.entries) ∙ ap (λ kept. found_at kept addr key) c.self.view_is)
+    (sym (found_in addr key c.self.inside.found.entries) ∙ ap (λ kept. found_at kept addr key) c.self.view_is)

@@ -8,14 +8,14 @@ pub returns-in_err-write_words-clause-prefix : goal.returns-in_err-write_words-c
 returns-in_err-write_words-clause-prefix g c =
     let m = c.args.self.now in
     on_err c.from_residual.result (first_cut (most_words_text m ∷ []) (most_depth_text m ∷ most_clocks_text m ∷ []) _ _
-        c.in_err-write_words.ensures.prefix)
+    c.in_err-write_words.ensures.prefix)
 
 pub returns-in_err-write_depth-clause-prefix : goal.returns-in_err-write_depth-clause-prefix
 returns-in_err-write_depth-clause-prefix g c =
     let m = c.args.self.now in
     on_err c.from_residual-in_err-write_depth.result
     (both_cut (most_words_text m ∷ []) (most_depth_text m ∷ most_clocks_text m ∷ []) _ _ _ _ _
-        (g.W.CountedWrite.whole_writes c.write_words.new.out) c.in_ok-write_words.ensures.sent
+    (g.W.CountedWrite.whole_writes c.write_words.new.out) c.in_ok-write_words.ensures.sent
     (first_cut (most_depth_text m ∷ []) (most_clocks_text m ∷ []) _ _ c.in_err-write_depth.ensures.prefix))
 
 pub returns-clause-sent : goal.returns-clause-sent
@@ -30,6 +30,6 @@ returns-clause-prefix g c =
     let m = c.args.self.now in
     on_fail c.write_clocks.result c.write_clocks.ensures.prefix
     (λ last. both_cut (most_words_text m ∷ []) (most_depth_text m ∷ most_clocks_text m ∷ []) _ _ _ _ _
-        (g.W.CountedWrite.whole_writes c.write_words.new.out) c.in_ok-write_words.ensures.sent
+    (g.W.CountedWrite.whole_writes c.write_words.new.out) c.in_ok-write_words.ensures.sent
     (both_cut (most_depth_text m ∷ []) (most_clocks_text m ∷ []) _ _ _ _ _ (g.W.CountedWrite.whole_writes c.write_depth.new.out)
-        c.in_ok-write_depth.ensures.sent last))
+    c.in_ok-write_depth.ensures.sent last))

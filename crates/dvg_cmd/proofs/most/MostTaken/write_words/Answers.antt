@@ -7,13 +7,13 @@ use Rattle.dvg_cmd.proofs.most.MostTaken.write_words.Goals as goal
 pub returns-clause-sent : goal.returns-clause-sent
 returns-clause-sent g c =
     let same = ap (λ n. taken_text (codes " words=" ++ decimal n) c.at.result.now) c.from-count.ensures
-        ∙ ap (λ t. taken_text (codes " words=" ++ decimal c.self.inside.leads.words.timed.yes.words) t) c.at.ensures
-        ∙ ap most_words_text c.self.view_is in
+    ∙ ap (λ t. taken_text (codes " words=" ++ decimal c.self.inside.leads.words.timed.yes.words) t) c.at.ensures
+    ∙ ap most_words_text c.self.view_is in
     one_line _ _ same _ _ c.write_taken.result _ _ c.write_taken.ensures.written c.write_taken.ensures.one_write
 
 pub returns-clause-prefix : goal.returns-clause-prefix
 returns-clause-prefix g c =
     let same = ap (λ n. taken_text (codes " words=" ++ decimal n) c.at.result.now) c.from-count.ensures
-        ∙ ap (λ t. taken_text (codes " words=" ++ decimal c.self.inside.leads.words.timed.yes.words) t) c.at.ensures
-        ∙ ap most_words_text c.self.view_is in
+    ∙ ap (λ t. taken_text (codes " words=" ++ decimal c.self.inside.leads.words.timed.yes.words) t) c.at.ensures
+    ∙ ap most_words_text c.self.view_is in
     line_cut _ _ same _ _ c.write_taken.result c.write_taken.ensures.prefix

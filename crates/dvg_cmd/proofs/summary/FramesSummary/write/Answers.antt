@@ -22,7 +22,7 @@ returns-in_err-write_remarks-clause-prefix g c =
     (first_cut (most_texts s.most ++ remarks_texts s.remarks ++ called_texts s.called) (summary_text s.tally ∷ []) _ _
     (first_cut (most_texts s.most ++ remarks_texts s.remarks) (called_texts s.called) _ _
     (both_cut (most_texts s.most) (remarks_texts s.remarks) _ _ _ _ _ (g.W.CountedWrite.whole_writes c.write_most.new.out)
-        c.in_ok-write_most.ensures.sent c.in_err-write_remarks.ensures.prefix)))
+    c.in_ok-write_most.ensures.sent c.in_err-write_remarks.ensures.prefix)))
 
 pub returns-in_err-write-clause-prefix : goal.returns-in_err-write-clause-prefix
 returns-in_err-write-clause-prefix g c =
@@ -30,9 +30,9 @@ returns-in_err-write-clause-prefix g c =
     on_err c.from_residual-in_err-write.result
     (first_cut (most_texts s.most ++ remarks_texts s.remarks ++ called_texts s.called) (summary_text s.tally ∷ []) _ _
     (both_cut (most_texts s.most ++ remarks_texts s.remarks) (called_texts s.called) _ _ _ _ _
-        (g.W.CountedWrite.whole_writes c.write_remarks.new.out)
+    (g.W.CountedWrite.whole_writes c.write_remarks.new.out)
     (both_sent (most_texts s.most) (remarks_texts s.remarks) _ _ _ _ _ _ c.in_ok-write_most.ensures.sent
-        c.in_ok-write_remarks.ensures.sent) c.in_err-write.ensures.prefix))
+    c.in_ok-write_remarks.ensures.sent) c.in_err-write.ensures.prefix))
 
 pub returns-clause-sent : goal.returns-clause-sent
 returns-clause-sent g c =
@@ -41,14 +41,14 @@ returns-clause-sent g c =
     (both_sent (most_texts s.most ++ remarks_texts s.remarks ++ called_texts s.called) (summary_text s.tally ∷ []) _ _ _ _ _ _
     (both_sent (most_texts s.most ++ remarks_texts s.remarks) (called_texts s.called) _ _ _ _ _ _
     (both_sent (most_texts s.most) (remarks_texts s.remarks) _ _ _ _ _ _ c.in_ok-write_most.ensures.sent
-        c.in_ok-write_remarks.ensures.sent) c.in_ok-write.ensures.sent))
+    c.in_ok-write_remarks.ensures.sent) c.in_ok-write.ensures.sent))
 
 pub returns-clause-prefix : goal.returns-clause-prefix
 returns-clause-prefix g c =
     let s = c.args.self.now in
     on_fail c.write_tally.result c.write_tally.ensures.prefix
     (both_cut (most_texts s.most ++ remarks_texts s.remarks ++ called_texts s.called) (summary_text s.tally ∷ []) _ _ _ _ _
-        (g.W.CountedWrite.whole_writes c.write.new.out)
+    (g.W.CountedWrite.whole_writes c.write.new.out)
     (both_sent (most_texts s.most ++ remarks_texts s.remarks) (called_texts s.called) _ _ _ _ _ _
     (both_sent (most_texts s.most) (remarks_texts s.remarks) _ _ _ _ _ _ c.in_ok-write_most.ensures.sent
-        c.in_ok-write_remarks.ensures.sent) c.in_ok-write.ensures.sent))
+    c.in_ok-write_remarks.ensures.sent) c.in_ok-write.ensures.sent))

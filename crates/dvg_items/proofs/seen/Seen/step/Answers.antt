@@ -9,5 +9,8 @@ returns-in-Some-clause-sound c =
     let v = c.args.self.now in
     let goes = sym c.in-Some.ensures in
     let further = next_further c.args.kind v.item c.in-Some.at goes in
-    search (rules, (next_near c.args.kind v.item.at v.item.format v.item.instr c.in-Some.at c.requires.at c.requires.fields goes),
-        (place_more ITEM_REACH _ c.in-Some.at v.after.place further c.requires.place_after))
+    search (
+      rules,
+      (next_near c.args.kind v.item.at v.item.format v.item.instr c.in-Some.at c.requires.at c.requires.fields goes),
+      (place_more ITEM_REACH _ c.in-Some.at v.after.place further c.requires.place_after),
+    )

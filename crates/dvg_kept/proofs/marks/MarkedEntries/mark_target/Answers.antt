@@ -8,9 +8,15 @@ use Rattle.dvg_kept.proofs.marks.MarkedEntries.mark_target.Goals as goal
 pub returns : goal.returns
 returns c =
     let one : MarksOne ⊥ c.in_ok-position.position c.args.self.now c.mark_waiting.new.self =
-        grind (arith, common_steps, c.mark_waiting.ensures, c.ok.ensures.variant, c.in_ok-ok.is) in
+    grind (arith, common_steps, c.mark_waiting.ensures, c.ok.ensures.variant, c.in_ok-ok.is) in
     subst (λ t. IsCalledAt c.args.entries.now c.args.leaves.now t c.args.scale c.args.self.now c.mark_waiting.new.self
-        (Some c.in_ok-position.entry)) (sym c.in-Some.is)
-    (c.in_ok-position.entry, refl,
-        record { position = c.in_ok-position.position; found = c.in_ok-position.ensures.found; stands = c.in_ok-position.ensures.stands;
-        one = weaker _ _ _ (λ no_reason. absurd no_reason) one })
+    (Some c.in_ok-position.entry)) (sym c.in-Some.is) (
+      c.in_ok-position.entry,
+      refl,
+      record {
+        position = c.in_ok-position.position;
+        found = c.in_ok-position.ensures.found;
+        stands = c.in_ok-position.ensures.stands;
+        one = weaker _ _ _ (λ no_reason. absurd no_reason) one;
+      },
+    )

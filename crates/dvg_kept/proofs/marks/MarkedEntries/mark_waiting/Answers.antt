@@ -9,49 +9,58 @@ use Rattle.dvg_kept.proofs.marks.MarkedEntries.mark_waiting.Goals as goal
 pub overflow_add-self : goal.overflow_add-self
 overflow_add-self c =
     let within : c.args.position < length c.self.inside.marked.items =
-        subst (λ (m : Marks). c.args.position < length m.marked) (sym c.self.view_is) c.requires in
+    subst (λ (m : Marks). c.args.position < length m.marked) (sym c.self.view_is) c.requires in
     let free : slice_get c.self.inside.marked.items c.args.position ≡ Some false =
-        slice_get_read c.self.inside.marked.items (length c.self.inside.marked.items) c.args.position false refl within
-        (grind (arith, common_steps, c.if-not-index.true)) in
-    grind (arith, (trues_less c.self.inside.marked.items c.args.position free), c.self.invariant.count_is, c.self.inside.marked.ok,
-        c.self.inside.marked.small)
+    slice_get_read c.self.inside.marked.items (length c.self.inside.marked.items) c.args.position false refl within
+    (grind (arith, common_steps, c.if-not-index.true)) in
+    grind (
+      arith,
+      (trues_less c.self.inside.marked.items c.args.position free),
+      c.self.invariant.count_is,
+      c.self.inside.marked.ok,
+      c.self.inside.marked.small,
+    )
 
 -- src/marks.rt:65:13
 pub invariant_of-self-then-not-index : goal.invariant_of-self-then-not-index
 invariant_of-self-then-not-index c =
     let within : c.args.position < length c.self.inside.marked.items =
-        subst (λ (m : Marks). c.args.position < length m.marked) (sym c.self.view_is) c.requires in
+    subst (λ (m : Marks). c.args.position < length m.marked) (sym c.self.view_is) c.requires in
     let free : slice_get c.self.inside.marked.items c.args.position ≡ Some false =
-        slice_get_read c.self.inside.marked.items (length c.self.inside.marked.items) c.args.position false refl within
-        (grind (arith, common_steps, c.if-not-index.true)) in
+    slice_get_read c.self.inside.marked.items (length c.self.inside.marked.items) c.args.position false refl within
+    (grind (arith, common_steps, c.if-not-index.true)) in
     subst (λ (x : List ℕ). IsCounted
-        (record { marked = slice_set c.self.inside.marked.items c.args.position true; waiting = x; count = c.self.inside.count + 1 }))
-        (sym c.in_ok-push.ensures.items)
+    (record { marked = slice_set c.self.inside.marked.items c.args.position true; waiting = x; count = c.self.inside.count + 1 }))
+    (sym c.in_ok-push.ensures.items)
     (counted_more (record { marked = c.self.inside.marked.items; waiting = c.self.inside.waiting.items; count = c.self.inside.count })
-        c.self.invariant c.args.position free)
+    c.self.invariant c.args.position free)
 
 -- src/marks.rt:58:5
 pub returns-in_ok-push : goal.returns-in_ok-push
 returns-in_ok-push c =
     let within : c.args.position < length c.self.inside.marked.items =
-        subst (λ (m : Marks). c.args.position < length m.marked) (sym c.self.view_is) c.requires in
+    subst (λ (m : Marks). c.args.position < length m.marked) (sym c.self.view_is) c.requires in
     let free : slice_get c.self.inside.marked.items c.args.position ≡ Some false =
-        slice_get_read c.self.inside.marked.items (length c.self.inside.marked.items) c.args.position false refl within
-        (grind (arith, common_steps, c.if-not-index.true)) in
+    slice_get_read c.self.inside.marked.items (length c.self.inside.marked.items) c.args.position false refl within
+    (grind (arith, common_steps, c.if-not-index.true)) in
     subst (λ (m : Marks). MarksOne ⊥ c.args.position m
-        (record { marked = slice_set c.self.inside.marked.items c.args.position true; waiting = c.push.new.self.items; count =
-        c.self.inside.count + 1 })) c.self.view_is
+    (record {
+      marked = slice_set c.self.inside.marked.items c.args.position true;
+      waiting = c.push.new.self.items;
+      count =
+          c.self.inside.count + 1;
+    })) c.self.view_is
     (subst (λ (x : List ℕ). MarksOne ⊥ c.args.position
-        (record { marked = c.self.inside.marked.items; waiting = c.self.inside.waiting.items; count = c.self.inside.count })
-        (record { marked = slice_set c.self.inside.marked.items c.args.position true; waiting = x; count = c.self.inside.count + 1 }))
-        (sym c.in_ok-push.ensures.items)
+    (record { marked = c.self.inside.marked.items; waiting = c.self.inside.waiting.items; count = c.self.inside.count })
+    (record { marked = slice_set c.self.inside.marked.items c.args.position true; waiting = x; count = c.self.inside.count + 1 }))
+    (sym c.in_ok-push.ensures.items)
     (one_more (record { marked = c.self.inside.marked.items; waiting = c.self.inside.waiting.items; count = c.self.inside.count })
-        c.self.invariant c.args.position free))
+    c.self.invariant c.args.position free))
 
 -- src/marks.rt:58:5
 pub returns-else-not-index : goal.returns-else-not-index
 returns-else-not-index c =
     one_same c.args.self.now c.args.position (subst (λ (m : Marks). slice_get m.marked c.args.position ≡ Some true) c.self.view_is
     (slice_get_read c.self.inside.marked.items (length c.self.inside.marked.items) c.args.position true refl
-        (subst (λ (m : Marks). c.args.position < length m.marked) (sym c.self.view_is) c.requires)
-        (grind (arith, common_steps, c.if-not-index.false))))
+    (subst (λ (m : Marks). c.args.position < length m.marked) (sym c.self.view_is) c.requires)
+    (grind (arith, common_steps, c.if-not-index.false))))

@@ -8,7 +8,7 @@ use Rattle.dvg_kept.proofs.marks.MarkedEntries.none.Goals as goal
 pub invariant_of-result : goal.invariant_of-result
 invariant_of-result c =
     let items : c.in_ok-marked.marked.items ≡ replicate c.args.len false =
-        c.in_ok-marked.ensures.items_if_clones_equal (λ y h. grind (arith, h)) in
+    c.in_ok-marked.ensures.items_if_clones_equal (λ y h. grind (arith, h)) in
     record {
       count_is = sym (ap trues items ∙ trues_none c.args.len);
       wait = λ q w. let none : Contains [] q =

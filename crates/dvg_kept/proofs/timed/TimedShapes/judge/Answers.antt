@@ -14,8 +14,8 @@ keep-requires c =
     let window = c.args.self.now.kept.window in
     let said = c.judged_anew-judged.ensures in
     let made : FrameMade rom c.args.frame.now cert =
-        subst (λ r. IfOk r (λ j. FrameMade rom c.args.frame.now j.cert.entries)) at.is-0 said.made in
+    subst (λ r. IfOk r (λ j. FrameMade rom c.args.frame.now j.cert.entries)) at.is-0 said.made in
     let verdict : VerdictByMade rom c.args.frame.now window c.args.budget (Ok at.field-0-1) =
-        subst (VerdictByMade rom c.args.frame.now window c.args.budget) (sym c.own_verdict-verdict.ensures ∙ at.is-1) said.own in
+    subst (VerdictByMade rom c.args.frame.now window c.args.budget) (sym c.own_verdict-verdict.ensures ∙ at.is-1) said.own in
     subst (λ (l : List Entry). IsKept (record { rom = rom; window = window; list = l })) (sym c.entries.ensures.value)
     (kept_made rom window c.args.frame.now cert said.rom made c.args.budget at.field-0-1 verdict)

@@ -12,7 +12,7 @@ returns-in-Err-clause-err c =
     let rom = c.self.inside.rom.now in
     let bars = bars_entry rom c.self.inside.making.done c.self.invariant.done c.args.addr c.args.key _ c.in-Err.ensures.err.bars in
     subst (λ (m : MadeSoFar). BarsEntry m.rom c.args.addr c.args.key c.fault.result) c.self.view_is
-        (subst (BarsEntry rom c.args.addr c.args.key) (sym c.fault.ensures) bars)
+    (subst (BarsEntry rom c.args.addr c.args.key) (sym c.fault.ensures) bars)
 
 pub returns-clause-made : goal.returns-clause-made
 returns-clause-made c = done_made _ _ c.in_default.ensures.right.done

@@ -11,14 +11,14 @@ invariant_of-self c =
 pub returns-clause-rising : goal.returns-clause-rising
 returns-clause-rising c =
     let keyed : IsKeyed c.sort_keys.new.self.entries =
-        All-permutation IsOwn c.self.inside.found.entries c.sort_keys.new.self.entries c.sort_keys.ensures.reordered.0 c.self.invariant in
+    All-permutation IsOwn c.self.inside.found.entries c.sort_keys.new.self.entries c.sort_keys.ensures.reordered.0 c.self.invariant in
     grind (arith, keyed, (rising c.sort_keys.new.self.entries))
 
 pub returns-clause-same : goal.returns-clause-same
 returns-clause-same c =
     let keyed : IsKeyed c.sort_keys.new.self.entries =
-        All-permutation IsOwn c.self.inside.found.entries c.sort_keys.new.self.entries c.sort_keys.ensures.reordered.0 c.self.invariant in
+    All-permutation IsOwn c.self.inside.found.entries c.sort_keys.new.self.entries c.sort_keys.ensures.reordered.0 c.self.invariant in
     on_ok c.sort_keys.result _ (λ addr key.
     sym (lookup_is _ addr key (pair_test addr key) c.sort_keys.new.self.entries keyed) ∙ c.sort_keys.ensures.reordered.2 (addr, key)
     ∙ lookup_is _ addr key (pair_test addr key) c.self.inside.found.entries c.self.invariant
-        ∙ ap (λ (es : List Entry). entry_at es addr key) c.self.view_is)
+    ∙ ap (λ (es : List Entry). entry_at es addr key) c.self.view_is)

@@ -4,6 +4,9 @@ use Rattle.dvg_make.proofs.making.Making.keep_tail.Goals as goal
 
 pub returns-in_ok-add-clause-right : goal.returns-in_ok-add-clause-right
 returns-in_ok-add-clause-right c =
-    grind (arith, (tail_kept c.args.rom.now c.args.self.now.done c.args.self.now.tails c.add.new.self c.args.mark c.in-Ok-Finished.entry
-    c.requires.right.tails (subst (Advances c.args.rom.now c.args.self.now.done c.args.mark) c.in-Ok-Finished.field-0-is
-    c.in-Ok-Finished.ensures.ok) c.in_ok-add.ensures.ok))
+    grind (
+      arith,
+      (tail_kept c.args.rom.now c.args.self.now.done c.args.self.now.tails c.add.new.self c.args.mark c.in-Ok-Finished.entry
+          c.requires.right.tails (subst (Advances c.args.rom.now c.args.self.now.done c.args.mark) c.in-Ok-Finished.field-0-is
+          c.in-Ok-Finished.ensures.ok) c.in_ok-add.ensures.ok),
+    )

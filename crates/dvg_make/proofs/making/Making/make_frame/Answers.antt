@@ -8,31 +8,43 @@ loop-format-init c =
 
 pub returns-in-Err-clause-err : goal.returns-in-Err-clause-err
 returns-in-Err-clause-err c =
-    grind (arith, (target_blocked c.args.rom.now c.args.frame.now c.args.self.now.done c.loop-format.self.done c.loop-format.at
-    c.loop-format.scale c.loop-format.invariant.partial c.in-Holds.format c.in-Holds.instr (sym c.in-Holds.ensures.value)
-    c.in-Err.blocked c.in-Err.ensures.err c.args.index))
+    grind (
+      arith,
+      (target_blocked c.args.rom.now c.args.frame.now c.args.self.now.done c.loop-format.self.done c.loop-format.at
+          c.loop-format.scale c.loop-format.invariant.partial c.in-Holds.format c.in-Holds.instr (sym c.in-Holds.ensures.value)
+          c.in-Err.blocked c.in-Err.ensures.err c.args.index),
+    )
 
 pub scale_past-scale-requires-clause-callee : goal.scale_past-scale-requires-clause-callee
 scale_past-scale-requires-clause-callee c =
-    grind (arith, (called c.args.rom.now c.args.frame.now c.args.self.now.done c.loop-format.self.done c.loop-format.at
-        c.loop-format.scale c.loop-format.invariant.partial c.in-Holds.format c.in-Holds.instr (sym c.in-Holds.ensures.value)
-        (omega (arith, c.loop-format.invariant.right.map.inside)) c.make_call.new.self.done c.in-Ok.callee c.in-Ok.ensures.ok).claim)
+    grind (
+      arith,
+      (called c.args.rom.now c.args.frame.now c.args.self.now.done c.loop-format.self.done c.loop-format.at
+          c.loop-format.scale c.loop-format.invariant.partial c.in-Holds.format c.in-Holds.instr (sym c.in-Holds.ensures.value)
+          (omega (arith, c.loop-format.invariant.right.map.inside)) c.make_call.new.self.done c.in-Ok.callee c.in-Ok.ensures.ok).claim,
+    )
 
 pub loop-format-preserved : goal.loop-format-preserved
 loop-format-preserved c = grind (arith, goes_on)
 
 pub returns-in-None-clause-grows : goal.returns-in-None-clause-grows
 returns-in-None-clause-grows c =
-    grind (arith, (called c.args.rom.now c.args.frame.now c.args.self.now.done c.loop-format.self.done c.loop-format.at
-    c.loop-format.scale c.loop-format.invariant.partial c.in-Holds.format c.in-Holds.instr (sym c.in-Holds.ensures.value)
-    (omega (arith, c.loop-format.invariant.right.map.inside)) c.make_call.new.self.done c.in-Ok.callee c.in-Ok.ensures.ok).partial.grows)
+    grind (
+      arith,
+      (called c.args.rom.now c.args.frame.now c.args.self.now.done c.loop-format.self.done c.loop-format.at
+          c.loop-format.scale c.loop-format.invariant.partial c.in-Holds.format c.in-Holds.instr (sym c.in-Holds.ensures.value)
+          (omega (arith, c.loop-format.invariant.right.map.inside)) c.make_call.new.self.done c.in-Ok.callee c.in-Ok.ensures.ok).partial.grows,
+    )
 
 pub returns-in-None-clause-ok : goal.returns-in-None-clause-ok
 returns-in-None-clause-ok c =
-    grind (arith, (at_last c.args.rom.now c.args.frame.now c.args.self.now.done c.loop-format.self.done c.loop-format.at
-        c.loop-format.scale c.loop-format.invariant.partial c.in-Holds.format c.in-Holds.instr (sym c.in-Holds.ensures.value)
-        (omega (arith, c.loop-format.invariant.right.map.inside)) c.make_call.new.self.done c.in-Ok.callee c.in-Ok.ensures.ok
-        (sym c.in-None.ensures)))
+    grind (
+      arith,
+      (at_last c.args.rom.now c.args.frame.now c.args.self.now.done c.loop-format.self.done c.loop-format.at
+          c.loop-format.scale c.loop-format.invariant.partial c.in-Holds.format c.in-Holds.instr (sym c.in-Holds.ensures.value)
+          (omega (arith, c.loop-format.invariant.right.map.inside)) c.make_call.new.self.done c.in-Ok.callee c.in-Ok.ensures.ok
+          (sym c.in-None.ensures)),
+    )
 
 pub returns : goal.returns
 returns c = search (at_nothing c.args.rom.now c.args.frame.now c.args.self.now.done c.loop-format.self.done c.loop-format.at

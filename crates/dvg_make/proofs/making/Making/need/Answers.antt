@@ -32,16 +32,23 @@ returns-in-Err-clause-err c =
 pub loop-partial-init : goal.loop-partial-init
 loop-partial-init c =
     let made = first_ok c.args.rom.now c.args.self.now.done c.args.addr c.args.key c.requires.right.done c.requires.near c.requires.key
-        (nothing_found _ _ c.find.ensures (search rules)) c.new-stack.result c.begin.new.stack c.new-stack.ensures
-        c.in_default.ensures.ok in
-    grind (arith, made, nothing_found,
-        (first_present c.args.self.now.done c.args.addr c.args.key c.new-stack.result c.begin.new.stack c.new-stack.ensures
-        c.in_default.ensures.ok))
+    (nothing_found _ _ c.find.ensures (search rules)) c.new-stack.result c.begin.new.stack c.new-stack.ensures
+    c.in_default.ensures.ok in
+    grind (
+      arith,
+      made,
+      nothing_found,
+      (first_present c.args.self.now.done c.args.addr c.args.key c.new-stack.result c.begin.new.stack c.new-stack.ensures
+          c.in_default.ensures.ok),
+    )
 
 pub loop-partial-preserved : goal.loop-partial-preserved
 loop-partial-preserved c =
-    search (rules, c.in_default-turn.ensures.ok c.args.self.now.done (c.args.addr, c.args.key) c.loop-partial.invariant.making,
-    c.in_default-turn.ensures.present c.args.addr c.args.key c.loop-partial.invariant.present)
+    search (
+      rules,
+      c.in_default-turn.ensures.ok c.args.self.now.done (c.args.addr, c.args.key) c.loop-partial.invariant.making,
+      c.in_default-turn.ensures.present c.args.addr c.args.key c.loop-partial.invariant.present,
+    )
 
 pub returns-in-Err-turn-clause-err : goal.returns-in-Err-turn-clause-err
 returns-in-Err-turn-clause-err c =

@@ -14,9 +14,12 @@ returns-in_err-entry-clause-err c =
 pub returns-in_err-entry-clause-told : goal.returns-in_err-entry-clause-told
 returns-in_err-entry-clause-told c =
     if_err_same _ _ (TellsAll c.args.rom.now c.args.self.now.done c.args.stack.now c.args.stack.now) c.from_residual.ensures.1
-    (λ from root h. (rw c.requires.top.1
-    (tells_stopped _ from root _ c.requires.top.0 c.args.partial (rw c.requires.top.1 at h) _ c.in_err-entry.ensures.err), h.needed,
-    h.room))
+    (λ from root h. (
+      rw c.requires.top.1
+          (tells_stopped _ from root _ c.requires.top.0 c.args.partial (rw c.requires.top.1 at h) _ c.in_err-entry.ensures.err),
+      h.needed,
+      h.room,
+    ))
 
 pub finish-requires-clause-new : goal.finish-requires-clause-new
 finish-requires-clause-new c =
@@ -35,23 +38,31 @@ returns-else-is_err-clause-right c = not_err c.finish.result _ (sym c.if-is_err.
 pub returns-then-is_err-clause-told : goal.returns-then-is_err-clause-told
 returns-then-is_err-clause-told c =
     λ from root h. let m =
-    rw c.requires.top.1 at h in (rw c.requires.top.1
-    (tells_memory _ from root _ c.requires.top.0 c.args.partial m c.obstacle.result c.obstacle.ensures
-    (reached _ _ _ (walks_last _ _ c.requires.top.0 c.args.partial m.partials))), h.needed, h.room)
+    rw c.requires.top.1 at h in (
+      rw c.requires.top.1
+          (tells_memory _ from root _ c.requires.top.0 c.args.partial m c.obstacle.result c.obstacle.ensures
+          (reached _ _ _ (walks_last _ _ c.requires.top.0 c.args.partial m.partials))),
+      h.needed,
+      h.room,
+    )
 
 pub returns-else-is_err-clause-ok : goal.returns-else-is_err-clause-ok
 returns-else-is_err-clause-ok c =
-    λ from root h. rw (not_err c.finish.result _ (sym c.if-is_err.ensures.value) c.finish.ensures.ok,
-    c.pop.ensures c.requires.top.0 c.args.partial c.requires.top.1)
+    λ from root h. rw (
+      not_err c.finish.result _ (sym c.if-is_err.ensures.value) c.finish.ensures.ok,
+      c.pop.ensures c.requires.top.0 c.args.partial c.requires.top.1,
+    )
     (making_finished _ from root _ c.requires.top.0 c.args.partial (rw c.requires.top.1 at h) c.in-Finished.entry
     (rw c.in-Finished.is at c.in_ok-entry.ensures.ok))
 
 pub returns-else-is_err-clause-present : goal.returns-else-is_err-clause-present
 returns-else-is_err-clause-present c =
-    λ addr key p. rw (not_err c.finish.result _ (sym c.if-is_err.ensures.value) c.finish.ensures.ok,
-        c.pop.ensures c.requires.top.0 c.args.partial c.requires.top.1)
-        (present_finished _ _ _ _ c.requires.top.0 c.args.partial (rw c.requires.top.1 at c.requires.making.2) c.in-Finished.entry
-        (rw c.in-Finished.is at c.in_ok-entry.ensures.ok) addr key (rw c.requires.top.1 at p))
+    λ addr key p. rw (
+      not_err c.finish.result _ (sym c.if-is_err.ensures.value) c.finish.ensures.ok,
+      c.pop.ensures c.requires.top.0 c.args.partial c.requires.top.1,
+    )
+    (present_finished _ _ _ _ c.requires.top.0 c.args.partial (rw c.requires.top.1 at c.requires.making.2) c.in-Finished.entry
+    (rw c.in-Finished.is at c.in_ok-entry.ensures.ok) addr key (rw c.requires.top.1 at p))
 
 pub returns-in-Ok-clause-ok : goal.returns-in-Ok-clause-ok
 returns-in-Ok-clause-ok c =
@@ -62,17 +73,17 @@ returns-in-Ok-clause-ok c =
 pub returns-in-Ok-clause-present : goal.returns-in-Ok-clause-present
 returns-in-Ok-clause-present c =
     λ addr key p. begun_present _ _ _ _ c.requires.top.0 c.args.partial (rw c.requires.top.1 at c.requires.making.2) c.in-Waiting.partial
-        c.in-Waiting.addr (rw c.in-Waiting.is at c.in_ok-entry.ensures.ok) c.replace_top.new.self
-        (c.replace_top.ensures c.requires.top.0 c.args.partial c.requires.top.1) c.begin.new.stack c.in-Ok.ensures.ok addr key
-        (rw c.requires.top.1 at p)
+    c.in-Waiting.addr (rw c.in-Waiting.is at c.in_ok-entry.ensures.ok) c.replace_top.new.self
+    (c.replace_top.ensures c.requires.top.0 c.args.partial c.requires.top.1) c.begin.new.stack c.in-Ok.ensures.ok addr key
+    (rw c.requires.top.1 at p)
 
 pub returns-in-Err-clause-err : goal.returns-in-Err-clause-err
 returns-in-Err-clause-err c =
     λ from root h. rw c.obstacle-in-Err.ensures
-        (refused _ from root _ c.requires.top.0 c.args.partial (rw c.requires.top.1 at h) c.in-Waiting.partial c.in-Waiting.addr
-        (rw c.in-Waiting.is at c.in_ok-entry.ensures.ok) c.replace_top.new.self
-        (c.replace_top.ensures c.requires.top.0 c.args.partial c.requires.top.1) c.in-Waiting.partial.cursor.at c.in-Err.cause
-        c.in-Err.ensures.err)
+    (refused _ from root _ c.requires.top.0 c.args.partial (rw c.requires.top.1 at h) c.in-Waiting.partial c.in-Waiting.addr
+    (rw c.in-Waiting.is at c.in_ok-entry.ensures.ok) c.replace_top.new.self
+    (c.replace_top.ensures c.requires.top.0 c.args.partial c.requires.top.1) c.in-Waiting.partial.cursor.at c.in-Err.cause
+    c.in-Err.ensures.err)
 
 pub returns-in-Err-clause-told : goal.returns-in-Err-clause-told
 returns-in-Err-clause-told c =

@@ -10,9 +10,9 @@ returns-in-Some c =
     let known = c.in-Some.known.now in
     let same : get_or c.self.inside.known.items c.args.index known ≡ known = search rules in
     let here : ComesTo c.args.self.now.rom (reverse (take c.args.index c.args.self.now.items)) known =
-        subst (λ (o : ItemsOver). ComesTo o.rom (reverse (take c.args.index o.items)) known) c.self.view_is
-        (subst (λ (k : Known). ComesTo c.self.inside.rom.now (reverse (take c.args.index c.self.inside.items.now)) k) same
-        (c.self.invariant.each c.args.index known (search rules))) in (
+    subst (λ (o : ItemsOver). ComesTo o.rom (reverse (take c.args.index o.items)) known) c.self.view_is
+    (subst (λ (k : Known). ComesTo c.self.inside.rom.now (reverse (take c.args.index c.self.inside.items.now)) k) same
+    (c.self.invariant.each c.args.index known (search rules))) in (
       λ t. (known, here, c.is_end_in.ensures.0 t),
       λ h. c.is_end_in.ensures.1 (subst (λ (k : Known). IsEndIn c.args.to.now k.place)
           (known_once c.args.self.now.rom _ h.0 known h.1 here) h.2),

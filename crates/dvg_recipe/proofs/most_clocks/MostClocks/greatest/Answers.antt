@@ -8,11 +8,11 @@ use Rattle.dvg_recipe.proofs.most_clocks.MostClocks.greatest.Goals as goal
 pub loop-scale-preserved : goal.loop-scale-preserved
 loop-scale-preserved c =
     λ s n lt under. next_scale (λ m. IsUnder n (get_or c.args.self.now.at m None) → IsUnder n (Some c.joined-most.result))
-        c.loop-scale.scale (c.loop-scale.scale + 1) (omega arith)
+    c.loop-scale.scale (c.loop-scale.scale + 1) (omega arith)
     (λ here. subst (λ r. IsUnder n (Some r)) (sym c.joined-most.ensures)
-        (joined_old c.at.result c.loop-scale.most n (subst (IsUnder n) (sym c.at.ensures) here)))
+    (joined_old c.at.result c.loop-scale.most n (subst (IsUnder n) (sym c.at.ensures) here)))
     (λ m less here. subst (λ r. IsUnder n (Some r)) (sym c.joined-most.ensures)
-        (joined_more c.at.result c.loop-scale.most n (c.loop-scale.invariant m n less here))) s lt under
+    (joined_more c.at.result c.loop-scale.most n (c.loop-scale.invariant m n less here))) s lt under
 
 pub returns : goal.returns
 returns c = each

@@ -17,12 +17,12 @@ returns-clause-places c =
     let d : SFits w64 c.least_place-2.result = search rules in
     let e : SFits w64 c.greatest_place-2.result = search rules in
     λ x y. box_places c.args.window.now c.in-Some.low.x c.in-Some.high.x c.in-Some.low.y c.in-Some.high.y c.least_place.result
-        c.greatest_place.result c.least_place-2.result c.greatest_place-2.result
+    c.greatest_place.result c.least_place-2.result c.greatest_place-2.result
     c.x_min.result c.x_max.result c.y_min.result c.y_max.result c.x_min.ensures c.x_max.ensures c.y_min.ensures c.y_max.ensures
     (simp to_z-of_z at c.least_place.ensures) (simp to_z-of_z at c.greatest_place.ensures) (simp to_z-of_z at c.least_place-2.ensures)
-        (simp to_z-of_z at c.greatest_place-2.ensures)
+    (simp to_z-of_z at c.greatest_place-2.ensures)
     (subst IsBox c.in-Some.ensures.some c.requires) x y c.between.result c.args.lit.now c.in-Some.ensures.some
-        ((simp to_z-of_z at c.between.ensures.places) x y)
+    ((simp to_z-of_z at c.between.ensures.places) x y)
 
 pub returns-clause-frame : goal.returns-clause-frame
 returns-clause-frame c =
