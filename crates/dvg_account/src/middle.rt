@@ -7,7 +7,8 @@ ghost use Rattle.dvg_words.specs.declared.instruction.Format.TheVariants.{Long};
 ghost use Rattle.dvg_account.specs.Middle.{IsMiddle, TellsMiddle};
 
 use crate::line::Line;
-use dvg_items::{Item, Items, Kind};
+use crate::zeros::{MOST_ITEMS, item_below};
+use dvg_items::{Item, Kind};
 use dvg_make::{EntryCause, MakeAccount};
 use dvg_words::{Fetch, FrameImage, FrameOn, Instr, Machine};
 
@@ -23,9 +24,16 @@ pub struct Middle {
 fn long_over<F: Fetch>(words: &F, from: u16, to: u16) -> Option<Item>
     ensures { IfSome result (λ i. (i.at + 1 ≡ to) × (cell_at (F.words words.now) i.at ≡ Holds Long i.instr)) }
 {
-    Items::from(words, Kind::Shape, from)
-        .take_while(|item| item.at < to)
-        .find(|item| to < item.at + item.format.words())
+    let mut here = Some(from);
+    for _ in 0..MOST_ITEMS {
+        let item = item_below(words, here, to)?;
+        here = item.next_address(Kind::Shape);
+        match here {
+            Some(next) if next > to => return Some(item),
+            _ => {}
+        }
+    }
+    None
 }
 
 /// The instruction into whose second word a jump of a frame may lead: the words behind the jump, read as instructions, have one there.
@@ -45,7 +53,10 @@ fn into_by<F: Fetch>(frame: &F, jump: &Item, to: u16) -> Option<Item>
 fn middle_before<F: Fetch>(frame: &F, call: u16) -> Option<Middle>
     ensures { IfSome result (IsMiddle (F.words frame.now)) }
 {
-    for jump in Items::from(frame, Kind::Frame, 0).take_while(|item| item.at < call) {
+    let mut here = Some(0);
+    for _ in 0..MOST_ITEMS {
+        let jump = item_below(frame, here, call)?;
+        here = jump.next_address(Kind::Frame);
         let Instr::Jmpl { to } = jump.instr else {
             continue;
         };

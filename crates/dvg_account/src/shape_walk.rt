@@ -2,6 +2,7 @@
 
 use crate::beginnings::{Beginning, Beginnings};
 use crate::shape_items::{ShapeItem, ShapeItems};
+use crate::zeros::MOST_ITEMS;
 use dvg_cert::{Entries, Entry};
 use dvg_survey::is_faint;
 use dvg_words::{Instr, RomImage};
@@ -43,7 +44,10 @@ impl ShapeWalk {
     ) -> ShapeWalk {
         let mut walk = ShapeWalk::new();
         let mut items = ShapeItems::of(entry, later);
-        while let Some(item) = items.next(rom, entries, beginnings) {
+        for _ in 0..MOST_ITEMS {
+            let Some(item) = items.next(rom, entries, beginnings) else {
+                break;
+            };
             walk.note(&item);
         }
         walk
