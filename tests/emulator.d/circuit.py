@@ -1,4 +1,4 @@
-"""Runs the circuit of crates/dvg_circuit, by its program dvg_trace."""
+"""Runs the circuit of crates/dvg_circuit, by `dvg_bench trace`."""
 
 import os
 import subprocess
@@ -33,26 +33,26 @@ def line_of(line):
     return Line(address, x, y, scale, pointer, tuple(places), list(map(int, lit[0].replace(",", " ").split())) if lit else [])
 
 
-def told(trace, folder, rom, run, most):
+def told(bench, folder, rom, run, most):
     """The lines about this run, of so many instructions at most."""
     path = os.path.join(folder, "memory")
     with open(path, "wb") as file:
         file.write(as_bytes(memory(rom, run.frame)))
     words = map(str, (most, run.x, run.y, run.scale, run.pointer, *run.places))
-    done = subprocess.run([trace, path, *words], capture_output=True, text=True, check=False)
+    done = subprocess.run([bench, "trace", path, *words], capture_output=True, text=True, check=False)
     if done.returncode:
-        raise SystemExit(f"FAILED: dvg_trace: status {done.returncode}: {done.stderr[:300]}")
+        raise SystemExit(f"FAILED: dvg_bench trace: status {done.returncode}: {done.stderr[:300]}")
     return done.stdout.splitlines()
 
 
-def traced(trace, folder, rom, run, most):
+def traced(bench, folder, rom, run, most):
     """What the circuit does in this run, instruction by instruction; the last line has the clocks."""
-    return [line_of(line) for line in told(trace, folder, rom, run, most)[:-1]]
+    return [line_of(line) for line in told(bench, folder, rom, run, most)[:-1]]
 
 
-def traced_clocks(trace, folder, rom, run):
+def traced_clocks(bench, folder, rom, run):
     """The clocks of this run until it halts."""
-    name, clocks = told(trace, folder, rom, run, run.most)[-1].split()
+    name, clocks = told(bench, folder, rom, run, run.most)[-1].split()
     if name != "clocks":
-        raise SystemExit("FAILED: dvg_trace: no clocks")
+        raise SystemExit("FAILED: dvg_bench trace: no clocks")
     return int(clocks)

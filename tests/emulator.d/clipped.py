@@ -6,8 +6,8 @@ emulator. Each line is to be what the rules of docs/MACHINE.md say: accepted if 
 of tools/picture, which has these rules, and not the emulator's.
 
 Of a frame that is accepted with --clip the emulator's picture is to have just the part of each lit draw that lies on the screen, draw
-by draw, and nothing else. Where a draw is between its ends comes from dvg_trace, by the counters at each of its counts. At a count the
-emulator steps the counter of x before that of y, so it has a place more there.
+by draw, and nothing else. Where a draw is between its ends comes from `dvg_bench trace`, by the counters at each of its counts. At a
+count the emulator steps the counter of x before that of y, so it has a place more there.
 
 So it is too with frames of one object, a stroke or a called shape, that ends on an edge of the zone: they are accepted, and the same
 one place further out are refused. Of those it is counted how many the emulator shows with a ghost, a lit point off the screen's
@@ -204,7 +204,7 @@ class Counts:
         return 1 if few or self.differ else 0
 
 
-def main(program, trace, folder):
+def main(program, bench, folder):
     chance = Chance(SEED)
     lots = [some_lot(chance) for _ in range(ROMS)]
     runs = emulate(os.path.join(folder, "clipped"), [(lot.rom, lot.runs) for lot in lots])
@@ -213,7 +213,7 @@ def main(program, trace, folder):
         told = zip(*(lines(program, folder, lot, options) for options in ([], ["--clip"])))
         for index, both in enumerate(told):
             seen = next(runs)
-            lit = [line.lit for line in traced(trace, folder, lot.rom, lot.runs[index], len(seen.items)) if line.lit]
+            lit = [line.lit for line in traced(bench, folder, lot.rom, lot.runs[index], len(seen.items)) if line.lit]
             counts.compare(lot, index, list(both), seen, lit)
     return counts.report()
 

@@ -9,7 +9,8 @@ The frames are those of frames.py, and as many short ones that are dark and most
 generator may hold at the start: draws and calls, four deep, by tail jumps, and jumps of the frame.
 
 The emulator has to be told near which clock to look. Where the program tells no single number, since the frame is refused or the scale at
-the start matters, that is the clock of dvg_trace. So its clocks are compared as well, and just there: of refused frames nothing else is.
+the start matters, that is the clock of `dvg_bench trace`. So its clocks are compared as well, and just there: of refused frames
+nothing else is.
 """
 
 import os
@@ -126,7 +127,7 @@ class Clocks:
         self.late.append(late - STARTING)
         self.count(told, emulated)
         if late != STARTING:
-            teller = "the program tells" if is_exact(told) else "dvg_trace has"
+            teller = "the program tells" if is_exact(told) else "dvg_bench trace has"
             self.differs(lot, timed.run, f"{teller} {timed.clocks} clocks, the emulator {late:+} with GO, not {STARTING:+}")
         elif told and told.clocks < emulated:
             self.differs(lot, timed.run, f"the program tells {told.clocks} clocks at most, the emulator takes {emulated}")
@@ -136,17 +137,17 @@ class Clocks:
         print(f"clocks: {len(self.late)} frames compared, {self.differ} differ, the largest difference is {max(map(abs, self.late))}: "
               f"{len(self.exact)} of clocks=C, which take {min(self.exact)} to {max(self.exact)} clocks, in all {sum(self.exact)}; "
               f"{len(self.spare)} of clocks<=C, of which {tight} take just C and the others up to {max(self.spare)} less; "
-              f"{self.refused} refused, by dvg_trace")
+              f"{self.refused} refused, by dvg_bench trace")
         few = len(self.exact) < 3000 or len(self.spare) < 500 or tight < 50 or self.refused < 1000
         if few:
             print("FAILED: too few of a kind")
         return 1 if few or self.differ else 0
 
 
-def main(program, trace, folder, examples):
+def main(program, bench, folder, examples):
     lots = [*all_lots(examples), *dark_lots()]
     told = [all_told(program, folder, lot) for lot in lots]
-    timed = [[Timed(run, one.clocks if is_exact(one) else traced_clocks(trace, folder, lot.rom, run)) for run, one in zip(lot.runs, each)]
+    timed = [[Timed(run, one.clocks if is_exact(one) else traced_clocks(bench, folder, lot.rom, run)) for run, one in zip(lot.runs, each)]
              for lot, each in zip(lots, told)]
     late = lateness(os.path.join(folder, "clocks"), FIRST + [(lot.rom, runs) for lot, runs in zip(lots, timed)])
     next(late)

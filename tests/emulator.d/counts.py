@@ -1,6 +1,6 @@
 """Each count of a draw of each size: counts.py TRACE FOLDER
 
-The counters that dvg_trace prints for each count of a draw are to be the emulator's. There a draw is done in one go, and within it
+The counters that `dvg_bench trace` prints for each count of a draw are to be the emulator's. There a draw is done in one go, and within it
 the counters are seen only at a count where bit 10 of one changes: the picture then has a point, with both counters. So each pulse of
 a size is tried by a draw of its own, which begins so many places from the screen's edge that this pulse is the one that leaves the
 screen. On the other axis the size is 1023, whose pulses count: the emulator has as many of them at each scale as the draw has counts,
@@ -79,10 +79,10 @@ def pairs(flat):
     return list(zip(flat[::2], flat[1::2]))
 
 
-def ways(trace, folder, shapes):
+def ways(bench, folder, shapes):
     """For each shape the counters at each count, without a step that leaves the screen."""
     for lot in in_lots(shapes):
-        lines = traced(trace, folder, [0] * 1024, run_of([(shape, ALL) for shape in lot]), 2 * DRAWS + 1)
+        lines = traced(bench, folder, [0] * 1024, run_of([(shape, ALL) for shape in lot]), 2 * DRAWS + 1)
         for line in lines[1::2]:
             yield pairs(line.lit)
 
@@ -135,9 +135,9 @@ def steps_of(shape, way):
     return abs(way[-1][shape.axis] - way[0][shape.axis]) if way else 0
 
 
-def main(trace, folder):
+def main(bench, folder):
     shapes = list(all_shapes())
-    ours = dict(zip(shapes, ways(trace, folder, shapes)))
+    ours = dict(zip(shapes, ways(bench, folder, shapes)))
     steps = {shape: steps_of(shape, way) for shape, way in ours.items()}
     draws = ((shape, step) for shape in shapes for step in (*range(1, steps[shape] + 1), ALL))
     emulated = Emulated(os.path.join(folder, "counts"), draws)

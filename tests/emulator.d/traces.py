@@ -1,8 +1,8 @@
 """The frames of frames.py and random words, instruction by instruction: traces.py TRACE FOLDER EXAMPLES
 
-After each instruction the registers that dvg_trace prints are to be the emulator's: program counter, both counters, scale, stack
+After each instruction the registers that `dvg_bench trace` prints are to be the emulator's: program counter, both counters, scale, stack
 pointer and the four stored places. The program counter after a HALT, which nothing uses, is not compared. A lit draw is to be one on
-the emulator too, and what it adds to the picture is to be what the counters have that dvg_trace prints for each of its counts: a
+the emulator too, and what it adds to the picture is to be what the counters have that `dvg_bench trace` prints for each of its counts: a
 point wherever one of them steps onto the screen or off it, by bit 10, and one at the draw's end, if that is on the screen. Within a
 draw that stays on the screen or off it the emulator shows no counters; for that see counts.py.
 
@@ -135,22 +135,22 @@ class Counts:
         return 1 if self.differ or not self.stores else 0
 
 
-def compare_all(trace, folder, lots, seen, name):
+def compare_all(bench, folder, lots, seen, name):
     counts = Counts()
     for lot in lots:
         for run in lot.runs:
             emulated = next(seen)
-            counts.compare(lot, run, traced(trace, folder, lot.rom, run, len(emulated.items)), emulated)
+            counts.compare(lot, run, traced(bench, folder, lot.rom, run, len(emulated.items)), emulated)
     return counts.report(name)
 
 
-def main(trace, folder, examples):
+def main(bench, folder, examples):
     lots = random_lots(Chance(SEED))
     seen = emulate(os.path.join(folder, "traces"), [(lot.rom, lot.runs) for lot in lots])
-    failed = compare_all(trace, folder, lots, seen, "random words")
+    failed = compare_all(bench, folder, lots, seen, "random words")
     lots, before = all_lots(examples), os.path.join(folder, "frames")
     seen = seen_before(before) if os.path.exists(before) else emulate(before, [(lot.rom, lot.runs) for lot in lots])
-    return compare_all(trace, folder, lots, seen, "frames, by their instructions") or failed
+    return compare_all(bench, folder, lots, seen, "frames, by their instructions") or failed
 
 
 if __name__ == "__main__":

@@ -1,7 +1,6 @@
 //! Calls that lead into the middle of what a label names.
 
-use crate::zeros::{MOST_ITEMS, item_below};
-use dvg_items::Kind;
+use dvg_items::{Items, Kind};
 use dvg_labels::{Labels, Nearest};
 use dvg_words::RomImage;
 
@@ -19,15 +18,10 @@ pub fn leads_beside(rom: &RomImage, labels: &Labels, to: u16) -> bool {
 
 /// Whether the items of a ROM from one word address on come to another, not by a jump, as an item's first word or its second.
 fn runs_through(rom: &RomImage, from: u16, to: u16) -> bool {
-    let mut here = Some(from);
-    for _ in 0..MOST_ITEMS {
-        let Some(item) = item_below(rom, here, to) else {
-            break;
-        };
-        if to < item.at + item.format.words() {
+    for item in Items::from(rom, Kind::Shape, from) {
+        if matches!(item.next_address(Kind::Shape), Some(next) if to <= next) {
             return true;
         }
-        here = item.next_address(Kind::Shape);
     }
-    here == Some(to)
+    false
 }

@@ -7,8 +7,7 @@ ghost use Rattle.dvg_words.specs.declared.instruction.Format.TheVariants.{Long};
 ghost use Rattle.dvg_account.specs.Middle.{IsMiddle, TellsMiddle};
 
 use crate::line::Line;
-use crate::zeros::{MOST_ITEMS, item_below};
-use dvg_items::{Item, Kind};
+use dvg_items::{Item, Items, Kind};
 use dvg_make::{EntryCause, MakeAccount};
 use dvg_words::{Fetch, FrameImage, FrameOn, Instr, Machine};
 
@@ -24,13 +23,12 @@ pub struct Middle {
 fn long_over<F: Fetch>(words: &F, from: u16, to: u16) -> Option<Item>
     ensures { IfSome result (λ i. (i.at + 1 ≡ to) × (cell_at (F.words words.now) i.at ≡ Holds Long i.instr)) }
 {
-    let mut here = Some(from);
-    for _ in 0..MOST_ITEMS {
-        let item = item_below(words, here, to)?;
-        here = item.next_address(Kind::Shape);
-        match here {
-            Some(next) if next > to => return Some(item),
-            _ => {}
+    for item in Items::from(words, Kind::Shape, from) {
+        if to <= item.at {
+            return None;
+        }
+        if to < item.at + item.format.words() {
+            return Some(item);
         }
     }
     None
@@ -53,10 +51,10 @@ fn into_by<F: Fetch>(frame: &F, jump: &Item, to: u16) -> Option<Item>
 fn middle_before<F: Fetch>(frame: &F, call: u16) -> Option<Middle>
     ensures { IfSome result (IsMiddle (F.words frame.now)) }
 {
-    let mut here = Some(0);
-    for _ in 0..MOST_ITEMS {
-        let jump = item_below(frame, here, call)?;
-        here = jump.next_address(Kind::Frame);
+    for jump in Items::from(frame, Kind::Frame, 0) {
+        if call <= jump.at {
+            return None;
+        }
         let Instr::Jmpl { to } = jump.instr else {
             continue;
         };

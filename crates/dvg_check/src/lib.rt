@@ -33,8 +33,5 @@ pub use frames::{Accepted, check_frame};
 pub use judged::JudgedShapes;
 pub use keys::{KEYS, Keys, key_index};
 pub use leaving::{BoxLeaving, Edge, Leaving, Limits, leaves_box, leaves_window};
-pub use needed::Needed;
 pub use shapes::{check_shapes, check_shapes_exact, find_entry_fault, find_shape_fault};
-pub use slots::{Kept, SLOTS, keep, kept_at};
-pub use tail::moved;
 pub use verdict::{Refusal, Yes, check_parts, check_parts_exact, check_rom, frame_of};

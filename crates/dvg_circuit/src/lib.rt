@@ -1,7 +1,7 @@
 //! The circuit of a board of the DVG, as a machine of its own.
 //!
 //! This is no simulator for users: it is what the theorem about the board speaks of, as code, so that it can be run and compared.
-//! `dvg_trace` prints such runs. [`Run::step`] does just what the definitions of `specs/Circuit.antt` say of one instruction.
+//! `dvg_bench trace` prints such runs. [`Run::step`] does just what the definitions of `specs/Circuit.antt` say of one instruction.
 #![tactic(auto)]
 
 mod circuit;

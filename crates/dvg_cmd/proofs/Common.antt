@@ -7,14 +7,14 @@ pub use Rattle.std.proofs.lemmas.List.{drop_all}
 pub use Rattle.dvg_account.proofs.Common.{◌≡◌, ℕ, List, ◌++◌, length, Option, Result, Ok, IfOk, IfSome, ◌∷◌, subst, [], None, Some, refl, ap, ◌∙◌, Err, sym, append_assoc}
 pub use Rattle.dvg_spelling.proofs.Common.{arith, ◌<◌, Window, rules, common_steps, take, ◌+◌, ◌≤◌, get_or, ◌≢◌, suc, string_bytes, take-suc, ◌*◌, codes}
 pub use Rattle.dvg_make.proofs.Common.{OnOk, Means, MemoryMap, IsMap, IsErrAnd, IfErr, drop, HasCallCause, VerdictByMade, IsJudged, length-append, Certificate, make_fault_of, ◌/◌, ◌%◌, opcode}
-pub use Rattle.dvg_diff.proofs.Common.{◌⊎◌, Rom, FramesMade, FramesRefuse, HasCause, FrameRefused, zero, inl, ◌-◌, Bool, cases_lt, cell_of_words, inr, ◌↔◌}
+pub use Rattle.dvg_survey.proofs.Common.{◌⊎◌, Rom, FramesMade, FramesRefuse, HasCause, FrameRefused, zero, inl, ◌-◌, Bool, cases_lt, cell_of_words, inr, ◌↔◌}
 pub use Rattle.dvg_text.proofs.Common.{Appends, count_after, AppendsPrefix, text_of, OnErr, take-append-le, take-append-add, Appends-trans, IsRefusal}
 pub use Rattle.dvg_verdict.proofs.Common.{IsRomLength, rom_on, Spells, ReadAnswer}
 pub use Rattle.dvg_words.proofs.Common.{words_of, IsFrameLength, IsTrue}
 pub use Rattle.dvg_survey.proofs.Common.{true, AreAllPlaces, false, set}
 pub use Rattle.dvg_labels.proofs.Common.{take-append-drop, take_all}
 pub use Rattle.dvg_check.proofs.Common.{Memory}
-unfoldable pub use Rattle.dvg_diff.proofs.Common.{cell_at}
+unfoldable pub use Rattle.dvg_survey.proofs.Common.{cell_at}
 unfoldable pub use Rattle.dvg_make.proofs.Common.{instruction_of}
 pub use Rattle.dvg_cmd.specs.MakingFrames.{FramesRunFault, FailedAfter, blames_frames_rom, of_each, AreFrames, MakesForFrames, FramesFaultMeans, RefusesInputs, RefusesMemory, EachHeld, EachRead, FirstWrong, OneFailed, blames_a_frame}
 pub use Rattle.dvg_cmd.specs.Runs.{IsReadTo, RunFault, MOST_FRAME_READ, ReadsText, Judges, Outcome, Accepted, IsReadFor, outcome_of, WritesReport, Reports, ReportsAccepted, MeansRead, NeedsEnd, NoMemory}

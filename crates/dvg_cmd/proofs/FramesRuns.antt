@@ -4,8 +4,8 @@ use Rattle.dvg_survey.specs.declared.places.EntryPlaces.{EntryPlaces}
 use Rattle.dvg_make.specs.declared.fault.FrameCall.{FrameCall}
 use Rattle.dvg_make.specs.declared.fault.FramesFault.{FramesFault}
 use Rattle.dvg_cmd.specs.Placing.{PlacesFor}
-use Rattle.dvg_diff.specs.Comparing.{IsComparison}
-use Rattle.dvg_diff.specs.declared.comparing.Comparison.{Comparison}
+use Rattle.dvg_survey.specs.Comparing.{IsComparison}
+use Rattle.dvg_survey.specs.declared.comparing.Comparison.{Comparison}
 use Rattle.dvg_cmd.proofs.Whole.{held_bytes, held_told, whole_length, whole_image}
 use Rattle.dvg_cmd.proofs.SeveralFrames.{held_each, each_held, each_same, first_wrong}
 use Rattle.dvg_make.proofs.Collecting.{as_make_fault}

@@ -6,8 +6,8 @@ use Rattle.dvg_words.specs.Values.{MemoryMap}
 use Rattle.dvg_words.specs.Memory.{rom_on, words_of, IsRomLength}
 use Rattle.dvg_text.specs.Devices.{AppendsPrefix}
 use Rattle.dvg_cert.specs.declared.entry.Key.{Key}
-use Rattle.dvg_diff.specs.Comparing.{IsComparison}
-use Rattle.dvg_diff.specs.declared.comparing.Comparison.{Comparison}
+use Rattle.dvg_survey.specs.Comparing.{IsComparison}
+use Rattle.dvg_survey.specs.declared.comparing.Comparison.{Comparison}
 use Rattle.dvg_spelling.specs.Touched.{touched_line, frame_touched_line}
 use Rattle.dvg_spelling.specs.declared.fault.MakeRunFault.TheVariants as maker
 use Rattle.dvg_spelling.specs.declared.fault.FramesRunFault.{FramesRunFault}

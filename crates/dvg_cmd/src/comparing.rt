@@ -14,9 +14,9 @@ ghost use Rattle.dvg_spelling.specs.declared.fault.MakeRunFault.TheVariants as m
 use crate::entry_lines::write_each;
 use crate::inputs::{InputBytes, read_frames, read_maker_rom, rom_image};
 use dvg_cert::Key;
-use dvg_diff::{Comparison, TouchedEntry, compare};
 use dvg_make::FramesFault;
 use dvg_spelling::FramesRunFault;
+use dvg_survey::{Comparison, TouchedEntry, compare};
 use dvg_text::{CountedRead, CountedWrite, WriteFault, write_lines};
 use dvg_words::{Machine, RomMap};
 use std::alloc::Global;
@@ -55,7 +55,7 @@ fn any_touched(entries: &[TouchedEntry]) -> bool
 /// for each frame, by its name, whose own certificate has a touched entry. Answers whether an entry is touched.
 ///
 /// A shape is touched if it reads a word in which the ROMs differ. What is not touched is the same over both ROMs: the laws of
-/// `dvg_diff` say so. The ROMs are read first. The faults are those of `run_make_frames` over the first ROM, 1 and 70 also for the other
+/// `dvg_survey` say so. The ROMs are read first. The faults are those of `run_make_frames` over the first ROM, 1 and 70 also for the other
 /// one, and 63 too where there is no memory for the answer. On all but 73 nothing was written, on 73 a prefix of the lines. Takes memory
 /// for the frames, a certificate at a time and the answer.
 pub fn run_comparison<R1: CountedRead, R2: CountedRead, W: CountedWrite>(

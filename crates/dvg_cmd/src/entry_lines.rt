@@ -8,9 +8,8 @@ ghost use Rattle.dvg_cmd.specs.MakingFrames.{of_each};
 ghost use Rattle.dvg_cmd.specs.SeveralFrames.{joined};
 ghost use Rattle.dvg_cmd.specs.Private.Sent.{Sent};
 
-use dvg_diff::TouchedEntry;
 use dvg_spelling::{EntryLine, place_line_of, touched_line_of};
-use dvg_survey::EntryPlaces;
+use dvg_survey::{EntryPlaces, TouchedEntry};
 use dvg_text::{CountedWrite, WriteFault, write_lines};
 
 /// What has a line of its own.

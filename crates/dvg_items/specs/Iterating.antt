@@ -13,9 +13,9 @@ abbrev pub StandsNone : Source → Option ℕ → Type 0
 StandsNone source None = Unit {0}
 StandsNone source (Some p) = (format : Format) (instr : Instr) → cell_at source p ≡ Holds format instr → ⊥
 
--- the item that stands here, and where the next one would stand; none where no item stands
+-- the item that stands here, and where the next one would stand; where no item stands there is none, and the place stays
 abbrev pub GivesItem : Kind → Source → Option ℕ → Option Item → Option ℕ → Type 0
-GivesItem kind source here None after = StandsNone source here
+GivesItem kind source here None after = StandsNone source here × (after ≡ here)
 GivesItem kind source here (Some i) after =
     (here ≡ Some i.at) × (cell_at source i.at ≡ Holds i.format i.instr) × (i.at < ADDRESS_END) × (after ≡ next_address kind i)
 

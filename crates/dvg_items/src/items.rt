@@ -1,6 +1,6 @@
 //! The items of a shape or of a frame, one behind the other.
 
-ghost use Rattle.std.specs.Prelude.{◌≡◌};
+ghost use Rattle.std.specs.Prelude.{◌≡◌, Some};
 ghost use Rattle.std.specs.Iterator.{at_most};
 ghost use Rattle.dvg_items.specs.Iterating.{GivesItem, most_left};
 
@@ -18,7 +18,9 @@ pub struct Items<'a, F> {
 
 impl<'a, F: Fetch> Items<'a, F> {
     /// The items of a shape or of a frame from a word address on.
-    pub fn from(words: &'a F, kind: Kind, first: u16) -> Items<'a, F> {
+    pub fn from(words: &'a F, kind: Kind, first: u16) -> Items<'a, F>
+        ensures { result ≡ record { words = words.entry; kind = kind; here = Some first } }
+    {
         Items {
             words,
             kind,
@@ -30,7 +32,8 @@ impl<'a, F: Fetch> Items<'a, F> {
 impl<'a, F: Fetch> Iterator for Items<'a, F> {
     type Item = Item;
 
-    ghost next_gives = { λ items item rest. GivesItem items.kind (F.words items.words.now) items.here item rest.here };
+    ghost next_gives = { λ items item rest. GivesItem items.kind (F.words items.words.now) items.here item rest.here
+        × (rest.kind ≡ items.kind) × (rest.words ≡ items.words) };
 
     ghost remaining = { λ items. at_most (most_left items.here) };
 

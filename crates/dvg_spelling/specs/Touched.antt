@@ -1,6 +1,6 @@
 -- The line of a touched entry. All of it is this project's own.
 use Rattle.std.specs.Prelude.{ℕ, List, ◌++◌, codes}
-use Rattle.dvg_diff.specs.declared.touched.TouchedEntry.{TouchedEntry}
+use Rattle.dvg_survey.specs.declared.touched.TouchedEntry.{TouchedEntry}
 use Rattle.dvg_spelling.specs.Report.{entry_text, hex_address}
 
 -- the entry, and the address of a word that its shape reads and in which the ROMs differ

@@ -5,7 +5,7 @@ ghost use Rattle.dvg_spelling.specs.Touched.{touched_line};
 
 use crate::entry_line::{EntryLine, head_of};
 use crate::report::hex_address;
-use dvg_diff::TouchedEntry;
+use dvg_survey::TouchedEntry;
 use dvg_text::push_bytes;
 
 /// The line of an entry whose shape reads a word in which two ROMs differ, with its LF. Takes no memory.

@@ -12,13 +12,12 @@ unfoldable pub use Rattle.dvg_check.proofs.Common.{cell_at}
 pub use Rattle.dvg_survey.specs.Calls.{Stand, AreAll, IsExtent, HoldsShape, HoldsShapes, Call, call_of, calls_among, AreCalls}
 pub use Rattle.dvg_survey.specs.Private.Reaching.{Link, AllSteps, IsBackward, IsStep, reach, reach_all, entries_of, IsReachedByFrame, IsReachedByShape, AreNames, name_of, IsTrace}
 pub use Rattle.dvg_survey.specs.Private.KeyedWords.{KeyedWord, AreNone, HasWord, word_number, is_marked, with_word}
-pub use Rattle.dvg_survey.specs.Private.Lighting.{Lit, IsLitFrom, keyed, relative_part, absolute_part, AreTails, AreJoined}
 pub use Rattle.dvg_items.specs.Least.{HoldsAll, absolute_points, IsLeast, lit_points}
 pub use Rattle.dvg_survey.specs.Chains.{IsShapeCall, Calls, LeadsOn, IsChain, IsFrameCall}
 pub use Rattle.dvg_survey.specs.Private.Sweeping.{is_broken, IsUnbroken, IsCleanItem, IsClean, IsFaulty, Breaks, AllBreak, IsSwept, TellsBroken}
 pub use Rattle.dvg_survey.specs.Places.{CallPlaces, HasPlace, IsCallAt, whole_place, EntryPlaces, ArePlaces, AreAllPlaces, IsNotEmpty, ShapeKeepsWindow}
 pub use Rattle.dvg_items.specs.Lit.{absolute_corners, relative_corners, corners}
-pub use Rattle.dvg_survey.specs.Private.Visiting.{CallsFrom, IsMet, AllMet, AreNewCalls}
+pub use Rattle.dvg_survey.specs.Private.Visiting.{keyed, CallsFrom, IsMet, AllMet, AreNewCalls}
 pub use Rattle.dvg_survey.specs.Private.Walking.{IsSeenAt, context_of}
 pub use Rattle.dvg_survey.specs.Losses.{NoneLead, place_loss, place_lost_by, scale_loss, scale_lost_by}
 pub use Rattle.dvg_survey.specs.Survey.{FrameSurvey, IsSurveyAmong}
@@ -33,3 +32,17 @@ pub use Rattle.dvg_items.proofs.Stepping.{leads_on, ends_at}
 pub use Rattle.dvg_check.proofs.TailRows.{one_more_kept, claim_at, none_kept}
 pub use Rattle.dvg_items.proofs.Lists.{all_left}
 pub use Rattle.dvg_items.specs.Seen.{seen_with}
+pub use Rattle.std.proofs.Common.{Result}
+pub use Rattle.std.proofs.Math.Seq.{take-suc}
+pub use Rattle.dvg_make.proofs.Common.{later, GoodShape, Good, AllBefore, EachItem, MadeEntry, Needs, IsAskedFor, FramesMade, FrameMade, FrameRefused, FramesRefuse, HasCause, word_count, GoodFrame, FrameKeeps, HasEntry, FrameAsksFor, cell_of_words, word_of_rom}
+pub use Rattle.dvg_check.proofs.Common.{nat_lt, IsMemory, word_at, State, Status, Running, Halted, Fault, Reached, after_call, after_return, after_instruction, places, address_after, format_of, fetches}
+unfoldable pub use Rattle.dvg_check.proofs.Common.{next_status}
+pub use Rattle.dvg_survey.specs.Touched.{IsTouched, ReachesTouched, AreAlike, taken_at, DiffersAt, ReadsDiffering, TouchedEntry, AreTouched}
+pub use Rattle.dvg_items.specs.declared.item.Kind.TheVariants.{Frame}
+pub use Rattle.dvg_make.specs.declared.fault.EntryFault.TheVariants.{Unstraight, Deep, TooManyWords, TooManyEntries, Memory}
+pub use Rattle.dvg_survey.specs.Laws.{SameList}
+pub use Rattle.dvg_survey.specs.Comparing.{FrameReaches, EachReaches}
+pub use Rattle.dvg_words.specs.declared.instruction.Format.TheVariants.{Short, Long}
+pub use Rattle.dvg_words.specs.declared.instruction.Cell.{Cell}
+pub use Rattle.dvg_check.specs.declared.fault.Mode.TheVariants.{Exact}
+pub use Rattle.dvg_items.specs.Known.{start}

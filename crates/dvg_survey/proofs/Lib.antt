@@ -1,7 +1,7 @@
 pub mod Common
 pub mod AllItems
 pub mod Walking
-pub mod AllShapes
+pub mod OwnExtents
 pub mod Marks
 pub mod Linking
 pub mod Tracing
@@ -9,9 +9,12 @@ pub mod Coming
 pub mod Visiting
 pub mod Complete
 pub mod SameEntry
-pub mod TailPoints
-pub mod TailLaws
 pub mod Bearing
 pub mod Reaching
 pub mod Quotients
 pub mod Sweeping
+pub mod Same
+pub mod Carrying
+pub mod Running
+pub mod Touching
+pub mod EachFrame

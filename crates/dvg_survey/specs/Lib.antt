@@ -8,4 +8,7 @@ pub mod Losses
 pub mod Deepest
 pub mod Furthest
 pub mod Places
+pub mod Touched
+pub mod Comparing
+pub mod Laws
 pub mod Private

@@ -4,5 +4,5 @@ pub mod Surveying
 pub mod Reaching
 pub mod KeyedWords
 pub mod Visiting
-pub mod Lighting
 pub mod Sweeping
+pub mod Extents

@@ -131,23 +131,3 @@ pub fn lit_with(lit: &LitBox, seen: &Seen) -> LitBox
         None => *lit,
     }
 }
-
-/// The least box of what all items of a walk light at absolute places.
-#[tactic(auto, using(crate::proofs::Walking::begins, crate::proofs::Walking::least_none))]
-pub fn extent_from<F: Fetch, E: Entries>(memory: &F, entries: &E, walk: &WalkContext) -> LitBox
-    requires entries { IsSomeCertificate (E.list entries.now) }
-    requires first { walk.now.first < ADDRESS_END }
-    requires scale { IsKey walk.now.scale }
-    ensures { IsExtent (context_of (F.words memory.now).machine (E.list entries.now) walk.now) (F.words memory.now) walk.now.first result }
-{
-    let mut lit = LitBox::Empty;
-    let mut cursor = Cursor::start(walk.kind, walk.first, walk.scale);
-    while let Some(seen) = see(memory, entries, walk.kind, &cursor) {
-        lit = lit_with(&lit, &seen);
-        match seen.step(walk.kind) {
-            Step::Onward(next) => cursor = next,
-            Step::Last(_) => return lit,
-        }
-    }
-    lit
-}

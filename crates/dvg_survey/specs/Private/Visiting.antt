@@ -5,8 +5,15 @@ use Rattle.dvg_words.specs.Memory.{Rom, rom_word}
 use Rattle.dvg_cert.specs.declared.entry.Entry.{Entry}
 use Rattle.dvg_survey.specs.Calls.{Call}
 use Rattle.dvg_survey.specs.Chains.{Calls, IsShapeCall}
-use Rattle.dvg_survey.specs.Private.Lighting.{keyed}
+use Rattle.dvg_words.specs.declared.machine.Machine.{Machine}
+use Rattle.dvg_cert.specs.declared.entry.Key.{Key}
+use Rattle.dvg_items.specs.declared.item.Kind.TheVariants.{Shape}
+use Rattle.dvg_items.specs.Known.{Context}
 use Rattle.dvg_survey.specs.Private.KeyedWords.{KeyedWord, HasWord}
+
+-- the context of the items of a shape that starts at this key
+abbrev pub keyed : Machine → List Entry → Key → Context
+keyed machine list key = record { kind = Shape; machine = machine; list = list; scale = key }
 
 -- a shape that starts at this word and key has the call, by the entries of a list
 abbrev pub CallsFrom : Rom → List Entry → KeyedWord → Call → Type 0

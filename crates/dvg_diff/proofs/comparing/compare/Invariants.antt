@@ -1,5 +1,0 @@
-use Rattle.dvg_diff.proofs.Common.{take, EachReaches}
-use Rattle.dvg_diff.proofs.comparing.compare.Given as goal
-
-abbrev pub invariant-loop-frame : goal.invariant-loop-frame
-invariant-loop-frame l = EachReaches l.rom l.other (take l.frame-index l.frames) l.reaching.items

@@ -1,5 +1,0 @@
-use Rattle.dvg_diff.proofs.Carrying.{same_verdict as law}
-use Rattle.dvg_diff.proofs.laws.same_verdict.Goals as goal
-
-pub returns : goal.returns
-returns c = law

@@ -1,5 +1,0 @@
-use Rattle.dvg_diff.proofs.Common.{rules}
-use Rattle.dvg_diff.proofs.touched.differing_at.Goals as goal
-
-pub returns-clause-none : goal.returns-clause-none
-returns-clause-none c = search rules

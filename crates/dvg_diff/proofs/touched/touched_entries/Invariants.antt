@@ -1,5 +1,0 @@
-use Rattle.dvg_diff.proofs.Common.{take, AreTouched}
-use Rattle.dvg_diff.proofs.touched.touched_entries.Given as goal
-
-abbrev pub invariant-loop-entry : goal.invariant-loop-entry
-invariant-loop-entry l = AreTouched l.rom l.other (take l.entry-index l.entries) l.touched.items

@@ -1,3 +1,0 @@
-pub mod Touched
-pub mod Comparing
-pub mod Laws
