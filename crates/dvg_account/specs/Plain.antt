@@ -1,8 +1,8 @@
 -- The lines of a refusal before any item was judged. All of it is this project's own.
 use Rattle.std.specs.Prelude.{ℕ, List, [], ◌∷◌, ◌++◌, Option, Some, None}
 use Rattle.dvg_words.specs.declared.machine.Machine.{Machine}
-use Rattle.dvg_form.specs.declared.watch.LineWhy.{LineWhy}
-use Rattle.dvg_form.specs.declared.watch.LineWhy.TheVariants.{Form, Count}
+use Rattle.dvg_text.specs.declared.refused.LineWhy.{LineWhy}
+use Rattle.dvg_text.specs.declared.refused.LineWhy.TheVariants.{Form, Count}
 use Rattle.dvg_account.specs.Machines.{machine_lines}
 use Rattle.dvg_account.specs.declared.inputs.PlainWhy.{PlainWhy}
 use Rattle.dvg_account.specs.declared.inputs.PlainWhy.TheVariants as plain

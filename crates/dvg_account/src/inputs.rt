@@ -10,8 +10,8 @@ use crate::starts::ShapeStarts;
 use crate::why::{Addresses, InputWhy, Why};
 use dvg_cert::Cert;
 use dvg_check::{Mode, Refusal};
-use dvg_form::LineWhy;
 use dvg_labels::Labels;
+use dvg_text::LineWhy;
 use dvg_words::{ImageFault, Machine, RomMap, Window};
 use std::alloc::{AllocError, Global};
 

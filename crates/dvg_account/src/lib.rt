@@ -13,7 +13,6 @@ mod beginnings;
 mod beside;
 mod cure;
 mod dumps;
-mod expecting;
 mod finder;
 mod frame_list;
 mod furthest;

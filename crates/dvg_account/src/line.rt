@@ -9,7 +9,6 @@ use crate::why::Why;
 use dvg_cert::{End, Entry, Key, LitBox};
 use dvg_check::Yes;
 use dvg_clocks::{ClockRange, TimedItem};
-use dvg_form::Expected;
 use dvg_items::Item;
 use dvg_make::{FrameCall, FrameRefusal, ShapeAt};
 use dvg_survey::{Call, Margins};
@@ -37,7 +36,7 @@ pub enum Line {
     /// At which column, counted from 1, that line leaves the form.
     Column(usize),
     /// What was expected at that column.
-    Expected(Expected),
+    Expected(&'static str),
     /// Why an entry that a frame's call needs can't be made: at this word address the making stops.
     MakingStops { at: u16, why: Why },
     /// The item in this role.

@@ -5,7 +5,6 @@ ghost use Rattle.dvg_words.specs.Beam.{signed_field};
 
 use crate::beginnings::Beginning;
 use crate::cure::MakerCure;
-use crate::expecting::push_expected;
 use crate::line::{
     AcceptedLine, EntryName, Instruction, ItemLine, Line, MadeLine, MakerChain, PathLine, Role,
     Words, Zeros,
@@ -148,7 +147,7 @@ fn push_line(text: &mut Text, telling: Telling, line: &Line) {
         }
         Line::Expected(expected) => {
             text.push("expected: ");
-            push_expected(text, *expected);
+            text.push(expected);
             text.push("\n");
         }
         Line::MakingStops { at, why } => push_making_stops(text, *at, why),

@@ -9,12 +9,12 @@ use crate::spelling::{Telling, text_of};
 use crate::swapped::{Swapped, find_swapped};
 use crate::text::Text;
 use crate::time::{slow_lines, time_lines};
-use dvg_cert::{Cert, CertFault};
+use dvg_cert::Cert;
 use dvg_check::{Refusal, RomFinding, Yes};
 use dvg_clocks::{FrameTime, TimedJudging, TimedRefusal};
-use dvg_form::TextWatch;
 use dvg_labels::Labels;
 use dvg_make::{FrameRefusal, JudgedFrame, MakeAccount, own_verdict};
+use dvg_text::RefusedText;
 use dvg_words::{FrameImage, Machine, RomImage};
 use std::alloc::{AllocError, Global};
 
@@ -155,17 +155,17 @@ pub fn leaving_text(
     text_of(alloc, Telling::of_own(None), &lines, labels)
 }
 
-/// The account of a certificate's text that is refused, as a text of [`plain_lines`]. The watch saw the pieces of that text.
+/// The account of a certificate's text that is refused, as a text of [`plain_lines`].
 pub fn certificate_text(
     machine: Machine,
     alloc: Global,
-    fault: CertFault,
-    watch: &TextWatch,
+    refused: &RefusedText,
     labels: Option<&Labels>,
 ) -> Result<String, AllocError> {
+    let fault = refused.fault();
     let why = PlainWhy::Line {
         line: fault.line,
-        why: watch.why(alloc, fault)?,
+        why: refused.why(),
     };
     let lines = plain_lines(machine, alloc, fault.number(), why)?;
     text_of(alloc, Telling::of_given(None), &lines, labels)

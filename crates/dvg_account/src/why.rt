@@ -11,8 +11,8 @@ use crate::item::words_at;
 use crate::line::{EntryName, Words};
 use dvg_cert::{End, Entry, Key};
 use dvg_check::{BoxLeaving, Found, FrameCause, FrameFinding, Leaving, ShapeCause, ShapeFinding};
-use dvg_form::EntryCounts;
 use dvg_items::{LitExtent, Seen};
+use dvg_text::EntryCounts;
 use dvg_words::{Fetch, FrameImage, FrameOn, Instr, Machine, Point, RomImage, RomMap};
 
 /// Why an answer is a refusal, with the numbers of the sentence.
