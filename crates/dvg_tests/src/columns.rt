@@ -1,14 +1,79 @@
 //! Where refused lines of certificates leave the form, worked by hand; that no column is too small; and lines that are cut into pieces.
 
 use crate::expecting::{expect, expect_same};
-use dvg_form::{
-    EntryCounts, Expected, FormLeaving, LineWhy, TextWatch, first_leaving, later_leaving,
+use dvg_text::{
+    CertReader, EntryCounts, FormLeaving, LineWhy, RefusedText, first_leaving, later_leaving,
     rom_leaving,
 };
-use dvg_text::CertReader;
 use dvg_words::ASTEROIDS;
 use std::alloc::Global;
 use std::process::Abort;
+
+/// What the rows call each token, and how it is told that it was expected.
+const EXPECTED: &[(&str, &str)] = &[
+    ("Version", "`dvgcert 1` or `dvgcert 2`; then the line's end"),
+    ("Rom", "`rom`; then a space"),
+    (
+        "RomFirst",
+        "the word address of the ROM's first word, three of 0-9 and A-F, 400 to BFF; then a space",
+    ),
+    (
+        "RomLast",
+        "the word address of the ROM's last word, three of 0-9 and A-F, from its first to BFF, but not 800 and BFF; then the line's end",
+    ),
+    ("Kind", "`shape` or `done`; then a space"),
+    (
+        "Address",
+        "a word address of the ROM, three of 0-9 and A-F; then a space",
+    ),
+    (
+        "Key",
+        "the scale of the call, 0 to 15 or `any`; then a space",
+    ),
+    ("End", "`end`; then a space"),
+    ("EndKind", "`rel`, `abs` or `lost`; then a space"),
+    (
+        "EndX",
+        "X of the end, a whole number of 1/1024 places, -2000000000000 to 2000000000000; then a space",
+    ),
+    (
+        "EndY",
+        "Y of the end, a whole number of 1/1024 places, -2000000000000 to 2000000000000; then a space",
+    ),
+    ("Box", "`box`; then a space"),
+    (
+        "BoxLeft",
+        "`none`, or a box's left side, a whole number of 1/1024 places, -2000000000000 to 2000000000000; then a space",
+    ),
+    (
+        "BoxRight",
+        "a box's right side, at least its left side, a whole number of 1/1024 places, -2000000000000 to 2000000000000; then a space",
+    ),
+    (
+        "BoxBottom",
+        "a box's lower side, a whole number of 1/1024 places, -2000000000000 to 2000000000000; then a space",
+    ),
+    (
+        "BoxTop",
+        "a box's upper side, at least its lower side, a whole number of 1/1024 places, -2000000000000 to 2000000000000; then a space",
+    ),
+    ("Depth", "`depth`; then a space"),
+    ("DepthNumber", "the depth, 0 to 3; then a space"),
+    ("Words", "`words`; then a space"),
+    (
+        "WordsNumber",
+        "the number of words, 1 to 1000000; then a space",
+    ),
+    ("Scale", "`scale`; then a space"),
+    (
+        "ScaleKey",
+        "the scale that is left behind, 0 to 15 or `any`; then the line's end",
+    ),
+    (
+        "Count",
+        "the number of entries, 0 to 4096; then the line's end",
+    ),
+];
 
 /// First lines. Each row is what is expected, and a line without its end, with `|` where it leaves the form.
 const FIRST_LINES: &[&str] = &[
@@ -105,6 +170,16 @@ fn cut(row: &str) -> Option<(&str, &str, &str)> {
     Some((expected, before, behind))
 }
 
+/// How it is told that what has this name was expected.
+fn expected_of(rt: &impl Abort, name: &str) -> &'static str {
+    for &(known, told) in EXPECTED {
+        if known == name {
+            return told;
+        }
+    }
+    panic!(rt; "nothing is called {name}")
+}
+
 /// The line or the text of a row.
 fn bytes_of(rt: &impl Abort, alloc: Global, row: &str) -> Vec<u8> {
     let (_, before, behind) = cut(row).expect(rt, "a row");
@@ -116,10 +191,9 @@ fn bytes_of(rt: &impl Abort, alloc: Global, row: &str) -> Vec<u8> {
 }
 
 /// Stops the test unless a line leaves the form where its row says.
-fn expect_leaving(rt: &impl Abort, alloc: Global, row: &str, leaving: FormLeaving) {
-    let (expected, before, _) = cut(row).expect(rt, "a row");
-    let told = format!(in alloc; "{:?}", leaving.expected).expect(rt, "memory");
-    expect_same(rt, &told.as_str(), &expected, &row);
+fn expect_leaving(rt: &impl Abort, row: &str, leaving: FormLeaving) {
+    let (name, before, _) = cut(row).expect(rt, "a row");
+    expect_same(rt, &leaving.expected, &expected_of(rt, name), &row);
     let column = before.len().saturating_add(1);
     expect_same(rt, &leaving.column, &column, &row);
 }
@@ -128,17 +202,15 @@ fn expect_leaving(rt: &impl Abort, alloc: Global, row: &str, leaving: FormLeavin
 fn columns(rt: HostRuntime) {
     for row in FIRST_LINES {
         let leaving = first_leaving(&bytes_of(&rt, rt.alloc(), row));
-        expect_leaving(&rt, rt.alloc(), row, leaving);
+        expect_leaving(&rt, row, leaving);
     }
     for row in ROM_LINES {
-        let leaving = rom_leaving(rt.alloc(), &bytes_of(&rt, rt.alloc(), row));
-        let leaving = leaving.expect(&rt, "memory for a line");
-        expect_leaving(&rt, rt.alloc(), row, leaving);
+        let leaving = rom_leaving(&bytes_of(&rt, rt.alloc(), row));
+        expect_leaving(&rt, row, leaving);
     }
     for row in LATER_LINES {
-        let leaving = later_leaving(rt.alloc(), ASTEROIDS, &bytes_of(&rt, rt.alloc(), row));
-        let leaving = leaving.expect(&rt, "memory for a line");
-        expect_leaving(&rt, rt.alloc(), row, leaving);
+        let leaving = later_leaving(ASTEROIDS, &bytes_of(&rt, rt.alloc(), row));
+        expect_leaving(&rt, row, leaving);
     }
 }
 
@@ -160,8 +232,7 @@ fn no_column_is_too_small(rt: HostRuntime) {
                 if let Some(place) = changed.get_mut(at) {
                     *place = byte;
                 }
-                let told = later_leaving(rt.alloc(), ASTEROIDS, &changed);
-                let told = told.expect(&rt, "memory for a line of the form");
+                let told = later_leaving(ASTEROIDS, &changed);
                 expect(&rt, told.column > at, &changed);
             }
         }
@@ -169,34 +240,30 @@ fn no_column_is_too_small(rt: HostRuntime) {
 }
 
 /// What is told of a text that is refused, in pieces of one size.
-fn told_of(rt: &impl Abort, alloc: Global, text: &[u8], size: usize) -> Option<LineWhy> {
+fn told_of(alloc: Global, text: &[u8], size: usize) -> Option<LineWhy> {
     let mut reader = CertReader::new(alloc);
-    let mut watch = TextWatch::new(true);
     let mut rest = text;
     for _ in 0..=text.len() {
         let (piece, after) = rest.split_at(size.min(rest.len()));
-        match reader.feed(piece) {
-            Ok(()) => watch.see(piece),
-            Err(fault) => {
-                watch.stop(piece, fault);
-                return watch
-                    .why(alloc, fault)
-                    .expect(rt, "memory for a line of the form");
-            }
+        if let Err(fault) = reader.feed(piece) {
+            return reader.into_refused(fault).why();
         }
         rest = after;
     }
-    None
+    match reader.finish() {
+        Ok(_) => None,
+        Err(fault) => RefusedText::unended(fault).why(),
+    }
 }
 
 /// Texts of which a line leaves the form, the column at which it does, and what is expected there.
-const LEAVING_TEXTS: &[(&[u8], usize, Expected)] = &[
-    (b"dvgcert 1\r\ndone 0\r\n", 10, Expected::Version),
-    (b"dvgcert 2\nrom 400 40f\ndone 0\n", 11, Expected::RomLast),
+const LEAVING_TEXTS: &[(&[u8], usize, &str)] = &[
+    (b"dvgcert 1\r\ndone 0\r\n", 10, "Version"),
+    (b"dvgcert 2\nrom 400 40f\ndone 0\n", 11, "RomLast"),
     (
         b"dvgcert 2\nrom 400 40F\nshape 410 0 end lost box none depth 0 words 1 scale 0\ndone 1\n",
         8,
-        Expected::Address,
+        "Address",
     ),
 ];
 
@@ -216,13 +283,14 @@ const UNTOLD_TEXTS: &[&[u8]] = &[b"dvgcert 1\ndone 0\n\n", b"dvgcert 1\ndone 0"]
 /// Stops the test unless this is told of a text, however it is cut.
 fn expect_told(rt: &impl Abort, alloc: Global, text: &[u8], want: Option<LineWhy>) {
     for size in 1..=text.len() {
-        expect_same(rt, &told_of(rt, alloc, text, size), &want, &(text, size));
+        expect_same(rt, &told_of(alloc, text, size), &want, &(text, size));
     }
 }
 
 #[test]
 fn pieces(rt: HostRuntime) {
-    for &(text, column, expected) in LEAVING_TEXTS {
+    for &(text, column, name) in LEAVING_TEXTS {
+        let expected = expected_of(&rt, name);
         let leaving = FormLeaving { column, expected };
         expect_told(&rt, rt.alloc(), text, Some(LineWhy::Form(leaving)));
     }
@@ -232,17 +300,5 @@ fn pieces(rt: HostRuntime) {
     }
     for text in UNTOLD_TEXTS {
         expect_told(&rt, rt.alloc(), text, None);
-    }
-}
-
-/// A watch that is not on tells nothing.
-#[test]
-fn off(rt: HostRuntime) {
-    let text = b"dvgcert 3\n";
-    let mut reader = CertReader::new(rt.alloc());
-    let mut watch = TextWatch::new(false);
-    if let Err(fault) = reader.feed(text) {
-        watch.stop(text, fault);
-        expect_same(&rt, &watch.why(rt.alloc(), fault), &Ok(None), &fault);
     }
 }

@@ -1,4 +1,5 @@
 pub mod Common
+pub mod Columns
 pub mod Cutting
 pub mod DigitLanes
 pub mod DigitSums

@@ -102,9 +102,8 @@ pub here_held : (map : MemoryMap) (held : List ℕ) → is_asteroids map ≡ tru
 here_held map held is h = h ∙ sym (ap (λ (m : MemoryMap). begun_with m []) (asteroids_is map is) ∙ first_taken first_version_line refl)
 
 pub elsewhere_held : (map : MemoryMap) (held : List ℕ) → is_asteroids map ≡ false
-    → held ≡ (((ended second_version_line ++ codes "rom") ++ SPACE ∷ address_token map.rom_first) ++ SPACE ∷ address_token map.rom_last)
-    ++ LINE_FEED ∷ [] → held ≡ begun_with map []
-elsewhere_held map held is h = grind (arith, ended, second_version_line, codes, address_token, rom_taken, rom_line, append_assoc)
+    → held ≡ ended second_version_line ++ ended (rom_line map) → held ≡ begun_with map []
+elsewhere_held map held is h = grind (arith, ended, second_version_line, codes, rom_taken)
 
 -- one more entry is held
 pub entry_held : (old mid new : Option (List ℕ)) (map : MemoryMap) (es : List Entry) (i : ℕ) (d : Entry) (held rest more : List ℕ)

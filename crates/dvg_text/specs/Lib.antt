@@ -1,6 +1,7 @@
 pub mod Limits
 pub mod Grammar
 pub mod Reading
+pub mod Columns
 pub mod Numbers
 pub mod Stream
 pub mod Laws

@@ -1,6 +1,6 @@
 //! Reading a certificate, whole or in pieces.
 
-ghost use Rattle.std.specs.Prelude.{◌≡◌, ◌+◌, ◌<◌, ◌==◌, [], ◌++◌, length, position, OnOk, IfNone, IfSome};
+ghost use Rattle.std.specs.Prelude.{◌≡◌, ◌+◌, ◌<◌, ◌==◌, [], ◌++◌, length, position, OnOk, OnErr, IfNone, IfSome};
 ghost use Rattle.dvg_cert.specs.declared.fault.CertWhy.TheVariants.{After};
 ghost use Rattle.dvg_text.specs.Reading.{IsTaken, IsRest, IsUnended, ReadAnswer};
 ghost use Rattle.dvg_text.specs.Stream.{Stream, Open, FeedsTo, FinishesTo};
@@ -8,18 +8,20 @@ ghost use Rattle.dvg_text.specs.Private.Progress.{stream_of, EndsLine, IsProgres
 
 use crate::limits::{LINE_FEED, LONGEST_LINE};
 use crate::line_buffer::{LineBuffer, push_bytes};
+use crate::refused::RefusedText;
 use crate::taken::TakenLines;
 use dvg_cert::{Cert, CertFault, CertWhy};
 use memchr::memchr;
 use std::alloc::Global;
 use std::marker::Model;
 
-/// Reads a certificate in pieces. It keeps the entries, and the part of a line with which the last piece ended.
+/// Reads a certificate in pieces. It keeps the entries, and the part of a line with which the last piece ended, or a refused line.
 ///
 /// Contracts see it as the bytes so far, or as the refusal of an earlier call, which every later call answers again.
 #[derive(Drop)]
 pub struct CertReader {
     lines: TakenLines,
+    /// The line begun, or the one that is refused.
     begun: LineBuffer,
     refused: Option<CertFault>,
 }
@@ -71,6 +73,13 @@ impl CertReader {
             return Err(fault);
         }
         self.lines.finish()
+    }
+
+    /// The text that a call refused so.
+    pub fn into_refused(self, fault: CertFault) -> RefusedText
+        ensures { result ≡ fault }
+    {
+        RefusedText::at(fault, self.begun, &self.lines)
     }
 }
 
@@ -166,16 +175,21 @@ fn fault_after(line: u32, rest: &[u8]) -> Option<CertFault>
     })
 }
 
-/// Takes the line that consists of the begun line and these bytes. A line that lies whole in the piece is not copied.
+/// Takes the line that consists of the begun line and these bytes. A line that lies whole in the piece is copied only if it is refused.
 #[inline(always)]
 fn take_begun(lines: &mut TakenLines, begun: &mut LineBuffer, prefix: &[u8]) -> Result<(), CertWhy>
     requires open { IsUnended lines.old }
     requires short { length begun.old.items + length prefix.now < LONGEST_LINE }
     ensures line { TakesLine lines.old (begun.old.items ++ prefix.now) lines.new result }
     ensures empty { OnOk result (begun.new.items ≡ []) }
+    ensures kept { OnErr result (begun.new.items ≡ begun.old.items ++ prefix.now) }
 {
     if begun.is_empty() {
-        return lines.take_line(prefix);
+        if let Err(why) = lines.take_line(prefix) {
+            push_bytes(begun, prefix);
+            return Err(why);
+        }
+        return Ok(());
     }
     push_bytes(begun, prefix);
     lines.take_line(begun.as_slice())?;

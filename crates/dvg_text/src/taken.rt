@@ -68,6 +68,24 @@ impl TakenLines {
         }
     }
 
+    /// Which line comes next.
+    pub fn stage(&self) -> Stage {
+        self.stage
+    }
+
+    /// Where the ROM lies.
+    pub fn map(&self) -> RomMap {
+        self.map
+    }
+
+    /// How many entries were taken.
+    pub fn entry_count(&self) -> u32 {
+        match self.stage {
+            Stage::First | Stage::Rom => 0,
+            Stage::Later | Stage::Ended => self.entries.len() as u32,
+        }
+    }
+
     /// The number of the next line.
     pub fn line_number(&self) -> u32
         ensures { result ≡ line_number self.now }

@@ -7,7 +7,7 @@ ghost use Rattle.dvg_text.specs.Devices.{count_after, AppendsPrefix};
 ghost use Rattle.arrayvec.specs.ArrayVec.{array_vec_len};
 ghost use Rattle.dvg_words.specs.declared.map.TheConstants.{ADDRESS_END};
 ghost use Rattle.dvg_cert.specs.Entry.{IsNumber, IsKey, IsEnd, IsBox, IsEntry};
-ghost use Rattle.dvg_text.specs.Grammar.{address_token, key_token, end_tokens, box_tokens, entry_line, done_line, ended, begun_with, text_of};
+ghost use Rattle.dvg_text.specs.Grammar.{address_token, key_token, end_tokens, box_tokens, rom_line, entry_line, done_line, ended, begun_with, text_of};
 ghost use Rattle.dvg_text.specs.Private.Writing.{spaced, Buffered};
 
 use crate::counted::CountedWrite;
@@ -89,15 +89,27 @@ fn push_heading(text: &mut WriteBuffer, map: RomMap)
     if map.is_asteroids() {
         push_bytes(text, b"dvgcert 1\n");
     } else {
-        push_bytes(text, b"dvgcert 2\nrom");
-        push_address(text, map.first());
-        push_address(text, map.last());
-        push_bytes(text, &[LINE_FEED]);
+        push_bytes(text, b"dvgcert 2\n");
+        push_rom(text, map.first(), map.last());
     }
 }
 
+/// The line that says where a ROM lies, with its end.
+pub fn push_rom(text: &mut WriteBuffer, first: u16, last: u16)
+    requires first { first < ADDRESS_END }
+    requires last { last < ADDRESS_END }
+    requires room { array_vec_len text.old + LONGEST_LINE ≤ MOST_AT_ONCE }
+    ensures { text.new.items ≡ text.old.items ++ ended (rom_line (record { rom_first = first; rom_last = last })) }
+{
+    push_bytes(text, b"rom");
+    push_address(text, first);
+    push_address(text, last);
+    push_bytes(text, &[LINE_FEED]);
+}
+
+/// The line of an entry, with its end.
 #[tactic(auto, using(crate::proofs::Spelled::spelled_entry))]
-fn push_entry(text: &mut WriteBuffer, entry: &Entry)
+pub fn push_entry(text: &mut WriteBuffer, entry: &Entry)
     requires entry { IsEntry 0 (ADDRESS_END - 1) entry.now }
     requires room { array_vec_len text.old + LONGEST_LINE ≤ MOST_AT_ONCE }
     ensures { text.new.items ≡ text.old.items ++ ended (entry_line entry.now) }
@@ -118,7 +130,8 @@ fn push_entry(text: &mut WriteBuffer, entry: &Entry)
     push_bytes(text, &[LINE_FEED]);
 }
 
-fn push_done(text: &mut WriteBuffer, count: u32)
+/// The last line, with its end.
+pub fn push_done(text: &mut WriteBuffer, count: u32)
     requires count { count ≤ MOST_ENTRIES }
     requires room { array_vec_len text.old + LONGEST_LINE ≤ MOST_AT_ONCE }
     ensures { text.new.items ≡ text.old.items ++ ended (done_line count) }
