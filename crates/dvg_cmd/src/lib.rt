@@ -58,7 +58,6 @@ pub use dvg_check::ShapeWhy;
 pub use dvg_check::Yes;
 pub use dvg_clocks::DVG_STATES;
 pub use dvg_clocks::Timing;
-pub use dvg_form::TextWatch;
 pub use dvg_labels::LabelFault;
 pub use dvg_labels::LabelWhy;
 pub use dvg_labels::Labels;

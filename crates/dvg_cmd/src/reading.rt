@@ -7,11 +7,10 @@ ghost use Rattle.dvg_cmd.specs.Runs.{MOST_ROM_READ, MOST_FRAME_READ, IsReadTo, R
 ghost use Rattle.dvg_cmd.specs.Private.Reading.{IsPrefix};
 
 use arrayvec::ArrayVec;
-use dvg_cert::{Cert, CertFault};
-use dvg_form::TextWatch;
+use dvg_cert::Cert;
 use dvg_spelling::RunFault;
 use dvg_text::laws::short_text;
-use dvg_text::{CertReader, CountedRead};
+use dvg_text::{CertReader, CountedRead, RefusedText};
 use std::alloc::Global;
 use std::io;
 
@@ -97,12 +96,11 @@ pub fn skip<R: CountedRead>(reader: &mut R, most: usize) -> io::Result<()>
 }
 
 /// The answer to the certificate that a reader holds. It is read piece by piece, up to its end or
-/// through the piece in which it is refused. The watch sees each piece.
+/// through the piece in which it is refused.
 pub fn read_certificate<R: CountedRead>(
     alloc: Global,
     source: &mut R,
-    watch: &mut TextWatch,
-) -> io::Result<Result<Cert, CertFault>>
+) -> io::Result<Result<Cert, RefusedText>>
     ensures answer { IfOk result (ReadsText (R.remaining source.old) (R.remaining source.new)) }
     ensures count { R.failures source.new ≡ count_after (is_err result) (R.failures source.old) }
 {
@@ -114,14 +112,14 @@ pub fn read_certificate<R: CountedRead>(
     'feeding: while len == PIECE {
         len = fill(source, &mut piece)?;
         match reader.feed(&piece[..len]) {
-            Ok(()) => watch.see(&piece[..len]),
-            Err(fault) => {
-                watch.stop(&piece[..len], fault);
-                return Ok(Err(fault));
-            }
+            Ok(()) => {}
+            Err(fault) => return Ok(Err(reader.into_refused(fault))),
         }
     }
-    Ok(reader.finish())
+    match reader.finish() {
+        Ok(cert) => Ok(Ok(cert)),
+        Err(fault) => Ok(Err(RefusedText::unended(fault))),
+    }
 }
 
 /// The bytes of a ROM, up to one past the length of the longest, which is 4096. Answers 70 if the reader fails. Takes no
@@ -140,17 +138,16 @@ pub fn load_rom<R: CountedRead>(rom: &mut R) -> Result<ArrayVec<u8, 4097>, RunFa
 }
 
 /// The answer to the certificate that a reader holds, which is read as [`run_check`](crate::run_check) reads it. Answers 72 if
-/// the reader fails. The watch keeps of the text what an account of its refusal asks for.
+/// the reader fails.
 pub fn load_cert<R: CountedRead>(
     alloc: Global,
     cert: &mut R,
-    watch: &mut TextWatch,
-) -> Result<Result<Cert, CertFault>, RunFault>
+) -> Result<Result<Cert, RefusedText>, RunFault>
     ensures answer { IfOk result (ReadsText (R.remaining cert.old) (R.remaining cert.new)) }
     ensures fault { IfErr result (λ fault. fault ≡ RunFault.ReadCert) }
     ensures count { R.failures cert.new ≡ count_after (is_err result) (R.failures cert.old) }
 {
-    match read_certificate(alloc, cert, watch) {
+    match read_certificate(alloc, cert) {
         Ok(answer) => Ok(answer),
         Err(_) => Err(RunFault::ReadCert),
     }

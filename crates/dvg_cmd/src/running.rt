@@ -15,12 +15,11 @@ ghost use Rattle.dvg_cmd.specs.Private.Reading.{IsPrefix};
 use crate::detail::{Behind, Detail};
 use crate::reading::{read_certificate, read_frame, read_rom, skip};
 use dvg_account::{Inputs, certificate_text, verdict_text};
-use dvg_cert::{Cert, CertFault};
+use dvg_cert::Cert;
 use dvg_check::{Mode, Refusal, RomFinding, Yes, find_rom_fault, frame_of};
-use dvg_form::TextWatch;
 use dvg_spelling::{Outcome, RunFault, outcome_of, report_of};
 use dvg_text::laws::prefix_refusal;
-use dvg_text::{CountedRead, CountedWrite, write_lines};
+use dvg_text::{CountedRead, CountedWrite, RefusedText, write_lines};
 use dvg_words::{FrameImage, Machine, RomMap, Window};
 use std::alloc::Global;
 use std::io;
@@ -49,6 +48,8 @@ pub struct Judgment {
     pub cause: Option<RomFinding>,
     /// The certificate, if it was taken.
     pub cert: Option<Cert>,
+    /// Its text, if that was refused.
+    pub refused: Option<RefusedText>,
 }
 
 impl Judgment {
@@ -95,7 +96,7 @@ fn judge_rom(
 }
 
 /// The verdict on the bytes of a ROM and of a frame and on the certificate that a reader holds. If the frame or the budget is
-/// refused, the certificate is read all the same, and nothing of it is kept. Else the watch sees each piece of it.
+/// refused, the certificate is read all the same, and nothing of it is kept.
 #[tactic(auto, using(crate::proofs::Reporting::judges_range, crate::proofs::Reporting::judges_refused, crate::proofs::Reporting::judges_cert))]
 pub fn read_verdict<R: CountedRead>(
     alloc: Global,
@@ -103,7 +104,6 @@ pub fn read_verdict<R: CountedRead>(
     cert: &mut R,
     frame: &[u8],
     options: &CheckOptions,
-    watch: &mut TextWatch,
 ) -> io::Result<Judgment>
     ensures verdict { (rom_held frame_held : Option (List ℕ)) → IsPrefix MOST_ROM_READ rom_held rom.now
         → IsPrefix MOST_FRAME_READ frame_held frame.now
@@ -122,41 +122,41 @@ pub fn read_verdict<R: CountedRead>(
                 verdict: Err(refusal),
                 cause: None,
                 cert: None,
+                refused: None,
             });
         }
     };
-    match read_certificate(alloc, cert, watch)? {
+    match read_certificate(alloc, cert)? {
         Ok(taken) => {
             let (verdict, cause) = judge_rom(alloc, rom, &frame, &taken, options);
             Ok(Judgment {
                 verdict,
                 cause,
                 cert: Some(taken),
+                refused: None,
             })
         }
-        Err(fault) => Ok(Judgment {
-            verdict: Err(Refusal::Cert(fault)),
+        Err(text) => Ok(Judgment {
+            verdict: Err(Refusal::Cert(text.fault())),
             cause: None,
             cert: None,
+            refused: Some(text),
         }),
     }
 }
 
-/// What the detail asks for behind the refusal of a certificate's text. The watch saw the pieces of that text.
+/// What the detail asks for behind the refusal of a certificate's text.
 pub fn text_account(
     machine: Machine,
     alloc: Global,
-    fault: CertFault,
-    watch: &TextWatch,
+    refused: &RefusedText,
     detail: Detail,
 ) -> Behind
     ensures { IsBehind detail.entry result }
 {
     match detail {
         Detail::Line => Behind::Nothing,
-        Detail::Account(labels) => {
-            Behind::of(certificate_text(machine, alloc, fault, watch, labels))
-        }
+        Detail::Account(labels) => Behind::of(certificate_text(machine, alloc, refused, labels)),
     }
 }
 
@@ -167,13 +167,12 @@ fn account_of<'a>(
     frame: &'a [u8],
     judged: &'a Judgment,
     options: &CheckOptions,
-    watch: &TextWatch,
     detail: Detail<'a>,
 ) -> Behind
     ensures { IsBehind detail.entry result }
 {
-    if let Err(Refusal::Cert(fault)) = &judged.verdict {
-        return text_account(options.machine, alloc, *fault, watch, detail);
+    if let Some(refused) = &judged.refused {
+        return text_account(options.machine, alloc, refused, detail);
     }
     let Detail::Account(labels) = detail else {
         return Behind::Nothing;
@@ -261,15 +260,7 @@ pub fn run_check_in<R1: CountedRead, R2: CountedRead, R3: CountedRead, W: Counte
     let Ok(frame) = read_frame(frame) else {
         return Err(RunFault::ReadFrame);
     };
-    let mut watch = TextWatch::new(detail.has_account());
-    let Ok(judged) = read_verdict(
-        alloc,
-        rom.as_slice(),
-        cert,
-        frame.as_slice(),
-        options,
-        &mut watch,
-    ) else {
+    let Ok(judged) = read_verdict(alloc, rom.as_slice(), cert, frame.as_slice(), options) else {
         return Err(RunFault::ReadCert);
     };
     let behind = account_of(
@@ -278,7 +269,6 @@ pub fn run_check_in<R1: CountedRead, R2: CountedRead, R3: CountedRead, W: Counte
         frame.as_slice(),
         &judged,
         options,
-        &watch,
         detail,
     );
     write_report(&judged.verdict, &behind, out)

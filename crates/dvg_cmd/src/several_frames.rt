@@ -24,11 +24,10 @@ use crate::progress::Progress;
 use crate::remarking::{BehindFrame, FrameDetail};
 use crate::running::{text_account, write_report};
 use dvg_account::{Inputs, verdict_text};
-use dvg_cert::{Cert, CertFault, HashIndex};
+use dvg_cert::{Cert, HashIndex};
 use dvg_check::{JudgedShapes, Mode, Refusal, RomFinding};
-use dvg_form::TextWatch;
 use dvg_spelling::{FrameAnswer, FrameOutcome, RunFault, frame_outcome_of};
-use dvg_text::{CountedRead, CountedWrite, WriteFault, write_lines};
+use dvg_text::{CountedRead, CountedWrite, RefusedText, WriteFault, write_lines};
 use dvg_words::{Machine, RomImage, Window};
 use std::alloc::Global;
 
@@ -309,7 +308,7 @@ impl<'a> Given<'a> {
 /// Judges frames by a given certificate, one after another, and writes a line for each, as [`run_frames`] does; or the line of the
 /// refusal of the certificate, of the ROM's length or of a shape, and no frame is taken.
 ///
-/// The counts of the certificate are bounds. The watch saw the pieces of its text.
+/// The counts of the certificate are bounds.
 pub fn run_frames_given<
     R: CountedRead + Drop,
     I: Iterator<Item = NamedFrame<R>> + Drop,
@@ -317,8 +316,7 @@ pub fn run_frames_given<
 >(
     alloc: Global,
     rom: &[u8],
-    cert: &Result<Cert, CertFault>,
-    watch: &TextWatch,
+    cert: &Result<Cert, RefusedText>,
     options: &FrameOptions,
     frames: I,
     listing: Listing<FrameDetail>,
@@ -354,9 +352,9 @@ pub fn run_frames_given<
     let detail = listing.detail.of_answer();
     let cert = match cert {
         Ok(cert) => cert,
-        Err(fault) => {
-            let refusal = Refusal::Cert(*fault);
-            let behind = text_account(options.machine, alloc, *fault, watch, detail);
+        Err(refused) => {
+            let refusal = Refusal::Cert(refused.fault());
+            let behind = text_account(options.machine, alloc, refused, detail);
             return run_refusal(&refusal, &behind, detail, out);
         }
     };

@@ -30,7 +30,7 @@ use dvg_cmd::{
     ASTEROIDS, ClockOptions, Counted, CountedRead, CountedWrite, Detail, FrameOutcome,
     FramesRunFault, KeptCertificates, Labels, Listing, MakeAnswer, MakeFault, MakeRunFault,
     NamedFrame, Outcome, OwnCertificates, Remarking, RomMap, Rule, RunFault, ShapeStarts,
-    TextWatch, TimedCertificates, Window, all_rules, frames_status_of, load_cert, load_rom,
+    TimedCertificates, Window, all_rules, frames_status_of, load_cert, load_rom,
     make_frames_status_of, message_of, run_check_in, run_comparison, run_explain_diff,
     run_explain_make, run_frames, run_frames_given, run_make_frames, run_places, run_rule,
     run_rules, status_of, write_make_answer, write_make_fault, write_message, write_text,
@@ -213,8 +213,7 @@ fn judge_frames<R: CountedRead + Drop, I: Iterator<Item = NamedFrame<R>> + Drop>
         }
         Certificates::Given(cert) => {
             let file = open(rt, cert, RunFault::ReadCert)?;
-            let mut watch = TextWatch::new(asked.has_account());
-            let cert = load_cert(rt.alloc(), &mut Counted::new(file), &mut watch)?;
+            let cert = load_cert(rt.alloc(), &mut Counted::new(file))?;
             let map = match &cert {
                 Ok(cert) => cert.map(),
                 Err(_) => ASTEROIDS,
@@ -227,7 +226,6 @@ fn judge_frames<R: CountedRead + Drop, I: Iterator<Item = NamedFrame<R>> + Drop>
                 rt.alloc(),
                 rom.as_slice(),
                 &cert,
-                &watch,
                 &asked.options,
                 frames,
                 listing_by(asked.listing, &remarking),

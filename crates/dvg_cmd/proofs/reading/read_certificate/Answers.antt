@@ -24,6 +24,3 @@ feeding-preserved g c =
       );
       counts = grind (arith, common_steps);
     }
-
-pub returns-clause-answer : goal.returns-clause-answer
-returns-clause-answer g c = search rules
