@@ -14,7 +14,6 @@ use crate::reached::Reached;
 use crate::remarked::{FrameRemark, in_order};
 use crate::shape_items::{ShapeItem, ShapeItems, from_address};
 use crate::shape_walk::{ShapeWalk, has_length};
-use crate::zeros::MOST_ITEMS;
 use dvg_cert::{Cert, End, Entry, HashIndex, LitBox, MOST_ENTRIES};
 use dvg_labels::Labels;
 use dvg_spelling::RemarkKind;
@@ -89,10 +88,7 @@ impl<'a> Finder<'a> {
         let mut watch = LabsWatch::new();
         let later = from_address(self.cert.entries(), Some(entry.addr));
         let mut items = ShapeItems::of(entry, later);
-        for _ in 0..MOST_ITEMS {
-            let Some(next) = items.next(self.rom, &self.entries, &self.beginnings) else {
-                break;
-            };
+        while let Some(next) = items.next(self.rom, &self.entries, &self.beginnings) {
             walk.note(&next);
             self.note_some(RemarkKind::RunsOn, next.meets.map(|(at, _)| at))?;
             if let Some(remark) = watch.pass(&next.item) {

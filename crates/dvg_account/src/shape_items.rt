@@ -1,10 +1,12 @@
 //! The items of a certificate's shape, one after another, and what else begins among them.
 
+ghost use Rattle.std.specs.Prelude.{◌<◌, IfSome};
+ghost use Rattle.dvg_items.specs.Iterating.{most_left};
+
 use crate::beginnings::{Beginning, Beginnings};
-use crate::zeros::item_below;
 use dvg_cert::{Entries, Entry, Key};
-use dvg_items::{Item, Kind, target};
-use dvg_words::{ADDRESS_END, Instr, RomImage};
+use dvg_items::{Item, Items, Kind, target};
+use dvg_words::{Instr, RomImage};
 
 /// An item of a shape, and what is known of it.
 #[derive(Clone, Copy)]
@@ -45,8 +47,10 @@ impl<'a> ShapeItems<'a> {
         rom: &RomImage,
         entries: &E,
         beginnings: &Beginnings,
-    ) -> Option<ShapeItem> {
-        let item = item_below(rom, self.here, ADDRESS_END)?;
+    ) -> Option<ShapeItem>
+        ensures { IfSome result (λ _. most_left self.new.here < most_left self.old.here) }
+    {
+        let item = Items::from(rom, Kind::Shape, self.here?).next()?;
         let scale = self.scale;
         let called = match target(Kind::Shape, &item.instr) {
             Some(to) => entries.named(to, scale),

@@ -2,7 +2,6 @@
 
 use crate::beginnings::{Beginning, Beginnings};
 use crate::shape_items::{ShapeItem, ShapeItems};
-use crate::zeros::MOST_ITEMS;
 use dvg_cert::{Entries, Entry};
 use dvg_survey::is_faint;
 use dvg_words::{Instr, RomImage};
@@ -44,10 +43,7 @@ impl ShapeWalk {
     ) -> ShapeWalk {
         let mut walk = ShapeWalk::new();
         let mut items = ShapeItems::of(entry, later);
-        for _ in 0..MOST_ITEMS {
-            let Some(item) = items.next(rom, entries, beginnings) else {
-                break;
-            };
+        while let Some(item) = items.next(rom, entries, beginnings) {
             walk.note(&item);
         }
         walk
