@@ -3,8 +3,8 @@
 use crate::expecting::{expect, expect_same};
 use crate::inputs::{Part, rom_bytes};
 use dvg_cert::Key;
-use dvg_survey::{compare, reaches_touched, touched_entries};
 use dvg_make::make_for_frames;
+use dvg_survey::{compare, reaches_touched, touched_entries};
 use dvg_words::{ASTEROIDS, FrameImage, RomImage};
 use std::slice;
 
