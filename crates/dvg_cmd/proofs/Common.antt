@@ -18,11 +18,11 @@ unfoldable pub use Rattle.dvg_survey.proofs.Common.{cell_at}
 unfoldable pub use Rattle.dvg_make.proofs.Common.{instruction_of}
 pub use Rattle.dvg_cmd.specs.MakingFrames.{FramesRunFault, FailedAfter, blames_frames_rom, of_each, AreFrames, MakesForFrames, FramesFaultMeans, RefusesInputs, RefusesMemory, EachHeld, EachRead, FirstWrong, OneFailed, blames_a_frame}
 pub use Rattle.dvg_cmd.specs.Runs.{IsReadTo, RunFault, MOST_FRAME_READ, ReadsText, Judges, Outcome, Accepted, IsReadFor, outcome_of, WritesReport, Reports, ReportsAccepted, MeansRead, NeedsEnd, NoMemory}
-pub use Rattle.dvg_cmd.specs.SeveralFrames.{joined, TakeOneWriteEach, Line, line_outcome, line_texts, texts_of, summary_of, listing_texts, gone_on, gone_with, begun, IsLineOf, AreLinesOf, ReportsFrames, ReportsFramesPrefix}
-pub use Rattle.dvg_cmd.specs.Frames.{FrameAnswer, Judged, FrameOutcome, Judging, ReadsFrame, AnswersFrame, frame_outcome_of, frame_line, IsReadFrom, VerdictOnBytes, IsRefused, IsJudgedRefusal, worse}
+pub use Rattle.dvg_cmd.specs.Sent.{joined, TakeOneWriteEach, Sent}
+pub use Rattle.dvg_cmd.specs.Frames.{FrameAnswer, Judged, FrameOutcome, Judging, ReadsFrame, AnswersFrame, frame_outcome_of, IsReadFrom, VerdictOnBytes, IsRefused, IsJudgedRefusal, worse}
 pub use Rattle.dvg_cmd.specs.Private.Reading.{IsPrefix, ArePrefixes, RefusesLengths, taken_length}
 pub use Rattle.dvg_cmd.specs.Detail.{Detail, Behind, IsBehind, behind_text, frame_outcome_behind, outcome_behind}
-pub use Rattle.dvg_cmd.specs.Remarking.{FrameDetail, has_account}
+pub use Rattle.dvg_cmd.specs.Remarking.{FrameDetail}
 pub use Rattle.dvg_words.specs.declared.machine.Machine.{Machine}
 pub use Rattle.dvg_check.specs.Verdict.{InRange, RomVerdict, RangeRefusal, PartsVerdict}
 pub use Rattle.dvg_cmd.specs.Making.{WritesMade, WritesMadePrefix, MakeFaultMeans, MakeRunFault, Makes}
@@ -31,7 +31,6 @@ pub use Rattle.dvg_cmd.specs.Comparing.{ComparesFor, reaching_lines, ComparisonF
 pub use Rattle.dvg_check.specs.declared.verdict.Yes.{Yes}
 pub use Rattle.dvg_cert.specs.declared.entry.Key.{Key}
 pub use Rattle.dvg_text.specs.Stream.{Stream, Open, FeedsTo}
-pub use Rattle.dvg_cmd.specs.Private.Named.{WritesLineOf, WritesLineOfPrefix, WritesLinesOf}
 pub use Rattle.dvg_cmd.specs.Private.Inputs.{AreInputImages, AreRead}
 pub use Rattle.dvg_words.specs.declared.machine.Machine.TheVariants.{Board, Profile}
 pub use Rattle.dvg_cert.specs.declared.fault.CertFault.{CertFault}

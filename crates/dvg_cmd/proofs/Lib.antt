@@ -6,7 +6,7 @@ pub mod Reporting
 pub mod SeveralFrames
 pub mod FramesRuns
 pub mod Answers
-pub mod SeveralLines
+pub mod ToldLines
 pub mod Alike
 pub mod Naming
 pub mod LineByLine

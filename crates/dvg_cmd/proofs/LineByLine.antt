@@ -1,6 +1,6 @@
 -- Lines that are sent one after another, over plain values.
 use Rattle.dvg_cmd.proofs.Common.{take, length-append, take-append-le, Appends-trans, TakeOneWriteEach, take-append-add, ◌≡◌, ℕ, ◌+◌, ◌<◌, List, [], ◌∷◌, ◌++◌, length, drop, get_or, Option, refl, sym, ap, ◌∙◌, subst, arith, append-nil, append_assoc, Result, OnErr, Appends, AppendsPrefix, TakesOneWrite, of_each, joined, rules, common_steps, drop-cons}
-use Rattle.dvg_cmd.specs.Private.Sent.{Sent}
+use Rattle.dvg_cmd.specs.Sent.{Sent}
 
 pub on_err : {A E P : Type 0} (r : Result A E) → P → OnErr r P
 on_err r p = grind (arith)

@@ -1,12 +1,10 @@
 -- Lines that are written one after another, where each write may fail.
-use Rattle.dvg_cmd.proofs.Common.{◌≡◌, ◌∙◌, sym, subst, append-nil, ℕ, List, [], ◌∷◌, Option, Result, OnErr, OnOk, Ok, Err, Appends, AppendsPrefix, TakesOneWrite, joined, refl}
+use Rattle.dvg_cmd.proofs.Common.{◌≡◌, ◌∙◌, sym, subst, append-nil, ℕ, List, [], ◌∷◌, ◌++◌, Option, Result, OnErr, OnOk, Ok, Err, Appends, AppendsPrefix, TakesOneWrite, joined, refl, true, FrameOutcome, Sent}
 use Rattle.std.specs.Prelude.{if◌then◌else◌}
 use Rattle.std.proofs.KnownBytes.{Appends-nil}
-use Rattle.dvg_cmd.proofs.Common.{◌⊎◌, ◌++◌, ap, Bool, true, false, arith, Line, line_outcome, texts_of, summary_of, FrameDetail, has_account}
-use Rattle.dvg_cmd.specs.SeveralFrames.{blank_line, is_written, line_text, summary_texts}
-use Rattle.dvg_cmd.specs.declared.listing.Listing.{Listing}
+use Rattle.dvg_cmd.specs.Telling.{blank_line, is_written, told, summary_of}
 use Rattle.dvg_cmd.specs.declared.progress.Progress.{Progress}
-use Rattle.dvg_cmd.specs.Private.Sent.{Sent}
+use Rattle.dvg_cmd.proofs.LineByLine.{both_cut}
 
 pub on_ok : {A E P Q : Type 0} (r : Result A E) → OnOk r P → (P → Q) → OnOk r Q
 on_ok (Ok a) h step = step h
@@ -41,22 +39,19 @@ pub none_sent : (texts : List (List ℕ)) → texts ≡ [] → (old : Option (Li
 none_sent texts none old writes =
     subst (λ ts. Sent ts old old writes writes) (sym none) (record { written = Appends-nil old; one_write = refl })
 
--- ---- what is written of a line
+-- ---- what is written of a line, and behind all lines
 
-pub no_blank : (accounts written : Bool) → (accounts ≡ false) ⊎ (written ≡ false) → blank_line accounts written ≡ []
-no_blank true true h = grind (arith)
-no_blank true false h = refl
-no_blank false written h = refl
+module _ {T : Type 0} (p : Progress T) (old mid new : Option (List ℕ)) (writes writes_mid : ℕ)
+    (apart : Sent (blank_line p.layout.apart p.written) old mid writes writes_mid) where
+  pub told_cut : (end : FrameOutcome) (line : List ℕ) → is_written p.layout.lines end ≡ true → AppendsPrefix mid new line
+      → AppendsPrefix old new (joined (told p end line))
+  told_cut end line shown cut =
+      subst (λ b. AppendsPrefix old new (joined (if b then blank_line p.layout.apart p.written ++ line ∷ [] else []))) (sym shown)
+      (both_cut (blank_line p.layout.apart p.written) (line ∷ []) old mid new writes writes_mid writes_mid apart
+      (subst (AppendsPrefix mid new) (sym (append-nil line)) cut))
 
-module _ (listing : Listing FrameDetail) (written : Bool) (line : Line) where
-  pub texts_shown : is_written listing.lines (line_outcome line) ≡ true
-      → texts_of listing written line ≡ blank_line (has_account listing.detail) written ++ line_text line ∷ []
-  texts_shown shown = ap (λ b. if b then blank_line (has_account listing.detail) written ++ line_text line ∷ [] else []) shown
-
-  pub texts_hidden : is_written listing.lines (line_outcome line) ≡ false → texts_of listing written line ≡ []
-  texts_hidden hidden = ap (λ b. if b then blank_line (has_account listing.detail) written ++ line_text line ∷ [] else []) hidden
-
-module _ (listing : Listing FrameDetail) (p : Progress) where
-  pub summary_shown : listing.summary ≡ true
-      → summary_of listing p ≡ blank_line (has_account listing.detail) p.written ++ summary_texts p.summary
-  summary_shown shown = ap (λ b. if b then blank_line (has_account listing.detail) p.written ++ summary_texts p.summary else []) shown
+  pub summary_cut : (last : T → List (List ℕ)) → p.layout.summary ≡ true → AppendsPrefix mid new (joined (last p.tally))
+      → AppendsPrefix old new (joined (summary_of last p))
+  summary_cut last shown cut =
+      subst (λ b. AppendsPrefix old new (joined (if b then blank_line p.layout.apart p.written ++ last p.tally else []))) (sym shown)
+      (both_cut (blank_line p.layout.apart p.written) (last p.tally) old mid new writes writes_mid writes_mid apart cut)

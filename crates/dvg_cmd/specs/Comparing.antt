@@ -14,7 +14,7 @@ use Rattle.dvg_spelling.specs.declared.fault.FramesRunFault.{FramesRunFault}
 use Rattle.dvg_spelling.specs.declared.fault.FramesRunFault.TheVariants as fault
 use Rattle.dvg_cmd.specs.Making.{Held}
 use Rattle.dvg_cmd.specs.MakingFrames.{of_each, Inputs, FramesFaultMeans}
-use Rattle.dvg_cmd.specs.SeveralFrames.{joined, TakeOneWriteEach}
+use Rattle.dvg_cmd.specs.Sent.{joined, TakeOneWriteEach}
 
 -- what the change from one ROM at this map to another touches, by all bytes that readers held of both and of frames
 pub record ComparesFor

@@ -1,5 +1,5 @@
 -- What a run writes behind the line of an answer. All of it is this project's own.
-use Rattle.std.specs.Prelude.{◌≡◌, ◌≢◌, ℕ, List, [], codes, string_bytes}
+use Rattle.std.specs.Prelude.{◌≡◌, ◌≢◌, ℕ, Bool, true, false, List, [], codes, string_bytes}
 use Rattle.dvg_spelling.specs.Outcomes.{worse}
 use Rattle.dvg_spelling.specs.declared.outcome.Outcome.{Outcome}
 use Rattle.dvg_spelling.specs.declared.outcome.Outcome.TheVariants.{NoMemory}
@@ -9,6 +9,11 @@ pub use Rattle.dvg_cmd.specs.declared.detail.Detail.{Detail}
 pub use Rattle.dvg_cmd.specs.declared.detail.Detail.TheVariants as detail
 pub use Rattle.dvg_cmd.specs.declared.detail.Behind.{Behind}
 pub use Rattle.dvg_cmd.specs.declared.detail.Behind.TheVariants as behind
+
+-- whether an account is written
+abbrev pub has_account : Detail → Bool
+has_account detail.Line = false
+has_account (detail.Account labels) = true
 
 -- what is written in the place of an account for which there was no memory
 abbrev pub no_account : List ℕ

@@ -1,5 +1,5 @@
 -- The verdict on a frame by its own certificate, or over judged shapes, and what a run writes of it. All of it is this project's own.
-use Rattle.std.specs.Prelude.{◌≡◌, ℕ, Bool, true, false, List, ◌++◌, ◌≤◌, take, length, Option, Some, None, IfSome, Result, Ok, Err}
+use Rattle.std.specs.Prelude.{◌≡◌, ℕ, Bool, true, false, List, ◌≤◌, take, length, Option, Some, None, IfSome, Result, Ok, Err}
 use Rattle.dvg_words.specs.declared.machine.Machine.{Machine}
 use Rattle.dvg_words.specs.declared.machine.Machine.TheVariants.{Board}
 use Rattle.dvg_words.specs.Values.{MemoryMap, Window}
@@ -24,7 +24,6 @@ use Rattle.dvg_clocks.specs.declared.frames.Timing.{Timing}
 use Rattle.dvg_clocks.specs.declared.judging.TimedRefusal.{TimedRefusal}
 use Rattle.dvg_clocks.specs.declared.judging.TimedRefusal.TheVariants as timed
 use Rattle.dvg_clocks.specs.declared.judging.TimedYes.{TimedYes}
-use Rattle.dvg_spelling.specs.Report.{frame_line_text}
 use Rattle.dvg_cmd.specs.Detail.{Detail}
 use Rattle.dvg_cmd.specs.declared.detail.Detail.TheVariants as details
 use Rattle.dvg_cmd.specs.Runs.{MOST_FRAME_READ, IsReadTo}
@@ -131,10 +130,6 @@ abbrev pub AnswerMeans :
     (List ℕ → FrameAnswer → Type 0) → Option ℕ → Option (List ℕ) → Option (List ℕ) → List ℕ → FrameAnswer → Type 0
 AnswerMeans IsAnswer start old new bytes Unread = Unit {0}
 AnswerMeans IsAnswer start old new bytes answer = IsReadTo MOST_FRAME_READ old new × ReadsFrame old start bytes × IsAnswer bytes answer
-
--- the whole line of an answer
-abbrev pub frame_line : List ℕ → FrameAnswer → List ℕ
-frame_line name answer = name ++ frame_line_text answer
 
 -- how frames are judged: what is an answer to the bytes of a frame, and why a refused one is refused; and of which ROM, which window
 -- and which mode of counts it speaks

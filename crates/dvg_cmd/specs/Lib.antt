@@ -8,6 +8,8 @@ pub mod SafeFrames
 pub mod Kept
 pub mod Frames
 pub mod Called
+pub mod Sent
+pub mod Telling
 pub mod Remarking
 pub mod SeveralFrames
 pub mod Making

@@ -12,7 +12,7 @@ use Rattle.dvg_survey.specs.declared.places.EntryPlaces.{EntryPlaces}
 use Rattle.dvg_survey.specs.Places.{AreAllPlaces}
 use Rattle.dvg_spelling.specs.Places.{place_line}
 use Rattle.dvg_cmd.specs.MakingFrames.{of_each, Inputs}
-use Rattle.dvg_cmd.specs.SeveralFrames.{joined, TakeOneWriteEach}
+use Rattle.dvg_cmd.specs.Sent.{joined, TakeOneWriteEach}
 
 -- the places of the calls of each entry of the list that is made for all bytes that readers held, of a ROM at this map and of frames,
 -- in the order of that list

@@ -2,6 +2,4 @@
 pub mod Inputs
 pub mod Judging
 pub mod Leading
-pub mod Named
 pub mod Reading
-pub mod Sent

@@ -1,5 +1,5 @@
 -- What a run writes behind the line of a frame. All of it is this project's own.
-use Rattle.std.specs.Prelude.{◌≡◌, ℕ, Bool, true, false, List, [], ◌∷◌, Option, Some, None, codes, string_bytes}
+use Rattle.std.specs.Prelude.{◌≡◌, ℕ, List, [], ◌∷◌, Option, Some, None, codes, string_bytes}
 use Rattle.dvg_account.specs.declared.remarked.FrameRemark.{FrameRemark}
 use Rattle.dvg_spelling.specs.Outcomes.{worse}
 use Rattle.dvg_spelling.specs.Tally.{answer_number}
@@ -24,12 +24,6 @@ pub use Rattle.dvg_cmd.specs.declared.remarking.BehindFrame.TheVariants as behin
 abbrev pub answer_detail : FrameDetail → Detail
 answer_detail (detail.Answer asked) = asked
 answer_detail (detail.Remarks remarking) = details.Line
-
--- whether accounts are written
-abbrev pub has_account : FrameDetail → Bool
-has_account (detail.Answer (details.Account labels)) = true
-has_account (detail.Answer details.Line) = false
-has_account (detail.Remarks remarking) = false
 
 -- remarks, or that there was no memory for them
 abbrev pub AreRemarks : BehindFrame → Type 0

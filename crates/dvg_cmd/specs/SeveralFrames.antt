@@ -1,12 +1,10 @@
 -- What a run writes of several frames that are judged one after another. All of it is this project's own.
-use Rattle.std.specs.Prelude.{◌≡◌, ℕ, Bool, true, false, if◌then◌else◌, List, [], ◌∷◌, ◌++◌, length, Option, None, Some, codes, string_bytes, Result, Ok, Err}
-use Rattle.std.specs.Io.KnownBytes.{Appends}
-use Rattle.std.specs.Iterator.{Drains, Yields}
+use Rattle.std.specs.Prelude.{◌≡◌, ℕ, List, [], ◌∷◌, ◌++◌, length, Option, None, Some, string_bytes, Result, Ok, Err}
 use Rattle.dvg_words.specs.declared.machine.Machine.{Machine}
 use Rattle.dvg_words.specs.Memory.{rom_on, IsRomLength}
 use Rattle.dvg_words.specs.Values.{Window}
 use Rattle.dvg_words.specs.declared.image.ImageFault.TheVariants.{RomLength}
-use Rattle.dvg_text.specs.Devices.{AppendsPrefix, TakesOneWrite, count_after}
+use Rattle.dvg_text.specs.Devices.{count_after}
 use Rattle.dvg_cert.specs.Order.{Certificate}
 use Rattle.dvg_cert.specs.declared.fault.CertFault.{CertFault}
 use Rattle.dvg_check.specs.FirstFault.{FirstShapeFault}
@@ -15,61 +13,31 @@ use Rattle.dvg_check.specs.declared.fault.Mode.TheVariants.{Bound}
 use Rattle.dvg_check.specs.declared.verdict.Refusal.{Refusal}
 use Rattle.dvg_check.specs.declared.verdict.Refusal.TheVariants as refusal
 use Rattle.dvg_spelling.specs.Outcomes.{plain_outcome}
+use Rattle.dvg_spelling.specs.Report.{frame_line_text}
 use Rattle.dvg_spelling.specs.Tally.{no_lines, with_answer as counted, summary_text}
-use Rattle.dvg_spelling.specs.declared.outcome.FrameOutcome.TheVariants as outcome
-use Rattle.dvg_cmd.specs.Detail.{Detail}
-use Rattle.dvg_cmd.specs.Remarking.{FrameDetail, BehindFrame, IsBehindFrame, called_with, has_account, outcome_behind_frame, remarked_with, remarks_texts, text_behind_frame}
-use Rattle.dvg_cmd.specs.declared.listing.Lines.{Lines}
-use Rattle.dvg_cmd.specs.declared.listing.Lines.TheVariants as which
+use Rattle.dvg_cmd.specs.Detail.{Detail, has_account}
+use Rattle.dvg_cmd.specs.Remarking.{FrameDetail, BehindFrame, IsBehindFrame, answer_detail, called_with, outcome_behind_frame, remarked_with, remarks_texts, text_behind_frame}
 use Rattle.dvg_cmd.specs.declared.listing.Listing.{Listing}
 use Rattle.dvg_cmd.specs.declared.several_frames.NamedFrame.{NamedFrame}
-use Rattle.dvg_cmd.specs.declared.progress.Progress.{Progress}
 use Rattle.dvg_cmd.specs.declared.summary.FramesSummary.{FramesSummary}
 use Rattle.dvg_cmd.specs.Called.{called_texts}
 use Rattle.dvg_cmd.specs.Most.{most_texts, with_frame}
+use Rattle.dvg_cmd.specs.Telling.{Line, Telling, layout_of}
 use Rattle.dvg_cmd.specs.Runs.{Outcome, WritesReport, WritesReportPrefix}
-use Rattle.dvg_cmd.specs.Frames.{FrameAnswer, Unread, FrameOutcome, frame_outcome_of, worse, frame_line, is_unread, Judging, AnswersFrame, judged_over}
-
-module _ {I R : Type 0} (next_gives : I → Option (NamedFrame R) → I → Type 0) (frames : I) (P : List (NamedFrame R) → Type 0) where
-  -- an iterator gave these frames and then none, and P holds of them
-  abbrev pub HoldsOfAll : Type 0
-  HoldsOfAll = (taken : List (NamedFrame R)) × Drains next_gives frames taken × P taken
-
-  -- it gave these frames first, and P holds of them
-  abbrev pub HoldsOfTaken : Type 0
-  HoldsOfTaken = (taken : List (NamedFrame R)) × (left : I) × Yields next_gives frames taken left × P taken
-
--- the line of a frame's answer: the name, the answer, and what is behind the line
-pub record Line : Type 0 where
-  pub name : List ℕ
-  pub answer : FrameAnswer
-  pub behind : BehindFrame
-
--- a line and the text behind it
-abbrev pub line_text : Line → List ℕ
-line_text line = frame_line line.name line.answer ++ text_behind_frame line.behind
-
--- its outcome
-abbrev pub line_outcome : Line → FrameOutcome
-line_outcome line = outcome_behind_frame line.behind (frame_outcome_of line.answer)
-
--- whether a line of this outcome is written: each, or each that is not of an accepted frame
-abbrev pub is_written : Lines → FrameOutcome → Bool
-is_written which.NotAccepted outcome.Accepted = false
-is_written shown end = true
+use Rattle.dvg_cmd.specs.Frames.{FrameAnswer, Unread, FrameOutcome, frame_outcome_of, is_unread, Judging, AnswersFrame, judged_over}
 
 -- what is known of no frame
 abbrev pub no_frames : FramesSummary
 no_frames = record { tally = no_lines; most = None; remarks = None; called = [] }
 
 -- what a line adds to what is known, whether it is written or not
-abbrev pub summed_with : FramesSummary → Line → FramesSummary
+abbrev pub summed_with : FramesSummary → Line (FrameAnswer × BehindFrame) → FramesSummary
 summed_with s line =
     record {
-      tally = counted s.tally line.answer;
-      most = with_frame s.most line.name line.answer;
-      remarks = remarked_with s.remarks line.behind;
-      called = called_with s.called line.behind;
+      tally = counted s.tally line.answer.0;
+      most = with_frame s.most line.name line.answer.0;
+      remarks = remarked_with s.remarks line.answer.1;
+      called = called_with s.called line.answer.1;
     }
 
 -- the texts that tell it: the frames that take most, how many remarks there are, which shapes refused frames call, and how many lines
@@ -77,56 +45,17 @@ summed_with s line =
 abbrev pub summary_texts : FramesSummary → List (List ℕ)
 summary_texts s = most_texts s.most ++ remarks_texts s.remarks ++ called_texts s.called ++ summary_text s.tally ∷ []
 
--- before the first frame
-abbrev pub begun : Progress
-begun = record { summary = no_frames; worst = outcome.Accepted; written = false }
-
--- after a line
-abbrev pub gone_with : Lines → Progress → Line → Progress
-gone_with shown p line =
+-- how it is told of frames
+abbrev pub of_frames : Listing FrameDetail → Telling (FrameAnswer × BehindFrame) FramesSummary
+of_frames listing =
     record {
-      summary = summed_with p.summary line;
-      worst = worse p.worst (line_outcome line);
-      written = if is_written shown (line_outcome line) then true else p.written;
+      text = λ answer. frame_line_text answer.0 ++ text_behind_frame answer.1;
+      outcome = λ answer. outcome_behind_frame answer.1 (frame_outcome_of answer.0);
+      layout = layout_of listing (has_account (answer_detail listing.detail));
+      none = no_frames;
+      add = summed_with;
+      last = summary_texts;
     }
-
--- after several
-abbrev pub gone_on : Lines → Progress → List Line → Progress
-gone_on shown p [] = p
-gone_on shown p (line ∷ rest) = gone_on shown (gone_with shown p line) rest
-
--- what sets an account apart from what was written before it: a blank line
-abbrev pub blank_line : Bool → Bool → List (List ℕ)
-blank_line true true = codes "\n" ∷ []
-blank_line accounts written = []
-
--- what is written of a line
-abbrev pub texts_of : Listing FrameDetail → Bool → Line → List (List ℕ)
-texts_of listing written line =
-    if is_written listing.lines (line_outcome line) then blank_line (has_account listing.detail) written ++ line_text line ∷ [] else []
-
--- what is written of several
-abbrev pub line_texts : Listing FrameDetail → Progress → List Line → List (List ℕ)
-line_texts listing p [] = []
-line_texts listing p (line ∷ rest) = texts_of listing p.written line ++ line_texts listing (gone_with listing.lines p line) rest
-
--- the last texts, if a summary is asked for
-abbrev pub summary_of : Listing FrameDetail → Progress → List (List ℕ)
-summary_of listing p = if listing.summary then blank_line (has_account listing.detail) p.written ++ summary_texts p.summary else []
-
--- all texts that are written, in their order
-abbrev pub listing_texts : Listing FrameDetail → List Line → List (List ℕ)
-listing_texts listing lines = line_texts listing begun lines ++ summary_of listing (gone_on listing.lines begun lines)
-
--- texts, one after another
-abbrev pub joined : List (List ℕ) → List ℕ
-joined [] = []
-joined (text ∷ rest) = text ++ joined rest
-
--- each was written by one write if it fits one
-abbrev pub TakeOneWriteEach : List (List ℕ) → ℕ → ℕ → Type 0
-TakeOneWriteEach [] old new = new ≡ old
-TakeOneWriteEach (text ∷ rest) old new = (next : ℕ) × TakesOneWrite text old next × TakeOneWriteEach rest next new
 
 -- `remaining` is what a reader still holds, and `failures` its count of failed reads
 module _ {R : Type 0} (remaining : R → Option (List ℕ)) (failures : R → ℕ)
@@ -138,35 +67,11 @@ module _ {R : Type 0} (remaining : R → Option (List ℕ)) (failures : R → �
       (left : R) × AnswersFrame j start (remaining reader) (remaining left) answer
       × (failures left ≡ count_after (is_unread answer) (failures reader))
 
-module _ {R : Type 0} (remaining : R → Option (List ℕ)) (failures : R → ℕ)
-    (j : Judging) (listing : Listing FrameDetail) (start : Option ℕ) where
   -- the line of a frame: its name, the answer to it, and behind the line what the detail asks for
-  pub record IsLineOf (frame : NamedFrame R) (line : Line) : Type 0 where
+  pub record IsLineOfFrame (detail : FrameDetail) (frame : NamedFrame R) (line : Line (FrameAnswer × BehindFrame)) : Type 0 where
     pub name_is : line.name ≡ string_bytes frame.name
-    pub answers : AnswersOpened remaining failures j start frame.reader line.answer
-    pub asked : IsBehindFrame listing.detail line.answer line.behind
-
-  -- a line for each frame, in the order of the frames
-  abbrev pub AreLinesOf : List (NamedFrame R) → List Line → Type 0
-  AreLinesOf [] [] = Unit {0}
-  AreLinesOf (frame ∷ frames) (line ∷ lines) = IsLineOf frame line × AreLinesOf frames lines
-  AreLinesOf frames lines = ⊥
-
-  -- of a line for each of these frames those were written that the listing has, and its summary, and nothing else; the outcome is the
-  -- worst of all of them
-  pub record ReportsFrames
-      (frames : List (NamedFrame R)) (old new : Option (List ℕ)) (writes writes_after : ℕ) (end : FrameOutcome) : Type 0 where
-    pub lines : List Line
-    pub lines_of : AreLinesOf frames lines
-    pub written : Appends old new (joined (listing_texts listing lines))
-    pub one_write : TakeOneWriteEach (listing_texts listing lines) writes writes_after
-    pub outcome_is : end ≡ (gone_on listing.lines begun lines).worst
-
-  -- a prefix of that was written, and nothing else
-  pub record ReportsFramesPrefix (frames : List (NamedFrame R)) (old new : Option (List ℕ)) : Type 0 where
-    pub lines : List Line
-    pub lines_of : AreLinesOf frames lines
-    pub written : AppendsPrefix old new (joined (listing_texts listing lines))
+    pub answers : AnswersOpened frame.reader line.answer.0
+    pub asked : IsBehindFrame detail line.answer.0 line.answer.1
 
 -- ---- by a given certificate
 

@@ -4,8 +4,7 @@ ghost use Rattle.std.specs.Prelude.{◌≡◌, ◌≤◌, ◌∷◌, [], None, S
 ghost use Rattle.dvg_words.specs.Memory.{IsFrameLength, words_of};
 ghost use Rattle.dvg_text.specs.Devices.{AppendsPrefix, count_after};
 ghost use Rattle.dvg_cmd.specs.Called.{again_at, called_by, called_text, called_texts, is_before, is_counted, place_in, refused_at, with_called};
-ghost use Rattle.dvg_cmd.specs.SeveralFrames.{joined};
-ghost use Rattle.dvg_cmd.specs.Private.Sent.{Sent};
+ghost use Rattle.dvg_cmd.specs.Sent.{joined, Sent};
 
 use arrayvec::ArrayVec;
 use dvg_check::Refusal;

@@ -1,7 +1,7 @@
 //! What a run writes of an answer: its line, or its line and an account of it.
 
 ghost use Rattle.std.specs.Prelude.{◌≡◌, None, IfOk, OnErr};
-ghost use Rattle.dvg_cmd.specs.Detail.{IsBehind, behind_text, frame_outcome_behind};
+ghost use Rattle.dvg_cmd.specs.Detail.{IsBehind, behind_text, has_account, frame_outcome_behind};
 ghost use Rattle.dvg_cmd.specs.declared.detail.Detail.TheVariants as details;
 ghost use Rattle.dvg_cmd.specs.declared.detail.Behind.TheVariants as behinds;
 
@@ -21,7 +21,9 @@ pub enum Detail<'a> {
 
 impl<'a> Detail<'a> {
     /// Whether an account is written.
-    pub fn has_account(self) -> bool {
+    pub fn has_account(self) -> bool
+        ensures { result ≡ has_account self.entry }
+    {
         match self {
             Detail::Line => false,
             Detail::Account(_) => true,

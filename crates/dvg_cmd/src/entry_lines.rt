@@ -5,8 +5,7 @@ ghost use Rattle.dvg_text.specs.Devices.{AppendsPrefix, count_after};
 ghost use Rattle.dvg_spelling.specs.Places.{place_line};
 ghost use Rattle.dvg_spelling.specs.Touched.{touched_line};
 ghost use Rattle.dvg_cmd.specs.MakingFrames.{of_each};
-ghost use Rattle.dvg_cmd.specs.SeveralFrames.{joined};
-ghost use Rattle.dvg_cmd.specs.Private.Sent.{Sent};
+ghost use Rattle.dvg_cmd.specs.Sent.{joined, Sent};
 
 use dvg_spelling::{EntryLine, place_line_of, touched_line_of};
 use dvg_survey::{EntryPlaces, TouchedEntry};

@@ -1,16 +1,14 @@
 //! The answer to one frame that a reader holds, and its line.
 
-ghost use Rattle.std.specs.Prelude.{◌≡◌, ◌≤◌, ◌∷◌, [], None, take, IfOk, OnOk, OnErr, is_err};
+ghost use Rattle.std.specs.Prelude.{◌≡◌, ◌≤◌, None, take, IfOk, OnOk, is_err};
 ghost use Rattle.dvg_words.specs.Memory.{words_of};
-ghost use Rattle.dvg_text.specs.Devices.{AppendsPrefix, count_after};
+ghost use Rattle.dvg_text.specs.Devices.{count_after};
 ghost use Rattle.dvg_cmd.specs.Detail.{IsBehind};
-ghost use Rattle.dvg_cmd.specs.Remarking.{IsBehindFrame, TellsCall, answer_detail, outcome_behind_frame, text_behind_frame};
+ghost use Rattle.dvg_cmd.specs.Remarking.{IsBehindFrame, TellsCall, answer_detail};
 ghost use Rattle.dvg_cmd.specs.declared.detail.Detail.TheVariants as details;
 ghost use Rattle.dvg_cmd.specs.declared.remarking.FrameDetail.TheVariants as frame_details;
 ghost use Rattle.dvg_cmd.specs.Runs.{MOST_FRAME_READ, IsReadTo};
 ghost use Rattle.dvg_cmd.specs.Frames.{JudgesAlike, ReadsFrame, AnswersFrame, is_unread};
-ghost use Rattle.dvg_cmd.specs.SeveralFrames.{joined, line_text};
-ghost use Rattle.dvg_cmd.specs.Private.Sent.{Sent};
 
 use crate::called::{Called, called_by, name_of};
 use crate::detail::{Behind, Detail};
@@ -20,8 +18,8 @@ use crate::remarking::{BehindFrame, FrameDetail};
 use crate::start::start_at;
 use dvg_account::{PlainWhy, address_text, plain_text};
 use dvg_labels::Labels;
-use dvg_spelling::{FrameAnswer, answer_number, frame_report_of};
-use dvg_text::{CountedRead, CountedWrite, WriteFault, write_lines};
+use dvg_spelling::{FrameAnswer, answer_number};
+use dvg_text::CountedRead;
 use dvg_words::Machine;
 use std::alloc::Global;
 use std::io;
@@ -155,22 +153,4 @@ pub fn answer_of<J: FrameJudge, R: CountedRead>(
             BehindFrame::Answer(unread_account(judge.machine(), alloc, detail.of_answer())),
         ),
     }
-}
-
-/// Writes the line of an answer, and a text behind it.
-pub fn write_answer<W: CountedWrite>(
-    name: &str,
-    answer: &FrameAnswer,
-    behind: &BehindFrame,
-    out: &mut W,
-) -> Result<(), WriteFault>
-    ensures sent { OnOk result (Sent (line_text (record { name = name.now; answer = answer.now; behind = behind.now }) ∷ [])
-        (W.contents out.old) (W.contents out.new) (W.whole_writes out.old) (W.whole_writes out.new)) }
-    ensures prefix { OnErr result (AppendsPrefix (W.contents out.old) (W.contents out.new)
-        (joined (line_text (record { name = name.now; answer = answer.now; behind = behind.now }) ∷ []))) }
-    ensures count { W.failures out.new ≡ count_after (is_err result) (W.failures out.old) }
-{
-    let report = frame_report_of(answer);
-    let text = behind.text();
-    write_lines(name.as_bytes(), report.as_bytes(), text.as_bytes(), out)
 }

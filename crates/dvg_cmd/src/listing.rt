@@ -1,7 +1,7 @@
 //! What a run writes of several frames.
 
 ghost use Rattle.std.specs.Prelude.{◌≡◌};
-ghost use Rattle.dvg_cmd.specs.SeveralFrames.{is_written};
+ghost use Rattle.dvg_cmd.specs.Telling.{is_written, layout_of};
 
 use dvg_spelling::FrameOutcome;
 
@@ -40,5 +40,29 @@ pub struct Listing<D> {
     /// Whether a last line says how many frames were accepted, refused by each number, not to be read, and out of memory, whether
     /// they have a line or not. Before it: where lines tell clocks, three lines name the accepted frames that take most; with remarks, a
     /// line counts them; with accounts, lines count the refused frames by the shapes that they call.
+    pub summary: bool,
+}
+
+impl<D> Listing<D> {
+    /// How it is written, with a blank line before each account or without.
+    pub fn layout(&self, apart: bool) -> Layout
+        ensures { result ≡ layout_of self.now apart }
+    {
+        Layout {
+            lines: self.lines,
+            apart,
+            summary: self.summary,
+        }
+    }
+}
+
+/// Which lines a run over several things writes, and how.
+#[derive(Clone, Copy)]
+pub struct Layout {
+    /// Which things have a line.
+    pub lines: Lines,
+    /// Whether a blank line sets what is written of a thing, or behind them, apart from what was written before.
+    pub apart: bool,
+    /// Whether a summary is behind all lines.
     pub summary: bool,
 }

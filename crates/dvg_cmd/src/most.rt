@@ -5,9 +5,8 @@ ghost use Rattle.std.specs.Io.KnownBytes.{Appends};
 ghost use Rattle.dvg_text.specs.Devices.{AppendsPrefix, TakesOneWrite, count_after};
 ghost use Rattle.dvg_spelling.specs.Report.{clocks_text};
 ghost use Rattle.dvg_cmd.specs.Most.{lines_of, most_clocks_text, most_depth_text, most_of, most_words_text, taken_text, with_timed};
-ghost use Rattle.dvg_cmd.specs.SeveralFrames.{joined};
+ghost use Rattle.dvg_cmd.specs.Sent.{joined, Sent};
 ghost use Rattle.dvg_cmd.specs.Private.Leading.{IsFree, OutdoesNone, leads_with, name_at, outdone_by, with_name};
-ghost use Rattle.dvg_cmd.specs.Private.Sent.{Sent};
 
 use arrayvec::ArrayVec;
 use dvg_clocks::{ClockRange, TimedYes};

@@ -1,53 +1,85 @@
-//! How far a run over frames has come.
+//! How far a run over several things has come, and the lines that it writes.
 
-ghost use Rattle.std.specs.Prelude.{◌≡◌, string_bytes};
-ghost use Rattle.dvg_cmd.specs.SeveralFrames.{begun, gone_with};
+ghost use Rattle.std.specs.Prelude.{◌≡◌, ◌<◌, ◌++◌, length, false, OnOk, OnErr, is_err};
+ghost use Rattle.dvg_text.specs.Devices.{AppendsPrefix, count_after};
+ghost use Rattle.dvg_spelling.specs.declared.outcome.FrameOutcome.TheVariants.{Accepted};
+ghost use Rattle.dvg_cmd.specs.Sent.{joined, Sent};
+ghost use Rattle.dvg_cmd.specs.Telling.{blank_line, gone, told};
 
-use crate::listing::Listing;
-use crate::remarking::{BehindFrame, FrameDetail};
-use crate::summary::FramesSummary;
-use dvg_spelling::{FrameAnswer, FrameOutcome, frame_outcome_of};
-use std::alloc::Global;
+use crate::listing::Layout;
+use dvg_spelling::FrameOutcome;
+use dvg_text::{CountedWrite, WriteFault, write_lines};
 
-/// How far a run has come: what its summary will tell, and what came of its frames.
+/// How far a run over several things has come, and how it writes their lines.
 #[derive(Drop)]
-pub struct Progress {
-    pub summary: FramesSummary,
+pub struct Progress<T> {
+    pub layout: Layout,
+    /// What is counted of the lines, written or not.
+    pub tally: T,
     /// The worst outcome.
     pub worst: FrameOutcome,
     /// Whether a line was written.
     pub written: bool,
 }
 
-impl Progress {
-    /// Before the first frame.
-    pub fn new() -> Progress
-        ensures { result ≡ begun }
+impl<T> Progress<T> {
+    /// Before the first line, with the tally of none.
+    pub fn new(layout: Layout, none: T) -> Progress<T>
+        ensures { result ≡ record { layout = layout; tally = none; worst = Accepted; written = false } }
     {
         Progress {
-            summary: FramesSummary::new(),
+            layout,
+            tally: none,
             worst: FrameOutcome::Accepted,
             written: false,
         }
     }
 
-    /// Takes in a frame of this name, with the answer to it and what is behind its line, which was written if the listing has it.
-    pub fn add(
-        &mut self,
-        alloc: Global,
-        name: String,
-        answer: &FrameAnswer,
-        behind: BehindFrame,
-        listing: Listing<FrameDetail>,
-    )
-        ensures { self.new ≡ gone_with listing.entry.lines self.old
-            (record { name = string_bytes name; answer = answer.now; behind = behind }) }
+    /// Writes the blank line that sets an account apart from what was written before, if there is one.
+    pub fn write_apart<W: CountedWrite>(&self, out: &mut W) -> Result<(), WriteFault>
+        ensures sent { OnOk result (Sent (blank_line self.now.layout.apart self.now.written) (W.contents out.old) (W.contents out.new)
+            (W.whole_writes out.old) (W.whole_writes out.new)) }
+        ensures prefix { OnErr result (AppendsPrefix (W.contents out.old) (W.contents out.new)
+            (joined (blank_line self.now.layout.apart self.now.written))) }
+        ensures count { W.failures out.new ≡ count_after (is_err result) (W.failures out.old) }
     {
-        let outcome = behind.frame_outcome(frame_outcome_of(answer));
-        if listing.lines.has(outcome) {
+        if self.layout.apart && self.written {
+            write_lines(b"\n", &[], &[], out)
+        } else {
+            Ok(())
+        }
+    }
+
+    /// Writes a line of this outcome, with the name before it and the text behind it, if such lines are written.
+    pub fn write_line<W: CountedWrite>(
+        &self,
+        outcome: FrameOutcome,
+        name: &str,
+        line: &[u8],
+        text: &str,
+        out: &mut W,
+    ) -> Result<(), WriteFault>
+        requires { 0 < length line.now }
+        ensures sent { OnOk result (Sent (told self.now outcome (name.now ++ line.now ++ text.now)) (W.contents out.old)
+            (W.contents out.new) (W.whole_writes out.old) (W.whole_writes out.new)) }
+        ensures prefix { OnErr result (AppendsPrefix (W.contents out.old) (W.contents out.new)
+            (joined (told self.now outcome (name.now ++ line.now ++ text.now)))) }
+        ensures count { W.failures out.new ≡ count_after (is_err result) (W.failures out.old) }
+    {
+        if !self.layout.lines.has(outcome) {
+            return Ok(());
+        }
+        self.write_apart(out)?;
+        write_lines(name.as_bytes(), line, text.as_bytes(), out)
+    }
+
+    /// Takes in a line of this outcome, which was written if such lines are.
+    pub fn add(&mut self, outcome: FrameOutcome)
+        ensures { self.new ≡ gone self.old outcome self.old.tally }
+    {
+        self.worst = self.worst.or_worse(outcome);
+        if self.layout.lines.has(outcome) {
             self.written = true;
         }
-        self.worst = self.worst.or_worse(outcome);
-        self.summary.add(alloc, name, answer, behind);
     }
 }

@@ -1,7 +1,7 @@
 //! What a run writes behind the line of a frame: an account of its answer, or the remarks on an accepted frame.
 
 ghost use Rattle.std.specs.Prelude.{◌≡◌};
-ghost use Rattle.dvg_cmd.specs.Remarking.{AreRemarks, answer_detail, has_account, outcome_behind_frame, text_behind_frame};
+ghost use Rattle.dvg_cmd.specs.Remarking.{AreRemarks, answer_detail, outcome_behind_frame, text_behind_frame};
 
 use crate::called::Called;
 use crate::detail::{Behind, Detail};
@@ -31,16 +31,6 @@ impl<'a> FrameDetail<'a> {
         match self {
             FrameDetail::Answer(detail) => detail,
             FrameDetail::Remarks(_) => Detail::Line,
-        }
-    }
-
-    /// Whether an account is written.
-    pub fn has_account(self) -> bool
-        ensures { result ≡ has_account self.entry }
-    {
-        match self {
-            FrameDetail::Answer(Detail::Account(_)) => true,
-            FrameDetail::Answer(Detail::Line) | FrameDetail::Remarks(_) => false,
         }
     }
 }

@@ -1,33 +1,33 @@
 //! Running a judge of frames on several frames, one after another.
 
-ghost use Rattle.std.specs.Prelude.{◌≡◌, ◌⊎◌, [], ◌∷◌, length, Ok, Err, IfOk, IfErr, OnOk, OnErr, is_err};
-ghost use Rattle.std.specs.Io.KnownBytes.{Appends};
+ghost use Rattle.std.specs.Prelude.{◌≡◌, ◌⊎◌, length, Ok, Err, IfOk, IfErr, OnErr, is_err};
 ghost use Rattle.std.specs.Iterator.{IsFinite};
 ghost use Rattle.dvg_words.specs.Memory.{IsRomLength};
-ghost use Rattle.dvg_text.specs.Devices.{AppendsPrefix, count_after};
+ghost use Rattle.dvg_text.specs.Devices.{count_after};
 ghost use Rattle.dvg_check.specs.Causes.{refusal_of};
 ghost use Rattle.dvg_spelling.specs.Outcomes.{plain_outcome};
 ghost use Rattle.dvg_spelling.specs.declared.outcome.Outcome.{Outcome as Plain};
 ghost use Rattle.dvg_cmd.specs.Detail.{IsBehind};
 ghost use Rattle.dvg_cmd.specs.Frames.{JudgesAlike};
 ghost use Rattle.dvg_cmd.specs.Runs.{WritesReport, WritesReportPrefix};
-ghost use Rattle.dvg_cmd.specs.SeveralFrames.{AnswersOpened, HoldsOfAll, HoldsOfTaken, blank_line, joined, summary_of, texts_of, ReportsFrames, ReportsFramesPrefix, ReportsRefusal, ReportsRefusalPrefix, RefusesShapes, judged_given};
-ghost use Rattle.dvg_cmd.specs.Remarking.{IsBehindFrame, answer_detail, has_account};
-ghost use Rattle.dvg_cmd.specs.Private.Sent.{Sent};
-ghost use Rattle.dvg_cmd.specs.Private.Named.{WritesLineOf, WritesLineOfPrefix};
+ghost use Rattle.dvg_cmd.specs.SeveralFrames.{AnswersOpened, IsLineOfFrame, of_frames, ReportsRefusal, ReportsRefusalPrefix, RefusesShapes, judged_given};
+ghost use Rattle.dvg_cmd.specs.Telling.{HoldsOfAll, HoldsOfTaken, Reports, ReportsPrefix, no_line};
+ghost use Rattle.dvg_cmd.specs.Remarking.{IsBehindFrame, answer_detail};
 
 use crate::detail::{Behind, Detail};
 use crate::frame_judge::{FrameJudge, GivenCertificate};
-use crate::frame_run::{answer_of, unread_account, write_answer};
+use crate::frame_run::{answer_of, unread_account};
 use crate::listing::Listing;
 use crate::progress::Progress;
 use crate::remarking::{BehindFrame, FrameDetail};
 use crate::running::{text_account, write_report};
+use crate::summary::FramesSummary;
+use crate::telling::{Tell, run_each};
 use dvg_account::{Inputs, verdict_text};
 use dvg_cert::{Cert, HashIndex};
 use dvg_check::{JudgedShapes, Mode, Refusal, RomFinding};
-use dvg_spelling::{FrameAnswer, FrameOutcome, RunFault, frame_outcome_of};
-use dvg_text::{CountedRead, CountedWrite, RefusedText, WriteFault, write_lines};
+use dvg_spelling::{FrameAnswer, FrameOutcome, RunFault, frame_outcome_of, frame_report_of};
+use dvg_text::{CountedRead, CountedWrite, RefusedText, WriteFault};
 use dvg_words::{Machine, RomImage, Window};
 use std::alloc::Global;
 
@@ -77,110 +77,64 @@ fn answer_opened<J: FrameJudge, R: CountedRead + Drop>(
     }
 }
 
-/// Writes the blank line that sets an account apart from what was written before, if there is one.
-fn write_apart<W: CountedWrite>(
-    detail: FrameDetail,
-    written: bool,
-    out: &mut W,
-) -> Result<(), WriteFault>
-    ensures sent { OnOk result (Sent (blank_line (has_account detail.entry) written) (W.contents out.old) (W.contents out.new)
-        (W.whole_writes out.old) (W.whole_writes out.new)) }
-    ensures prefix { OnErr result (AppendsPrefix (W.contents out.old) (W.contents out.new)
-        (joined (blank_line (has_account detail.entry) written))) }
-    ensures count { W.failures out.new ≡ count_after (is_err result) (W.failures out.old) }
-{
-    if detail.has_account() && written {
-        write_lines(b"\n", &[], &[], out)
-    } else {
+/// A judge that tells of frames.
+#[derive(Drop)]
+struct FrameTeller<'j, 'a, J> {
+    judge: &'j mut J,
+    start: Option<u16>,
+    listing: Listing<FrameDetail<'a>>,
+}
+
+impl<'j, 'a, J: FrameJudge, R: CountedRead + Drop> Tell<NamedFrame<R>> for FrameTeller<'j, 'a, J> {
+    type Answer = (FrameAnswer, BehindFrame);
+
+    type Tally = FramesSummary;
+
+    ghost valid = { λ teller. J.valid teller.judge.now (answer_detail teller.listing.detail) };
+
+    ghost is_line_of = { λ teller. IsLineOfFrame R.remaining R.failures (J.judging teller.judge.now) teller.start teller.listing.detail };
+
+    ghost telling = { λ teller. of_frames teller.listing };
+
+    #[tactic(auto, using(crate::proofs::Alike::lines_alike))]
+    fn tell<W: CountedWrite>(
+        &mut self,
+        alloc: Global,
+        thing: NamedFrame<R>,
+        progress: &mut Progress<FramesSummary>,
+        out: &mut W,
+    ) -> Result<(), WriteFault> {
+        let NamedFrame { name, reader } = thing;
+        let detail = self.listing.detail;
+        let (answer, behind) = answer_opened(
+            alloc,
+            self.judge,
+            self.start,
+            name.as_str(),
+            reader,
+            detail,
+        );
+        let outcome = behind.frame_outcome(frame_outcome_of(&answer));
+        let report = frame_report_of(&answer);
+        progress.write_line(
+            outcome,
+            name.as_str(),
+            report.as_bytes(),
+            behind.text(),
+            out,
+        )?;
+        progress.tally.add(alloc, name, &answer, behind);
+        progress.add(outcome);
         Ok(())
     }
 }
 
-/// Writes the line of an answer, and a text behind it, if the listing has it.
-fn write_listed<W: CountedWrite>(
-    name: &str,
-    answer: &FrameAnswer,
-    behind: &BehindFrame,
-    listing: Listing<FrameDetail>,
-    written: bool,
-    out: &mut W,
-) -> Result<(), WriteFault>
-    ensures sent { OnOk result (Sent (texts_of listing.entry written
-        (record { name = name.now; answer = answer.now; behind = behind.now })) (W.contents out.old) (W.contents out.new)
-        (W.whole_writes out.old) (W.whole_writes out.new)) }
-    ensures prefix { OnErr result (AppendsPrefix (W.contents out.old) (W.contents out.new) (joined (texts_of listing.entry written
-        (record { name = name.now; answer = answer.now; behind = behind.now })))) }
-    ensures count { W.failures out.new ≡ count_after (is_err result) (W.failures out.old) }
+/// Before the first frame.
+fn no_frame(listing: Listing<FrameDetail>) -> Progress<FramesSummary>
+    ensures { result ≡ no_line (of_frames listing.entry) }
 {
-    if !listing
-        .lines
-        .has(behind.frame_outcome(frame_outcome_of(answer)))
-    {
-        return Ok(());
-    }
-    write_apart(listing.detail, written, out)?;
-    write_answer(name, answer, behind, out)
-}
-
-/// Judges a frame whose turn it is, writes its line if the listing has it, and takes it in.
-fn run_named<J: FrameJudge, R: CountedRead + Drop, W: CountedWrite>(
-    alloc: Global,
-    judge: &mut J,
-    start: Option<u16>,
-    frame: NamedFrame<R>,
-    listing: Listing<FrameDetail>,
-    progress: &mut Progress,
-    out: &mut W,
-) -> Result<(), RunFault>
-    requires { J.valid judge.old (answer_detail listing.detail) }
-    ensures ok { OnOk result (WritesLineOf R.remaining R.failures (J.judging judge.old) listing.entry start
-        frame (W.contents out.old) (W.contents out.new) progress.old progress.new
-        (W.whole_writes out.old) (W.whole_writes out.new)) }
-    ensures prefix { OnErr result (WritesLineOfPrefix R.remaining R.failures (J.judging judge.old) listing.entry start
-        frame (W.contents out.old) (W.contents out.new) progress.old) }
-    ensures fault { IfErr result (λ fault. fault ≡ RunFault.Write) }
-    ensures count { W.failures out.new ≡ count_after (is_err result) (W.failures out.old) }
-    ensures valid { J.valid judge.new (answer_detail listing.entry.detail) }
-    ensures same { JudgesAlike (J.judging judge.old) (J.judging judge.new) }
-{
-    let NamedFrame { name, reader } = frame;
-    let (answer, behind) = answer_opened(
-        alloc,
-        judge,
-        start,
-        name.as_str(),
-        reader,
-        listing.detail,
-    );
-    write_listed(
-        name.as_str(),
-        &answer,
-        &behind,
-        listing,
-        progress.written,
-        out,
-    )?;
-    progress.add(alloc, name, &answer, behind, listing);
-    Ok(())
-}
-
-/// Writes the summary, if it is asked for.
-fn write_summary<W: CountedWrite>(
-    listing: Listing<FrameDetail>,
-    progress: &Progress,
-    out: &mut W,
-) -> Result<(), WriteFault>
-    ensures sent { OnOk result (Sent (summary_of listing.entry progress.now) (W.contents out.old) (W.contents out.new)
-        (W.whole_writes out.old) (W.whole_writes out.new)) }
-    ensures prefix { OnErr result (AppendsPrefix (W.contents out.old) (W.contents out.new)
-        (joined (summary_of listing.entry progress.now))) }
-    ensures count { W.failures out.new ≡ count_after (is_err result) (W.failures out.old) }
-{
-    if !listing.summary {
-        return Ok(());
-    }
-    write_apart(listing.detail, progress.written, out)?;
-    progress.summary.write(out)
+    let apart = listing.detail.of_answer().has_account();
+    Progress::new(listing.layout(apart), FramesSummary::new())
 }
 
 /// Judges frames, one after another, and writes a line for each that the listing has: the name, which has no control characters, a
@@ -212,22 +166,23 @@ pub fn run_frames<
     // A line is written for each frame that the listing has, in their order, and then the summary, each by one write if it fits one.
     // Of each accepted frame it says what a yes means (`AnswersFrame`).
     ensures report { IfOk result (λ end. HoldsOfAll I.next_gives frames (λ taken.
-        ReportsFrames R.remaining R.failures (J.judging judge.old) listing.entry start taken (W.contents out.old) (W.contents out.new)
+        Reports (IsLineOfFrame R.remaining R.failures (J.judging judge.old) start listing.entry.detail) (of_frames listing.entry) taken
+        (W.contents out.old) (W.contents out.new)
         (W.whole_writes out.old) (W.whole_writes out.new) end)) }
 
     // Where the writer failed, a prefix of what is written of the frames that were taken.
     ensures prefix { OnErr result (HoldsOfTaken I.next_gives frames (λ taken.
-        ReportsFramesPrefix R.remaining R.failures (J.judging judge.old) listing.entry start taken
+        ReportsPrefix (IsLineOfFrame R.remaining R.failures (J.judging judge.old) start listing.entry.detail) (of_frames listing.entry) taken
         (W.contents out.old) (W.contents out.new))) }
     ensures fault { IfErr result (λ fault. fault ≡ RunFault.Write) }
     ensures count { W.failures out.new ≡ count_after (is_err result) (W.failures out.old) }
 {
-    let mut progress = Progress::new();
-    for frame in frames {
-        run_named(alloc, judge, start, frame, listing, &mut progress, out)?;
-    }
-    write_summary(listing, &progress, out)?;
-    Ok(progress.worst)
+    let mut teller = FrameTeller {
+        judge,
+        start,
+        listing,
+    };
+    Ok(run_each(alloc, &mut teller, no_frame(listing), frames, out)?)
 }
 
 /// Writes the report of a refusal for which no frame was needed, and a text behind it.
@@ -330,8 +285,9 @@ pub fn run_frames_given<
         (W.contents out.old) (W.contents out.new) (W.whole_writes out.old) (W.whole_writes out.new) end
         ⊎ IfOk cert.now (λ given. IsRomLength given.map (length rom.now)
         × HoldsOfAll I.next_gives frames (λ taken.
-        ReportsFrames R.remaining R.failures
-        (judged_given options.now.machine options.now.window rom.now given options.now.budget) listing.entry options.now.start taken
+        Reports (IsLineOfFrame R.remaining R.failures
+        (judged_given options.now.machine options.now.window rom.now given options.now.budget) options.now.start listing.entry.detail)
+        (of_frames listing.entry) taken
         (W.contents out.old) (W.contents out.new) (W.whole_writes out.old) (W.whole_writes out.new) end))) }
     // Without a certificate it is the refusal.
     ensures refused { IfOk result (λ end. IfErr cert.now (λ fault. ReportsRefusal options.now.machine (answer_detail listing.entry.detail)
@@ -343,8 +299,9 @@ pub fn run_frames_given<
         (W.contents out.old) (W.contents out.new)
         ⊎ IfOk cert.now (λ given. IsRomLength given.map (length rom.now)
         × HoldsOfTaken I.next_gives frames (λ taken.
-        ReportsFramesPrefix R.remaining R.failures
-        (judged_given options.now.machine options.now.window rom.now given options.now.budget) listing.entry options.now.start taken
+        ReportsPrefix (IsLineOfFrame R.remaining R.failures
+        (judged_given options.now.machine options.now.window rom.now given options.now.budget) options.now.start listing.entry.detail)
+        (of_frames listing.entry) taken
         (W.contents out.old) (W.contents out.new)))) }
     ensures fault { IfErr result (λ fault. fault ≡ RunFault.Write) }
     ensures count { W.failures out.new ≡ count_after (is_err result) (W.failures out.old) }

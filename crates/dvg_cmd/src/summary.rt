@@ -5,12 +5,13 @@ ghost use Rattle.dvg_text.specs.Devices.{AppendsPrefix, count_after};
 ghost use Rattle.dvg_spelling.specs.Tally.{summary_text};
 ghost use Rattle.dvg_cmd.specs.Remarking.{called_with, remarked_with, remarks_texts, with_remarks};
 ghost use Rattle.dvg_cmd.specs.Most.{most_texts, with_frame};
-ghost use Rattle.dvg_cmd.specs.SeveralFrames.{joined, no_frames, summary_texts, summed_with};
-ghost use Rattle.dvg_cmd.specs.Private.Sent.{Sent};
+ghost use Rattle.dvg_cmd.specs.Sent.{joined, Sent};
+ghost use Rattle.dvg_cmd.specs.SeveralFrames.{no_frames, summary_texts, summed_with};
 
 use crate::called::CalledTally;
 use crate::most::MostTaken;
 use crate::remarking::BehindFrame;
+use crate::telling::Summary;
 use dvg_account::FrameRemark;
 use dvg_spelling::{FrameAnswer, RemarkTally, Tally, remarks_line_of, summary_of};
 use dvg_text::{CountedWrite, WriteFault, write_lines};
@@ -131,22 +132,21 @@ impl FramesSummary {
 
     /// Takes in a frame of this name, whose line tells this answer, with this behind it, whether it is written or not.
     pub fn add(&mut self, alloc: Global, name: String, answer: &FrameAnswer, behind: BehindFrame)
-        ensures { self.new ≡ summed_with self.old (record { name = string_bytes name; answer = answer.now; behind = behind }) }
+        ensures { self.new ≡ summed_with self.old (record { name = string_bytes name; answer = (answer.now, behind) }) }
     {
         self.tally.add(answer);
         add_remarks(&mut self.remarks, &behind);
         add_called(&mut self.called, behind);
         add_to_most(alloc, &mut self.most, name, answer);
     }
+}
 
-    /// Writes the lines of the frames that take most, if lines tell clocks, the line that tells how many remarks there are, if remarks were
+impl Summary for FramesSummary {
+    ghost texts = { summary_texts };
+
+    /// The lines of the frames that take most, if lines tell clocks, the line that tells how many remarks there are, if remarks were
     /// looked for, and the line that tells the tally.
-    pub fn write<W: CountedWrite>(&self, out: &mut W) -> Result<(), WriteFault>
-        ensures sent { OnOk result (Sent (summary_texts self.now) (W.contents out.old) (W.contents out.new) (W.whole_writes out.old)
-            (W.whole_writes out.new)) }
-        ensures prefix { OnErr result (AppendsPrefix (W.contents out.old) (W.contents out.new) (joined (summary_texts self.now))) }
-        ensures count { W.failures out.new ≡ count_after (is_err result) (W.failures out.old) }
-    {
+    fn write<W: CountedWrite>(&self, out: &mut W) -> Result<(), WriteFault> {
         write_most(&self.most, out)?;
         write_remarks(&self.remarks, out)?;
         self.called.write(out)?;

@@ -1,63 +1,28 @@
--- The lines of recipes, one after another.
-use Rattle.dvg_recipe_cmd.proofs.Common.{◌≡◌, refl, ◌∙◌, ℕ, List, [], ◌∷◌, ◌++◌, Option, FrameOutcome, worse, Appends-nil}
-use Rattle.dvg_spelling.specs.declared.outcome.FrameOutcome.TheVariants as outcome
+-- The line of one recipe alone.
+use Rattle.dvg_recipe_cmd.proofs.Common.{◌≡◌, sym, ap, ◌∙◌, ◌++◌, subst, ℕ, List, [], ◌∷◌, Option, append-nil}
+use Rattle.dvg_cmd.specs.Telling.{Line, Reports, WritesLine, gone_with, no_line, texts_of, all_texts}
+use Rattle.dvg_cmd.specs.declared.progress.Progress.{Progress}
+use Rattle.dvg_cmd.specs.declared.detail.Detail.TheVariants as details
 use Rattle.dvg_cmd.specs.declared.detail.Behind.{Behind}
-use Rattle.dvg_cmd.specs.declared.detail.Detail.{Detail}
+use Rattle.dvg_cmd.specs.Sent.{Sent}
 use Rattle.dvg_recipe_cmd.specs.declared.answer.RecipeAnswer.{RecipeAnswer}
-use Rattle.dvg_recipe_cmd.specs.declared.recipes.RecipeAsked.{RecipeAsked}
-use Rattle.dvg_recipe_cmd.specs.declared.recipes.NamedRecipe.{NamedRecipe}
-use Rattle.dvg_recipe_cmd.specs.Runs.{Line, Reports, ReportsPrefix}
-use Rattle.dvg_recipe_cmd.specs.Recipes.{IsLineOfRecipe, of_recipes}
-use Rattle.dvg_recipe_cmd.specs.Private.SoFar.{WritesLine, WritesLinePrefix, WritesSoFar}
-use Rattle.dvg_recipe_cmd.proofs.Lines.{more_lines, cut_lines, with_last}
+use Rattle.dvg_recipe_cmd.specs.Recipes.{of_recipes}
 
--- nothing is better than accepted
-worse_accepted : (end : FrameOutcome) → end ≡ worse outcome.Accepted end
-worse_accepted outcome.Accepted = refl
-worse_accepted outcome.Refused = refl
-worse_accepted outcome.NoMemory = refl
-worse_accepted outcome.Unread = refl
-
--- nothing is counted
-abbrev pub no_count : List (Line (RecipeAnswer × Behind)) → Unit {0}
-no_count lines = tt
-
-module _ {R : Type 0} (remaining : R → Option (List ℕ)) (failures : R → ℕ) (rom : List ℕ) (asked : RecipeAsked) (detail : Detail) where
-  abbrev pub RecipesSoFar : List (NamedRecipe R) → Option (List ℕ) → Option (List ℕ) → ℕ → ℕ → FrameOutcome → Type 0
-  RecipesSoFar recipes old new writes writes_after end =
-      WritesSoFar (IsLineOfRecipe remaining failures rom asked detail) of_recipes no_count recipes old new tt writes writes_after end
-
-  module _ (recipes : List (NamedRecipe R)) (old mid : Option (List ℕ)) (writes writes_mid : ℕ) (worst : FrameOutcome)
-      (h : RecipesSoFar recipes old mid writes writes_mid worst) where
-    pub more_recipes : (recipe : NamedRecipe R) (new : Option (List ℕ)) (writes_after : ℕ) (end both : FrameOutcome)
-        → (answer : RecipeAnswer × Behind)
-        × WritesLine (IsLineOfRecipe remaining failures rom asked detail) of_recipes recipe mid new writes_mid writes_after answer end
-        → both ≡ worse worst end → RecipesSoFar (recipes ++ recipe ∷ []) old new writes writes_after both
-    more_recipes recipe new writes_after end both one is =
-        more_lines (IsLineOfRecipe remaining failures rom asked detail) of_recipes no_count recipes old mid tt writes writes_mid worst h
-        recipe one.0 new tt writes_after end both one.1 is refl
-
-    pub cut_recipes : (recipe : NamedRecipe R) (new : Option (List ℕ))
-        → WritesLinePrefix (IsLineOfRecipe remaining failures rom asked detail) of_recipes recipe mid new
-        → ReportsPrefix (IsLineOfRecipe remaining failures rom asked detail) of_recipes (recipes ++ recipe ∷ []) old new
-    cut_recipes =
-        cut_lines (IsLineOfRecipe remaining failures rom asked detail) of_recipes no_count recipes old mid tt writes writes_mid worst h
-
-    pub all_recipes : Reports (IsLineOfRecipe remaining failures rom asked detail) of_recipes recipes old mid writes writes_mid worst
-    all_recipes =
-        with_last (IsLineOfRecipe remaining failures rom asked detail) of_recipes no_count recipes old mid tt writes writes_mid worst h
-        [] refl mid writes_mid (Appends-nil mid) refl
-
-  -- one recipe alone
-  pub one_recipe : (recipe : NamedRecipe R) (old new : Option (List ℕ)) (writes writes_after : ℕ) (end : FrameOutcome)
-      → (answer : RecipeAnswer × Behind)
-      × WritesLine (IsLineOfRecipe remaining failures rom asked detail) of_recipes recipe old new writes writes_after answer end
-      → Reports (IsLineOfRecipe remaining failures rom asked detail) of_recipes (recipe ∷ []) old new writes writes_after end
-  one_recipe recipe old new writes writes_after end one =
+module _ {A : Type 0} (IsLineOf : A → Line (RecipeAnswer × Behind) → Type 0) where
+  pub one_told : (recipe : A) (old new : Option (List ℕ)) (first p : Progress (Unit {0})) (writes writes_after : ℕ)
+      → first ≡ no_line (of_recipes details.Line)
+      → WritesLine IsLineOf (of_recipes details.Line) recipe old new first p writes writes_after
+      → Reports IsLineOf (of_recipes details.Line) (recipe ∷ []) old new writes writes_after p.worst
+  one_told recipe old new first p writes writes_after is one =
+      let texts = texts_of (of_recipes details.Line) first one.line in
+      let same : texts ≡ all_texts (of_recipes details.Line) (one.line ∷ []) =
+      sym (append-nil (texts ++ []) ∙ append-nil texts)
+      ∙ ap (λ q. (texts_of (of_recipes details.Line) q one.line ++ []) ++ []) is in
+      let sent = subst (λ ts. Sent ts old new writes writes_after) same one.sent in
       record {
-        lines = record { name = one.1.name; answer = one.0 } ∷ [];
-        lines_of = (one.1.line_of, tt);
-        written = one.1.written;
-        one_write = one.1.one_write;
-        outcome_is = one.1.end_is ∙ worse_accepted (of_recipes.outcome one.0);
+        lines = one.line ∷ [];
+        lines_of = (one.line_of, tt);
+        written = sent.written;
+        one_write = sent.one_write;
+        outcome_is = ap (λ (q : Progress (Unit {0})). q.worst) (one.progress_is ∙ ap (λ q. gone_with (of_recipes details.Line) q one.line) is);
       }

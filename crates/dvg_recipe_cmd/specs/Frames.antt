@@ -10,7 +10,7 @@ use Rattle.dvg_recipe_text.specs.declared.reader.ReadRecipe.{ReadRecipe}
 use Rattle.dvg_recipe_text.specs.declared.fault.RecipeTextFault.{RecipeTextFault}
 use Rattle.dvg_cmd.specs.Frames.{FrameOutcome, ReadsFrame}
 use Rattle.dvg_cmd.specs.Runs.{MOST_FRAME_READ, IsReadTo}
-use Rattle.dvg_cmd.specs.Detail.{IsBehind, behind_text, frame_outcome_behind}
+use Rattle.dvg_cmd.specs.Detail.{IsBehind, behind_text, frame_outcome_behind, has_account}
 use Rattle.dvg_cmd.specs.declared.detail.Detail.{Detail}
 use Rattle.dvg_cmd.specs.declared.detail.Behind.{Behind}
 use Rattle.dvg_cmd.specs.declared.listing.Listing.{Listing}
@@ -22,7 +22,7 @@ use Rattle.dvg_recipe_cmd.specs.declared.membership.Membership.TheVariants as me
 use Rattle.dvg_recipe_cmd.specs.declared.tally.BelongsTally.{BelongsTally}
 use Rattle.dvg_recipe_cmd.specs.Answers.{no_outcome, recipe_no_text, membership_line_text, membership_outcome, with_membership, belongs_summary_text}
 use Rattle.dvg_recipe_cmd.specs.Meanings.{IsMembership}
-use Rattle.dvg_recipe_cmd.specs.Runs.{Line, Telling}
+use Rattle.dvg_cmd.specs.Telling.{Line, Telling, layout_of}
 
 -- the answer is that the frame could not be read
 abbrev pub is_unread : Membership → Bool
@@ -55,24 +55,16 @@ module _ {R : Type 0} (remaining : R → Option (List ℕ)) (failures : R → �
 abbrev pub no_frames : BelongsTally
 no_frames = record { belongs = 0; outside = 0; refused = 0; unread = 0; no_memory = 0 }
 
--- what the answers of lines add to a tally, whether they are written or not
-abbrev pub tally_on : BelongsTally → List (Line (Membership × Behind)) → BelongsTally
-tally_on tally [] = tally
-tally_on tally (line ∷ rest) = tally_on (with_membership tally line.answer.0) rest
-
--- the last text, if a summary is asked for
-abbrev pub summary_of : Bool → BelongsTally → List (List ℕ)
-summary_of true tally = belongs_summary_text tally ∷ []
-summary_of false tally = []
-
 -- how it is told of frames
-abbrev pub of_frames : Listing Detail → Telling (Membership × Behind)
+abbrev pub of_frames : Listing Detail → Telling (Membership × Behind) BelongsTally
 of_frames listing =
     record {
       text = λ answer. membership_line_text answer.0 ++ behind_text answer.1;
       outcome = λ answer. frame_outcome_behind answer.1 (membership_outcome answer.0);
-      shown = listing.lines;
-      last = λ lines. summary_of listing.summary (tally_on no_frames lines);
+      layout = layout_of listing (has_account listing.detail);
+      none = no_frames;
+      add = λ tally line. with_membership tally line.answer.0;
+      last = λ tally. belongs_summary_text tally ∷ [];
     }
 
 -- ---- a refusal for which no frame is taken

@@ -1,4 +1,3 @@
 -- Definitions for the code alone; no clause of a public call uses them.
 pub mod Judging
 pub mod Reading
-pub mod SoFar

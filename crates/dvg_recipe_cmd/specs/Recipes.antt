@@ -11,7 +11,7 @@ use Rattle.dvg_recipe.specs.declared.verdict.RecipeYes.{RecipeYes}
 use Rattle.dvg_recipe.specs.Recipes.{Recipe}
 use Rattle.dvg_recipe.specs.Lengths.{FitsAreas}
 use Rattle.dvg_recipe.specs.Means.{AllMean, AllTake}
-use Rattle.dvg_cmd.specs.Detail.{IsBehind, behind_text, frame_outcome_behind}
+use Rattle.dvg_cmd.specs.Detail.{IsBehind, behind_text, frame_outcome_behind, has_account}
 use Rattle.dvg_cmd.specs.declared.detail.Detail.{Detail}
 use Rattle.dvg_cmd.specs.declared.detail.Detail.TheVariants as details
 use Rattle.dvg_cmd.specs.declared.timed_judge.ClockOptions.{ClockOptions}
@@ -27,7 +27,7 @@ use Rattle.dvg_recipe_cmd.specs.declared.judging.RecipeOptions.{RecipeOptions}
 use Rattle.dvg_recipe_cmd.specs.declared.recipes.NamedRecipe.{NamedRecipe}
 use Rattle.dvg_recipe_cmd.specs.declared.recipes.RecipeAsked.{RecipeAsked}
 use Rattle.dvg_recipe_cmd.specs.Answers.{recipe_line_text, recipe_outcome}
-use Rattle.dvg_recipe_cmd.specs.Runs.{Line, Telling}
+use Rattle.dvg_cmd.specs.Telling.{Line, Telling}
 
 -- how many bytes of a recipe are read at most: more than any text has that is read
 abbrev pub MOST_RECIPE_READ : ℕ
@@ -118,12 +118,14 @@ module _ {R : Type 0} (remaining : R → Option (List ℕ)) (failures : R → �
     pub answers : AnswersRecipe detail recipe.reader line.answer.0
     pub asked : IsBehind detail line.answer.1
 
--- how it is told of recipes: each has its line
-abbrev pub of_recipes : Telling (RecipeAnswer × Behind)
-of_recipes =
+-- how it is told of recipes: each has its line, and none is counted
+abbrev pub of_recipes : Detail → Telling (RecipeAnswer × Behind) (Unit {0})
+of_recipes detail =
     record {
       text = λ answer. recipe_line_text answer.0 ++ behind_text answer.1;
       outcome = λ answer. frame_outcome_behind answer.1 (recipe_outcome answer.0);
-      shown = which.All;
-      last = λ lines. [];
+      layout = record { lines = which.All; apart = has_account detail; summary = false };
+      none = tt;
+      add = λ tally line. tally;
+      last = λ tally. [];
     }

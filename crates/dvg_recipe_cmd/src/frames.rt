@@ -1,36 +1,30 @@
 //! Telling of frames, one after another, whether they are a recipe's.
 
-ghost use Rattle.std.specs.Prelude.{◌≡◌, ◌⊎◌, ◌∷◌, [], false, IfOk, IfErr, OnOk, OnErr, is_err};
-ghost use Rattle.std.specs.Io.KnownBytes.{Appends};
+ghost use Rattle.std.specs.Prelude.{◌≡◌, ◌⊎◌, false, IfOk, IfErr, OnErr, is_err};
 ghost use Rattle.std.specs.Iterator.{IsFinite};
 ghost use Rattle.dvg_words.specs.declared.machine.Machine.TheVariants.{Board};
 ghost use Rattle.dvg_words.specs.Memory.{rom_on};
-ghost use Rattle.dvg_text.specs.Devices.{AppendsPrefix, count_after};
-ghost use Rattle.dvg_cmd.specs.SeveralFrames.{joined, TakeOneWriteEach};
-ghost use Rattle.dvg_cmd.specs.Detail.{IsBehind, frame_outcome_behind};
-ghost use Rattle.dvg_cmd.specs.declared.detail.Behind.{Behind};
+ghost use Rattle.dvg_text.specs.Devices.{count_after};
+ghost use Rattle.dvg_cmd.specs.Telling.{HoldsOfAll, HoldsOfTaken, Reports, ReportsPrefix, no_line};
+ghost use Rattle.dvg_cmd.specs.Detail.{IsBehind};
 ghost use Rattle.dvg_recipe_text.specs.declared.reader.ReadRecipe.{ReadRecipe};
-ghost use Rattle.dvg_recipe_cmd.specs.declared.membership.Membership.{Membership};
-ghost use Rattle.dvg_recipe_cmd.specs.Answers.{membership_outcome, with_membership};
 ghost use Rattle.dvg_recipe_cmd.specs.Meanings.{IsMembership};
-ghost use Rattle.dvg_recipe_cmd.specs.Runs.{HoldsOfAll, HoldsOfTaken, Reports, ReportsPrefix, line_texts};
-ghost use Rattle.dvg_recipe_cmd.specs.Frames.{AnswersFrame, IsLineOfFrame, RefusesRecipe, TakesRecipe, ReportsRefusal, ReportsRefusalPrefix, WritesRefusal, WritesRefusalPrefix, is_unread, of_frames, summary_of};
-ghost use Rattle.dvg_recipe_cmd.specs.Private.SoFar.{WritesLine, WritesLinePrefix};
+ghost use Rattle.dvg_recipe_cmd.specs.Frames.{AnswersFrame, IsLineOfFrame, RefusesRecipe, TakesRecipe, ReportsRefusal, ReportsRefusalPrefix, WritesRefusal, WritesRefusalPrefix, is_unread, of_frames};
 
 use crate::answer::{RecipeNo, refusal_line_of, refusal_outcome_of};
 use crate::judging::{board_image, line_of_piece};
 use crate::membership::{Membership, membership_line_of, membership_outcome_of};
-use crate::tally::{BelongsTally, belongs_summary_of};
+use crate::tally::BelongsTally;
 use dvg_account::leaving_text;
 use dvg_cmd::{
-    Behind, Detail, FRAME_READ, Listing, NamedFrame, PlainWhy, plain_account, read_started,
-    unread_account,
+    Behind, Detail, FRAME_READ, Listing, NamedFrame, PlainWhy, Progress, Tell, plain_account,
+    read_started, run_each, unread_account,
 };
 use dvg_labels::Labels;
 use dvg_recipe::{Leaving, NotMember, belongs, too_long};
 use dvg_recipe_text::{ReadRecipe, RecipeTextFault};
 use dvg_spelling::{FrameOutcome, RunFault};
-use dvg_text::{CountedRead, CountedWrite, write_lines};
+use dvg_text::{CountedRead, CountedWrite, WriteFault, write_lines};
 use dvg_words::{FrameImage, Machine, RomImage, RomMap};
 use std::alloc::{AllocError, Global};
 
@@ -153,107 +147,55 @@ fn membership_read<R: CountedRead + Drop>(
     }
 }
 
-/// Writes the line of a frame and the text behind it, if the listing has them. Gives their outcome, written or not.
-fn write_listed<W: CountedWrite>(
-    name: &str,
-    membership: Membership,
-    behind: &Behind,
-    listing: Listing<Detail>,
-    out: &mut W,
-) -> Result<FrameOutcome, RunFault>
-    ensures outcome { IfOk result (λ end. end ≡ frame_outcome_behind behind.now (membership_outcome membership)) }
-    ensures written { OnOk result (Appends (W.contents out.old) (W.contents out.new)
-        (joined (line_texts (of_frames listing.entry) (record { name = name.now; answer = (membership, behind.now) } ∷ [])))) }
-    ensures one_write { OnOk result (TakeOneWriteEach (line_texts (of_frames listing.entry)
-        (record { name = name.now; answer = (membership, behind.now) } ∷ [])) (W.whole_writes out.old) (W.whole_writes out.new)) }
-    ensures prefix { OnErr result (AppendsPrefix (W.contents out.old) (W.contents out.new)
-        (joined (line_texts (of_frames listing.entry) (record { name = name.now; answer = (membership, behind.now) } ∷ [])))) }
-    ensures fault { IfErr result (λ fault. fault ≡ RunFault.Write) }
-    ensures count { W.failures out.new ≡ count_after (is_err result) (W.failures out.old) }
-{
-    let outcome = behind.frame_outcome(membership_outcome_of(membership));
-    if listing.lines.has(outcome) {
+/// A recipe over a ROM, and what tells of frames whether they are the recipe's.
+#[derive(Drop)]
+struct MemberTeller<'a> {
+    image: RomImage<'a>,
+    read: &'a ReadRecipe,
+    listing: Listing<Detail<'a>>,
+}
+
+impl<'a, R: CountedRead + Drop> Tell<NamedFrame<R>> for MemberTeller<'a> {
+    type Answer = (Membership, Behind);
+
+    type Tally = BelongsTally;
+
+    ghost valid = { λ _. Unit {0} };
+
+    ghost is_line_of = { λ teller. IsLineOfFrame R.remaining R.failures teller.image teller.read.now.recipe teller.listing };
+
+    ghost telling = { λ teller. of_frames teller.listing };
+
+    fn tell<W: CountedWrite>(
+        &mut self,
+        alloc: Global,
+        thing: NamedFrame<R>,
+        progress: &mut Progress<BelongsTally>,
+        out: &mut W,
+    ) -> Result<(), WriteFault> {
+        let NamedFrame { name, reader } = thing;
+        let (membership, behind) = membership_read(
+            alloc,
+            &self.image,
+            self.read,
+            reader,
+            self.listing.detail,
+        );
+        let outcome = behind.frame_outcome(membership_outcome_of(membership));
         let line = membership_line_of(membership);
-        write_lines(
-            name.as_bytes(),
-            line.as_bytes(),
-            behind.text().as_bytes(),
-            out,
-        )?;
+        progress.write_line(outcome, name.as_str(), line.as_bytes(), behind.text(), out)?;
+        progress.tally.add(membership);
+        progress.add(outcome);
+        Ok(())
     }
-    Ok(outcome)
 }
 
-/// Tells of a frame whose turn it is whether it is one of the recipe's, counts its line, and writes it if the listing has it.
-fn run_named<R: CountedRead + Drop, W: CountedWrite>(
-    alloc: Global,
-    image: &RomImage,
-    read: &ReadRecipe,
-    frame: NamedFrame<R>,
-    listing: Listing<Detail>,
-    tally: &mut BelongsTally,
-    out: &mut W,
-) -> Result<FrameOutcome, RunFault>
-    ensures ok { IfOk result (λ end. (answer : Membership × Behind) × (tally.new ≡ with_membership tally.old answer.0)
-        × WritesLine (IsLineOfFrame R.remaining R.failures image.now read.now.recipe listing.entry) (of_frames listing.entry) frame
-        (W.contents out.old) (W.contents out.new) (W.whole_writes out.old) (W.whole_writes out.new) answer end) }
-    ensures prefix { OnErr result (WritesLinePrefix (IsLineOfFrame R.remaining R.failures image.now read.now.recipe listing.entry)
-        (of_frames listing.entry) frame (W.contents out.old) (W.contents out.new)) }
-    ensures fault { IfErr result (λ fault. fault ≡ RunFault.Write) }
-    ensures count { W.failures out.new ≡ count_after (is_err result) (W.failures out.old) }
+/// Before the first frame.
+fn no_frame(listing: Listing<Detail>) -> Progress<BelongsTally>
+    ensures { result ≡ no_line (of_frames listing.entry) }
 {
-    let NamedFrame { name, reader } = frame;
-    let (membership, behind) = membership_read(alloc, image, read, reader, listing.detail);
-    tally.add(membership);
-    write_listed(name.as_str(), membership, &behind, listing, out)
-}
-
-/// Writes the summary, if it is asked for.
-fn write_summary<W: CountedWrite>(
-    summary: bool,
-    tally: &BelongsTally,
-    out: &mut W,
-) -> Result<(), RunFault>
-    ensures written { OnOk result (Appends (W.contents out.old) (W.contents out.new) (joined (summary_of summary tally.now))) }
-    ensures one_write { OnOk result (TakeOneWriteEach (summary_of summary tally.now) (W.whole_writes out.old) (W.whole_writes out.new)) }
-    ensures prefix { OnErr result (AppendsPrefix (W.contents out.old) (W.contents out.new) (joined (summary_of summary tally.now))) }
-    ensures fault { IfErr result (λ fault. fault ≡ RunFault.Write) }
-    ensures count { W.failures out.new ≡ count_after (is_err result) (W.failures out.old) }
-{
-    if summary {
-        let line = belongs_summary_of(tally);
-        write_lines(line.as_bytes(), &[], &[], out)?;
-    }
-    Ok(())
-}
-
-/// Tells of frames, one after another, whether they are the recipe's, and writes the summary if it is asked for.
-fn run_frames_of<R: CountedRead + Drop, I: Iterator<Item = NamedFrame<R>> + Drop, W: CountedWrite>(
-    alloc: Global,
-    image: &RomImage,
-    read: &ReadRecipe,
-    frames: I,
-    listing: Listing<Detail>,
-    out: &mut W,
-) -> Result<FrameOutcome, RunFault>
-    requires can { I.can_next frames }
-    requires ends { IsFinite (I.remaining frames) }
-    ensures report { IfOk result (λ end. HoldsOfAll I.next_gives frames (λ taken.
-        Reports (IsLineOfFrame R.remaining R.failures image.now read.now.recipe listing.entry) (of_frames listing.entry) taken (W.contents out.old) (W.contents out.new)
-        (W.whole_writes out.old) (W.whole_writes out.new) end)) }
-    ensures prefix { OnErr result (HoldsOfTaken I.next_gives frames (λ taken.
-        ReportsPrefix (IsLineOfFrame R.remaining R.failures image.now read.now.recipe listing.entry) (of_frames listing.entry) taken
-        (W.contents out.old) (W.contents out.new))) }
-    ensures fault { IfErr result (λ fault. fault ≡ RunFault.Write) }
-    ensures count { W.failures out.new ≡ count_after (is_err result) (W.failures out.old) }
-{
-    let mut tally = BelongsTally::new();
-    let mut worst = FrameOutcome::Accepted;
-    for frame in frames {
-        worst = worst.or_worse(run_named(alloc, image, read, frame, listing, &mut tally, out)?);
-    }
-    write_summary(listing.summary, &tally, out)?;
-    Ok(worst)
+    let layout = listing.layout(listing.detail.has_account());
+    Progress::new(layout, BelongsTally::new())
 }
 
 /// Writes the line of a refusal for which no frame is taken, and what the detail asks for behind it.
@@ -322,7 +264,14 @@ pub fn run_belongs<
     ensures count { W.failures out.new ≡ count_after (is_err result) (W.failures out.old) }
 {
     match ready(given) {
-        Ok((read, image)) => run_frames_of(alloc, &image, read, frames, listing, out),
+        Ok((read, image)) => {
+            let mut teller = MemberTeller {
+                image,
+                read,
+                listing,
+            };
+            Ok(run_each(alloc, &mut teller, no_frame(listing), frames, out)?)
+        }
         Err(no) => write_refusal(alloc, &no, listing.detail, out),
     }
 }

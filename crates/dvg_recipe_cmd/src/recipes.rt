@@ -1,28 +1,24 @@
 //! Judging recipes, one after another.
 
-ghost use Rattle.std.specs.Prelude.{None, ◌≡◌, ◌∷◌, [], false, IfOk, IfErr, OnOk, OnErr, is_err};
-ghost use Rattle.std.specs.Io.KnownBytes.{Appends};
+ghost use Rattle.std.specs.Prelude.{None, ◌≡◌, ◌∷◌, [], false, IfOk, IfErr, OnErr, is_err};
 ghost use Rattle.std.specs.Iterator.{IsFinite};
-ghost use Rattle.dvg_text.specs.Devices.{AppendsPrefix, count_after};
-ghost use Rattle.dvg_cmd.specs.SeveralFrames.{joined, TakeOneWriteEach};
-ghost use Rattle.dvg_recipe_cmd.specs.Answers.{recipe_outcome};
-ghost use Rattle.dvg_recipe_cmd.specs.Runs.{HoldsOfAll, HoldsOfTaken, Reports, ReportsPrefix, line_texts};
+ghost use Rattle.dvg_text.specs.Devices.{count_after};
+ghost use Rattle.dvg_cmd.specs.Telling.{HoldsOfAll, HoldsOfTaken, Reports, ReportsPrefix, no_line};
 ghost use Rattle.dvg_recipe_cmd.specs.Recipes.{SaysOf, IsAnswer, AnswersRecipe, IsLineOfRecipe, clocks_with, is_unread, of_recipes};
-ghost use Rattle.dvg_recipe_cmd.specs.Private.SoFar.{WritesLine, WritesLinePrefix};
 ghost use Rattle.dvg_recipe_cmd.specs.Private.Judging.{wanted_detail};
-ghost use Rattle.dvg_recipe_cmd.specs.declared.answer.RecipeAnswer.{RecipeAnswer};
-ghost use Rattle.dvg_cmd.specs.Detail.{IsBehind, frame_outcome_behind};
-ghost use Rattle.dvg_cmd.specs.declared.detail.Behind.{Behind};
+ghost use Rattle.dvg_cmd.specs.Detail.{IsBehind};
 ghost use Rattle.dvg_cmd.specs.declared.detail.Detail.TheVariants as details;
 
 use crate::account::Explained;
 use crate::answer::{RecipeAnswer, recipe_line_of, recipe_outcome_of};
 use crate::judging::{RecipeOptions, Wanted, Witness, judge_text, time_text};
 use crate::reading::{Untaken, read_text};
-use dvg_cmd::{Behind, ClockOptions, Detail, unread_account};
+use dvg_cmd::{
+    Behind, ClockOptions, Detail, Layout, Lines, Progress, Tell, run_each, unread_account,
+};
 use dvg_labels::Labels;
 use dvg_spelling::{FrameOutcome, RunFault};
-use dvg_text::{CountedRead, CountedWrite, write_bytes, write_lines};
+use dvg_text::{CountedRead, CountedWrite, WriteFault, write_bytes};
 use dvg_words::Machine;
 use std::alloc::Global;
 
@@ -191,55 +187,67 @@ fn answer_opened<R: CountedRead + Drop>(
     }
 }
 
-/// Writes the line of an answer, and what is behind it.
-fn write_answer<W: CountedWrite>(
-    name: &str,
-    answer: &RecipeAnswer,
-    behind: &Behind,
-    out: &mut W,
-) -> Result<FrameOutcome, RunFault>
-    ensures outcome { IfOk result (λ end. end ≡ frame_outcome_behind behind.now (recipe_outcome answer.now)) }
-    ensures written { OnOk result (Appends (W.contents out.old) (W.contents out.new)
-        (joined (line_texts of_recipes (record { name = name.now; answer = (answer.now, behind.now) } ∷ [])))) }
-    ensures one_write { OnOk result (TakeOneWriteEach (line_texts of_recipes
-        (record { name = name.now; answer = (answer.now, behind.now) } ∷ [])) (W.whole_writes out.old) (W.whole_writes out.new)) }
-    ensures prefix { OnErr result (AppendsPrefix (W.contents out.old) (W.contents out.new)
-        (joined (line_texts of_recipes (record { name = name.now; answer = (answer.now, behind.now) } ∷ [])))) }
-    ensures fault { IfErr result (λ fault. fault ≡ RunFault.Write) }
-    ensures count { W.failures out.new ≡ count_after (is_err result) (W.failures out.old) }
-{
-    let line = recipe_line_of(answer);
-    write_lines(
-        name.as_bytes(),
-        line.as_bytes(),
-        behind.text().as_bytes(),
-        out,
-    )?;
-    Ok(behind.frame_outcome(recipe_outcome_of(answer)))
+/// What judges recipes over a ROM, and tells of them.
+#[derive(Drop)]
+struct RecipeTeller<'a> {
+    rom: &'a [u8],
+    asked: &'a RecipeAsked,
+    labels: Option<&'a Labels>,
+    wanted: Wanted<'a>,
+    /// What came with the last answer.
+    witness: Witness,
 }
 
-/// Judges a recipe whose turn it is, and writes its line, and behind it what is wanted there.
-fn run_named<R: CountedRead + Drop, W: CountedWrite>(
-    alloc: Global,
-    rom: &[u8],
-    asked: &RecipeAsked,
-    labels: Option<&Labels>,
-    recipe: NamedRecipe<R>,
-    wanted: Wanted,
-    out: &mut W,
-) -> Result<(FrameOutcome, Witness), RunFault>
-    ensures ok { IfOk result (λ end. (answer : RecipeAnswer × Behind)
-        × WritesLine (IsLineOfRecipe R.remaining R.failures rom.now asked.now (wanted_detail wanted.entry)) of_recipes recipe
-        (W.contents out.old) (W.contents out.new) (W.whole_writes out.old) (W.whole_writes out.new) answer end.0) }
-    ensures prefix { OnErr result (WritesLinePrefix (IsLineOfRecipe R.remaining R.failures rom.now asked.now (wanted_detail wanted.entry)) of_recipes recipe
-        (W.contents out.old) (W.contents out.new)) }
-    ensures fault { IfErr result (λ fault. fault ≡ RunFault.Write) }
-    ensures count { W.failures out.new ≡ count_after (is_err result) (W.failures out.old) }
+impl<'a, R: CountedRead + Drop> Tell<NamedRecipe<R>> for RecipeTeller<'a> {
+    type Answer = (RecipeAnswer, Behind);
+
+    type Tally = ();
+
+    ghost valid = { λ _. Unit {0} };
+
+    ghost is_line_of = { λ teller. IsLineOfRecipe R.remaining R.failures teller.rom.now teller.asked.now (wanted_detail teller.wanted) };
+
+    ghost telling = { λ teller. of_recipes (wanted_detail teller.wanted) };
+
+    fn tell<W: CountedWrite>(
+        &mut self,
+        alloc: Global,
+        thing: NamedRecipe<R>,
+        progress: &mut Progress<()>,
+        out: &mut W,
+    ) -> Result<(), WriteFault> {
+        let NamedRecipe { name, reader } = thing;
+        let Answered {
+            answer,
+            witness,
+            behind,
+        } = answer_opened(
+            alloc,
+            self.rom,
+            reader,
+            self.asked,
+            self.labels,
+            self.wanted,
+        );
+        self.witness = witness;
+        let outcome = behind.frame_outcome(recipe_outcome_of(&answer));
+        let line = recipe_line_of(&answer);
+        progress.write_line(outcome, name.as_str(), line.as_bytes(), behind.text(), out)?;
+        progress.add(outcome);
+        Ok(())
+    }
+}
+
+/// Before the first recipe.
+fn no_recipe(detail: Detail) -> Progress<()>
+    ensures { result ≡ no_line (of_recipes detail.entry) }
 {
-    let NamedRecipe { name, reader } = recipe;
-    let answered = answer_opened(alloc, rom, reader, asked, labels, wanted);
-    let outcome = write_answer(name.as_str(), &answered.answer, &answered.behind, out)?;
-    Ok((outcome, answered.witness))
+    let layout = Layout {
+        lines: Lines::All,
+        apart: detail.has_account(),
+        summary: false,
+    };
+    Progress::new(layout, ())
 }
 
 /// Judges recipes over the bytes of a ROM on the board, one after another, and writes a line for each: the name, which has no control
@@ -249,15 +257,16 @@ fn run_named<R: CountedRead + Drop, W: CountedWrite>(
 /// A recipe that can't be opened or read has a line, too. The next one is taken once the line of the one before it is written. The only
 /// fault is 73, if the writer failed, and then a prefix of these lines was written.
 pub fn run_recipes<
+    'a,
     R: CountedRead + Drop,
     I: Iterator<Item = NamedRecipe<R>> + Drop,
     W: CountedWrite,
 >(
     alloc: Global,
-    rom: &[u8],
-    asked: &RecipeAsked,
-    labels: Option<&Labels>,
-    detail: Detail,
+    rom: &'a [u8],
+    asked: &'a RecipeAsked,
+    labels: Option<&'a Labels>,
+    detail: Detail<'a>,
     recipes: I,
     out: &mut W,
 ) -> Result<FrameOutcome, RunFault>
@@ -267,46 +276,55 @@ pub fn run_recipes<
     // A line is written for each recipe, in their order, each by one write if it fits one. What a yes means is said of some recipe
     // (`IsAcceptedRecipe`).
     ensures report { IfOk result (λ end. HoldsOfAll I.next_gives recipes (λ taken.
-        Reports (IsLineOfRecipe R.remaining R.failures rom.now asked.now detail.entry) of_recipes taken
+        Reports (IsLineOfRecipe R.remaining R.failures rom.now asked.now detail.entry) (of_recipes detail.entry) taken
         (W.contents out.old) (W.contents out.new) (W.whole_writes out.old) (W.whole_writes out.new) end)) }
 
     // Where the writer failed, a prefix of them.
     ensures prefix { OnErr result (HoldsOfTaken I.next_gives recipes (λ taken.
-        ReportsPrefix (IsLineOfRecipe R.remaining R.failures rom.now asked.now detail.entry) of_recipes taken
+        ReportsPrefix (IsLineOfRecipe R.remaining R.failures rom.now asked.now detail.entry) (of_recipes detail.entry) taken
         (W.contents out.old) (W.contents out.new))) }
     ensures fault { IfErr result (λ fault. fault ≡ RunFault.Write) }
     ensures count { W.failures out.new ≡ count_after (is_err result) (W.failures out.old) }
 {
-    let mut worst = FrameOutcome::Accepted;
-    for recipe in recipes {
-        let wanted = Wanted::of(detail);
-        let (outcome, _) = run_named(alloc, rom, asked, labels, recipe, wanted, out)?;
-        worst = worst.or_worse(outcome);
-    }
-    Ok(worst)
+    let mut teller = RecipeTeller {
+        rom,
+        asked,
+        labels,
+        wanted: Wanted::of(detail),
+        witness: Witness::Nothing,
+    };
+    Ok(run_each(alloc, &mut teller, no_recipe(detail), recipes, out)?)
 }
 
 /// Judges one recipe as [`run_recipes`] does. If it is refused, and a frame shows why, the frame's bytes are written, too, behind the line.
 ///
 /// The fault is 73, if a writer failed, or 74, if there was no memory to look for a frame; in both the line may have been written.
-#[tactic(auto, using(crate::proofs::RecipeLines::one_recipe))]
-pub fn run_recipe_for_witness<R: CountedRead + Drop, W: CountedWrite, F: CountedWrite>(
+#[tactic(auto, using(crate::proofs::RecipeLines::one_told))]
+pub fn run_recipe_for_witness<'a, R: CountedRead + Drop, W: CountedWrite, F: CountedWrite>(
     alloc: Global,
-    rom: &[u8],
-    asked: &RecipeAsked,
-    labels: Option<&Labels>,
+    rom: &'a [u8],
+    asked: &'a RecipeAsked,
+    labels: Option<&'a Labels>,
     recipe: NamedRecipe<R>,
     out: &mut W,
     file: &mut F,
 ) -> Result<WitnessEnd, RunFault>
     // The recipe's line is written, by one write if it fits one.
-    ensures report { IfOk result (λ end. Reports (IsLineOfRecipe R.remaining R.failures rom.now asked.now details.Line) of_recipes (recipe ∷ [])
+    ensures report { IfOk result (λ end. Reports (IsLineOfRecipe R.remaining R.failures rom.now asked.now details.Line) (of_recipes details.Line) (recipe ∷ [])
         (W.contents out.old) (W.contents out.new) (W.whole_writes out.old) (W.whole_writes out.new) end.outcome) }
     // Nothing is written to the file where it is not said that a frame is.
     ensures kept { IfOk result (λ end. end.is_written ≡ false → file.new ≡ file.old) }
 {
-    let (outcome, witness) = run_named(alloc, rom, asked, labels, recipe, Wanted::Witness, out)?;
-    let is_written = match witness {
+    let mut teller = RecipeTeller {
+        rom,
+        asked,
+        labels,
+        wanted: Wanted::Witness,
+        witness: Witness::Nothing,
+    };
+    let mut progress = no_recipe(Detail::Line);
+    teller.tell(alloc, recipe, &mut progress, out)?;
+    let is_written = match teller.witness {
         Witness::Nothing => false,
         Witness::Frame(frame) => {
             write_bytes(&frame, file)?;
@@ -315,7 +333,7 @@ pub fn run_recipe_for_witness<R: CountedRead + Drop, W: CountedWrite, F: Counted
         Witness::NoMemory => return Err(RunFault::Memory),
     };
     Ok(WitnessEnd {
-        outcome,
+        outcome: progress.worst,
         is_written,
     })
 }

@@ -1,11 +1,13 @@
 //! Counts the lines of frames by what they say of a recipe, and spells the line with these counts.
 
-ghost use Rattle.std.specs.Prelude.{◌≡◌, true};
+ghost use Rattle.std.specs.Prelude.{◌≡◌, ◌∷◌, [], true};
 ghost use Rattle.dvg_text.specs.Devices.{count_after};
 ghost use Rattle.dvg_recipe_cmd.specs.Answers.{belongs_summary_text, with_membership};
 
 use crate::line::Line;
 use crate::membership::Membership;
+use dvg_cmd::Summary;
+use dvg_text::{CountedWrite, WriteFault, write_lines};
 
 /// How many frames belong to a recipe, how many don't, and how many could not be judged. Each count stops at 4,294,967,295.
 #[derive(Clone, Copy, Debug, PartialEq, Eq)]
@@ -68,4 +70,13 @@ pub fn belongs_summary_of(tally: &BelongsTally) -> Line
     line.push_count(b" unreadable=", tally.unread);
     line.push_count(b" out-of-memory=", tally.no_memory);
     line.ended()
+}
+
+impl Summary for BelongsTally {
+    ghost texts = { λ tally. belongs_summary_text tally ∷ [] };
+
+    fn write<W: CountedWrite>(&self, out: &mut W) -> Result<(), WriteFault> {
+        let line = belongs_summary_of(self);
+        write_lines(line.as_bytes(), &[], &[], out)
+    }
 }

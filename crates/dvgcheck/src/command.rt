@@ -322,39 +322,6 @@ pub fn files_of<'a>(
     Ok(files)
 }
 
-/// The name of a line behind an account, with the blank line that sets them apart.
-pub fn behind_blank(alloc: Global, name: &str) -> Result<String, AllocError> {
-    format!(in alloc; "\n{name}")
-}
-
-/// The same files, where accounts follow their lines: before each line but the first comes a blank one.
-fn set_apart<'a>(rt: &HostRuntime, named: Vec<Named<'a>>) -> Result<Vec<Named<'a>>, Usage<'a>> {
-    let mut files = Vec::new(rt.alloc());
-    for Named { input, name } in named {
-        let name = if files.is_empty() {
-            name
-        } else {
-            behind_blank(rt.alloc(), name.as_str())?
-        };
-        files.push(Named { input, name })?;
-    }
-    Ok(files)
-}
-
-/// The files of an argument, as their lines name them, with what the detail asks for behind each line.
-pub fn files_told<'a>(
-    rt: &HostRuntime,
-    args: &ArgMatches<'a>,
-    name: &str,
-    detail: Detail,
-) -> Result<Vec<Named<'a>>, Usage<'a>> {
-    let files = files_of(rt, args, name)?;
-    match detail {
-        Detail::Line => Ok(files),
-        Detail::Account(_) => set_apart(rt, files),
-    }
-}
-
 /// How many of the files that this argument names are standard input.
 fn standard_inputs<'a>(args: &ArgMatches<'a>, name: &str) -> usize {
     let files = args.get_strs(name).unwrap_or(&[]);
@@ -433,17 +400,16 @@ fn record_length_of_args<'a>(
     }
 }
 
-/// The frames that the arguments name. The detail asks for accounts of those of the command line.
+/// The frames that the arguments name.
 pub fn frame_names<'a>(
     rt: &HostRuntime,
     args: &ArgMatches<'a>,
-    detail: Detail,
 ) -> Result<FrameNames<'a>, Usage<'a>> {
     if let Some(length) = record_length_of_args(args)? {
         return Ok(FrameNames::Records(files_of(rt, args, "FRAME")?, length));
     }
     let Some(list) = args.get_str("list") else {
-        return Ok(FrameNames::Given(files_told(rt, args, "FRAME", detail)?));
+        return Ok(FrameNames::Given(files_of(rt, args, "FRAME")?));
     };
     let end = if args.get_flag("null") {
         NameEnd::Nul
@@ -488,7 +454,7 @@ fn frames_args<'a>(
         None => Certificates::Made(map, clocks_of_args(args)?),
     };
     Ok(FramesArgs {
-        frames: frame_names(rt, args, Detail::Line)?,
+        frames: frame_names(rt, args)?,
         asked: Asked {
             rom: file_of(rt, args, "ROM"),
             certificates,

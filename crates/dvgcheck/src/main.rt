@@ -445,7 +445,7 @@ fn run_over(rt: &HostRuntime, args: FramesArgs) -> u8 {
             Err(fault) => tell_fault(rt, fault, FrameOutcome::Accepted),
         },
         FrameNames::Records(files, length) => {
-            let mut records = Records::new(files, length, Detail::Line);
+            let mut records = Records::new(files, length);
             let end = recorded_frames(rt, &mut records, &asked);
             tell_frames_until(rt, end, records.fault())
         }

@@ -1,7 +1,7 @@
 //! The command line of `recipe` and of `belongs`.
 
 use crate::command::{
-    ArgumentFault, FrameNames, Named, Usage, budget_of_args, clocks_of_args, file_of, files_told,
+    ArgumentFault, FrameNames, Named, Usage, budget_of_args, clocks_of_args, file_of, files_of,
     frame_names, map_of_args, one_standard_input, window_of_args,
 };
 use crate::input::Input;
@@ -115,7 +115,7 @@ pub fn recipe_args<'a>(
         },
         clocks: clocks_of_args(args)?,
     };
-    let recipes = files_told(rt, args, "RECIPE", detail)?;
+    let recipes = files_of(rt, args, "RECIPE")?;
     let output = witness_path(output, &recipes)?;
     Ok(RecipeArgs {
         rom: file_of(rt, args, "ROM"),
@@ -137,7 +137,7 @@ pub fn belongs_args<'a>(
     one_standard_input(args, &["ROM", "RECIPE", "FRAME", "list", "labels"])?;
     let map = map_of_args(args)?;
     Ok(BelongsArgs {
-        frames: frame_names(rt, args, listing.detail)?,
+        frames: frame_names(rt, args)?,
         asked: BelongsAsked {
             rom: file_of(rt, args, "ROM"),
             map,

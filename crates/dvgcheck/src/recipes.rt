@@ -147,7 +147,7 @@ pub fn run_belonging(rt: &HostRuntime, args: BelongsArgs) -> u8 {
             Err(fault) => tell_fault(rt, fault, FrameOutcome::Accepted),
         },
         FrameNames::Records(files, length) => {
-            let mut records = Records::new(files, length, asked.listing.detail);
+            let mut records = Records::new(files, length);
             // No files have so many records.
             let frames = (0..u64::MAX).map_while(|_| records.step(rt)).flatten();
             let end = belong(rt, &asked, frames);

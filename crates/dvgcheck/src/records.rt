@@ -1,9 +1,9 @@
 //! Frames that are the records of files, read record by record.
 
-use crate::command::{Named, behind_blank};
+use crate::command::Named;
 use crate::frames_fault::FramesFault;
 use crate::input::{Kept, Source, kept_frame};
-use dvg_cmd::{Counted, Detail, NamedFrame, Record, RecordLength, read_record, record_name};
+use dvg_cmd::{Counted, NamedFrame, Record, RecordLength, read_record, record_name};
 use std::alloc::{AllocError, Global};
 use std::vec::IntoIter;
 
@@ -22,22 +22,17 @@ pub struct Records<'a> {
     /// Those that are not yet open.
     files: IntoIter<Named<'a>>,
     length: RecordLength,
-    detail: Detail<'a>,
     current: Option<Recording>,
-    /// How many frames were given.
-    given: u64,
     fault: Option<FramesFault>,
 }
 
 impl<'a> Records<'a> {
-    /// The records of these files, none of them read. The detail is what is written of each.
-    pub fn new(files: Vec<Named<'a>>, length: RecordLength, detail: Detail<'a>) -> Records<'a> {
+    /// The records of these files, none of them read.
+    pub fn new(files: Vec<Named<'a>>, length: RecordLength) -> Records<'a> {
         Records {
             files: files.into_iter(),
             length,
-            detail,
             current: None,
-            given: 0,
             fault: None,
         }
     }
@@ -74,7 +69,7 @@ impl<'a> Records<'a> {
     ) -> Result<Option<NamedFrame<Kept>>, AllocError> {
         let Named { input, name } = file;
         let Ok(source) = input.open(rt) else {
-            return Ok(Some(self.frame(rt.alloc(), name.as_str(), 1, None)?));
+            return Ok(Some(frame_of(rt.alloc(), name.as_str(), 1, None)?));
         };
         self.current = Some(Recording {
             name,
@@ -94,12 +89,12 @@ impl<'a> Records<'a> {
         let number = recording.next;
         match read_record(alloc, &mut recording.source, self.length)? {
             Record::Whole(bytes) => {
-                let frame = self.frame(alloc, recording.name.as_str(), number, Some(bytes))?;
+                let frame = frame_of(alloc, recording.name.as_str(), number, Some(bytes))?;
                 recording.next = number.saturating_add(1);
                 self.current = Some(recording);
                 Ok(Some(frame))
             }
-            Record::Cut => Ok(Some(self.frame(alloc, recording.name.as_str(), number, None)?)),
+            Record::Cut => Ok(Some(frame_of(alloc, recording.name.as_str(), number, None)?)),
             Record::End => {
                 if number == 1 {
                     self.fault = Some(FramesFault::NoRecord);
@@ -108,22 +103,14 @@ impl<'a> Records<'a> {
             }
         }
     }
+}
 
-    /// The record with this number of a file, as a frame: the bytes that were read of it, or that it can't be read.
-    fn frame(
-        &mut self,
-        alloc: Global,
-        file: &str,
-        number: u64,
-        bytes: Option<Vec<u8>>,
-    ) -> Result<NamedFrame<Kept>, AllocError> {
-        let name = record_name(alloc, file, number)?;
-        let name = if self.given > 0 && self.detail.has_account() {
-            behind_blank(alloc, name.as_str())?
-        } else {
-            name
-        };
-        self.given = self.given.saturating_add(1);
-        Ok(kept_frame(name, bytes))
-    }
+/// The record with this number of a file, as a frame: the bytes that were read of it, or that it can't be read.
+fn frame_of(
+    alloc: Global,
+    file: &str,
+    number: u64,
+    bytes: Option<Vec<u8>>,
+) -> Result<NamedFrame<Kept>, AllocError> {
+    Ok(kept_frame(record_name(alloc, file, number)?, bytes))
 }
