@@ -54,19 +54,23 @@ struct Passed {
 impl Passed {
     /// After an item that isn't of zeros.
     fn behind(item: Item) -> Passed {
+        let last = Some(item);
+        let before = last;
         Passed {
-            last: Some(item),
+            last,
             run: None,
-            before: Some(item),
+            before,
         }
     }
 
     /// After an item of zeros more.
     fn and_zeros(self, item: Item) -> Passed {
+        let Passed { run, before, .. } = self;
+        let at = item.at;
         Passed {
             last: Some(item),
-            run: self.run.or(Some(item.at)),
-            before: self.before,
+            run: run.or(Some(at)),
+            before,
         }
     }
 }
