@@ -91,18 +91,18 @@ fn push_line(lines: &mut Lines, line: u32, why: Option<LineWhy>)
 }
 
 /// Adds the lines that tell why, if something is known.
-fn push_plain(lines: &mut Lines, why: &PlainWhy)
-    ensures { Adds lines.old lines.new (told_plainly why.now) }
+fn push_plain(lines: &mut Lines, why: PlainWhy)
+    ensures { Adds lines.old lines.new (told_plainly why) }
 {
     let why = match why {
         PlainWhy::Nothing => return,
-        PlainWhy::Line { line, why } => return push_line(lines, *line, *why),
+        PlainWhy::Line { line, why } => return push_line(lines, line, why),
         PlainWhy::RomLength { bytes, map } => InputWhy::RomLength {
-            bytes: *bytes,
-            words: Addresses::of_map(*map),
+            bytes,
+            words: Addresses::of_map(map),
         },
-        PlainWhy::FrameLength { bytes } => InputWhy::FrameLength(*bytes),
-        PlainWhy::Budget(budget) => InputWhy::Budget(*budget),
+        PlainWhy::FrameLength { bytes } => InputWhy::FrameLength(bytes),
+        PlainWhy::Budget(budget) => InputWhy::Budget(budget),
     };
     lines.push(Line::Why(Why::Input(why)));
 }
@@ -112,9 +112,9 @@ pub fn plain_lines(
     machine: Machine,
     alloc: Global,
     number: u8,
-    why: &PlainWhy,
+    why: PlainWhy,
 ) -> Result<Vec<Line>, AllocError>
-    ensures { IfOk result (λ lines. lines.items ≡ plain_lines machine number why.now) }
+    ensures { IfOk result (λ lines. lines.items ≡ plain_lines machine number why) }
 {
     let mut lines = Lines::new(alloc);
     lines.push_machine(machine);

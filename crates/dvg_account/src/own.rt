@@ -33,7 +33,7 @@ pub fn own_lines(
                 inputs.machine,
                 alloc,
                 MakeFault::Memory.number(),
-                &PlainWhy::Nothing,
+                PlainWhy::Nothing,
             )
         }
         Err(account) => unmade_lines(alloc, rom, slice::from_ref(frame), account),
@@ -102,7 +102,7 @@ pub fn frame_lines(
             inputs.machine,
             alloc,
             MakeFault::Memory.number(),
-            &PlainWhy::Nothing,
+            PlainWhy::Nothing,
         ),
     }
 }

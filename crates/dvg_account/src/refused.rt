@@ -47,7 +47,7 @@ pub fn refused_lines(
         }
         _ => {
             let why = inputs.plain_why(refusal);
-            plain_lines(inputs.machine, alloc, refusal.number(), &why)
+            plain_lines(inputs.machine, alloc, refusal.number(), why)
         }
     }
 }

@@ -136,7 +136,7 @@ pub fn plain_text(
     machine: Machine,
     alloc: Global,
     number: u8,
-    why: &PlainWhy,
+    why: PlainWhy,
     labels: Option<&Labels>,
 ) -> Result<String, AllocError> {
     let lines = plain_lines(machine, alloc, number, why)?;
@@ -167,7 +167,7 @@ pub fn certificate_text(
         line: fault.line,
         why: refused.why(),
     };
-    let lines = plain_lines(machine, alloc, fault.number(), &why)?;
+    let lines = plain_lines(machine, alloc, fault.number(), why)?;
     text_of(alloc, Telling::of_given(None), &lines, labels)
 }
 

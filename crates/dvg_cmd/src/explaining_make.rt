@@ -45,7 +45,7 @@ fn unasked(
     machine: Machine,
     alloc: Global,
     fault: FramesRunFault,
-    why: &PlainWhy,
+    why: PlainWhy,
     labels: Option<&Labels>,
 ) -> MakeAnswer
     ensures { result.made ≡ Err fault }
@@ -94,7 +94,7 @@ fn answer_on(
         Ok(images) => images,
         Err(fault) => {
             let why = length_why(fault, bytes, map);
-            return unasked(machine, alloc, fault, &why, labels);
+            return unasked(machine, alloc, fault, why, labels);
         }
     };
     match explain_making(alloc, &images.rom, roots, &images.frames) {

@@ -49,7 +49,7 @@ pub fn plain_account(
     machine: Machine,
     alloc: Global,
     number: u8,
-    why: &PlainWhy,
+    why: PlainWhy,
     detail: Detail,
 ) -> Behind
     ensures { IsBehind detail.entry result }
@@ -64,7 +64,7 @@ pub fn plain_account(
 pub fn unread_account(machine: Machine, alloc: Global, detail: Detail) -> Behind
     ensures { IsBehind detail.entry result }
 {
-    plain_account(machine, alloc, 71, &PlainWhy::Nothing, detail)
+    plain_account(machine, alloc, 71, PlainWhy::Nothing, detail)
 }
 
 /// What the detail asks for behind the line of the answer to a frame of this name, behind which the judge's own detail is this.

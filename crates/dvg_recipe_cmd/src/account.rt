@@ -144,7 +144,7 @@ fn plain_text(
 ) -> Result<String, AllocError> {
     let mut text = recipe_text(alloc, lines)?;
     let detail = Detail::Account(labels);
-    let behind = plain_account(Machine::Board, alloc, number, &PlainWhy::Nothing, detail);
+    let behind = plain_account(Machine::Board, alloc, number, PlainWhy::Nothing, detail);
     text.push_str(text_behind(&behind)?)?;
     Ok(text)
 }

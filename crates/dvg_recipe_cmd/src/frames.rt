@@ -104,7 +104,7 @@ pub fn membership_of(
 {
     let Ok(frame) = FrameImage::from_bytes(bytes) else {
         let why = PlainWhy::FrameLength { bytes: bytes.len() };
-        let behind = plain_account(Machine::Board, alloc, 2, &why, detail);
+        let behind = plain_account(Machine::Board, alloc, 2, why, detail);
         return (Membership::WrongLength, behind);
     };
     let found = belongs(alloc, image, &read.recipe, &frame);
@@ -215,7 +215,7 @@ fn write_refusal<W: CountedWrite>(
         Machine::Board,
         alloc,
         no.number(),
-        &PlainWhy::Nothing,
+        PlainWhy::Nothing,
         detail,
     );
     let line = refusal_line_of(no);

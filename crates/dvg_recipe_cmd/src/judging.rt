@@ -305,7 +305,7 @@ fn refused(alloc: Global, explained: &Explained, no: RecipeNo, wanted: Wanted) -
     JudgedRecipe {
         verdict: Err(no),
         witness: Witness::Nothing,
-        behind: plain_account(Machine::Board, alloc, number, &why, wanted.detail()),
+        behind: plain_account(Machine::Board, alloc, number, why, wanted.detail()),
     }
 }
 
