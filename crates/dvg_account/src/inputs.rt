@@ -1,14 +1,14 @@
 //! What was judged, and the account of a refusal before any item was judged.
 
 ghost use Rattle.std.specs.Prelude.{◌≡◌, IfOk};
-ghost use Rattle.dvg_account.specs.Plain.{told_of_line, told_plainly, plain_lines};
+ghost use Rattle.dvg_account.specs.Plain.{certificate_lines, told_of_line, told_plainly, plain_lines};
 ghost use Rattle.dvg_account.specs.Building.{Adds};
 
 use crate::line::Line;
 use crate::lines::Lines;
 use crate::starts::ShapeStarts;
 use crate::why::{Addresses, InputWhy, Why};
-use dvg_cert::Cert;
+use dvg_cert::{Cert, CertFault};
 use dvg_check::{Mode, Refusal};
 use dvg_labels::Labels;
 use dvg_text::LineWhy;
@@ -47,8 +47,8 @@ pub enum PlainWhy {
     FrameLength { bytes: usize },
     /// The budget is so many words.
     Budget(u32),
-    /// This line of the certificate is refused, and so much is known of why.
-    Line { line: u32, why: Option<LineWhy> },
+    /// This line of the certificate is refused.
+    Line(u32),
 }
 
 impl<'a> Inputs<'a> {
@@ -63,10 +63,7 @@ impl<'a> Inputs<'a> {
                 bytes: self.frame.len(),
             },
             (Refusal::BudgetRange, _) => PlainWhy::Budget(self.budget),
-            (Refusal::Cert(fault), _) => PlainWhy::Line {
-                line: fault.line,
-                why: None,
-            },
+            (Refusal::Cert(fault), _) => PlainWhy::Line(fault.line),
             _ => PlainWhy::Nothing,
         }
     }
@@ -96,7 +93,7 @@ fn push_plain(lines: &mut Lines, why: PlainWhy)
 {
     let why = match why {
         PlainWhy::Nothing => return,
-        PlainWhy::Line { line, why } => return push_line(lines, line, why),
+        PlainWhy::Line(line) => return lines.push(Line::CertificateLine(line)),
         PlainWhy::RomLength { bytes, map } => InputWhy::RomLength {
             bytes,
             words: Addresses::of_map(map),
@@ -121,5 +118,22 @@ pub fn plain_lines(
     lines.push(Line::Rule(number));
     push_plain(&mut lines, why);
     lines.push(Line::WhatToDo(number));
+    lines.finish()
+}
+
+/// The lines of a certificate's text that is refused, with what is told of the refused line, if anything is (this project's own).
+pub fn certificate_lines(
+    machine: Machine,
+    alloc: Global,
+    fault: CertFault,
+    why: Option<LineWhy>,
+) -> Result<Vec<Line>, AllocError>
+    ensures { IfOk result (λ lines. lines.items ≡ certificate_lines machine fault why) }
+{
+    let mut lines = Lines::new(alloc);
+    lines.push_machine(machine);
+    lines.push(Line::Rule(fault.number()));
+    push_line(&mut lines, fault.line, why);
+    lines.push(Line::WhatToDo(fault.number()));
     lines.finish()
 }

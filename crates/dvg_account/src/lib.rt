@@ -48,7 +48,7 @@ pub use answers::verdict_lines;
 pub use beginnings::Beginning;
 pub use cure::MakerCure;
 pub use dumps::dump_text;
-pub use inputs::{Inputs, PlainWhy, plain_lines};
+pub use inputs::{Inputs, PlainWhy, certificate_lines, plain_lines};
 pub use leaving::leaving_lines;
 pub use line::{
     AcceptedLine, EntryName, Instruction, ItemLine, Line, MadeLine, MakerChain, PathLine, Role,
