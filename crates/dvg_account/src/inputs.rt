@@ -1,13 +1,12 @@
 //! What was judged, and the account of a refusal before any item was judged.
 
-ghost use Rattle.std.specs.Prelude.{◌≡◌, IfOk};
-ghost use Rattle.dvg_account.specs.Plain.{told_of_line, told_plainly, plain_lines};
-ghost use Rattle.dvg_account.specs.Building.{Adds};
+ghost use Rattle.std.specs.Prelude.{IfOk};
+ghost use Rattle.dvg_account.specs.Told.{told};
+ghost use Rattle.dvg_account.specs.Plain.{ArePlainLines};
 
-use crate::line::Line;
 use crate::lines::Lines;
+use crate::piece::Piece::{self, Cure, Fitting, Line, Number, Rule, Text, ToDo};
 use crate::starts::ShapeStarts;
-use crate::why::{Addresses, InputWhy, Why};
 use dvg_cert::Cert;
 use dvg_check::{Mode, Refusal};
 use dvg_labels::Labels;
@@ -72,39 +71,89 @@ impl<'a> Inputs<'a> {
     }
 }
 
+/// The most bytes of a frame. Of a longer one, one byte more is read.
+const MOST_FRAME_BYTES: usize = 2048;
+
+/// The most bytes of a ROM. Of a longer one, one byte more is read.
+const MOST_ROM_BYTES: usize = 4096;
+
+/// Adds how many bytes an input has, or that they are more than the most.
+fn push_length(lines: &mut Lines, bytes: usize, most: usize) {
+    let more = if bytes > most { "more than " } else { "" };
+    lines.add(&[Text(more), Number(bytes.min(most) as u64), Text(" bytes")]);
+}
+
+/// What is wrong with so many bytes of a ROM, if they are no more than the most.
+fn rom_fault(bytes: usize) -> Piece {
+    Text(if bytes < MOST_ROM_BYTES && bytes % 2 == 1 {
+        ", an odd number, and words "
+    } else {
+        ", and words "
+    })
+}
+
+/// What is wrong with so many bytes of a frame, if they are no more than the most.
+fn frame_fault(bytes: usize) -> Piece {
+    Text(if bytes == 0 {
+        ", and one word is the least"
+    } else if bytes < MOST_FRAME_BYTES {
+        ", an odd number: words have two"
+    } else {
+        ""
+    })
+}
+
 /// Adds the lines that tell of a refused line of the certificate.
-fn push_line(lines: &mut Lines, line: u32, why: Option<LineWhy>)
-    ensures { Adds lines.old lines.new (told_of_line line why) }
-{
+fn push_line(lines: &mut Lines, line: u32, why: Option<LineWhy>) {
+    let number = Number(line as u64);
     match why {
-        None => lines.push(Line::CertificateLine(line)),
-        Some(LineWhy::Form(leaving)) => {
-            lines.push(Line::CertificateLine(line));
-            lines.push(Line::Column(leaving.column));
-            lines.push(Line::Expected(leaving.expected));
-        }
-        Some(LineWhy::Count(counts)) => {
-            lines.push(Line::Why(Why::Input(InputWhy::EntryCounts(counts))));
-            lines.push(Line::CertificateLine(line));
-        }
+        None => lines.add(&[Line("certificate line"), number]),
+        Some(LineWhy::Form(leaving)) => lines.add(&[
+            Line("certificate line"),
+            number,
+            Line("column"),
+            Number(leaving.column as u64),
+            Line("expected"),
+            Piece::Expected(leaving.expected),
+        ]),
+        Some(LineWhy::Count(counts)) => lines.add(&[
+            Line("why"),
+            Text("the `done` line says "),
+            Number(counts.claimed as u64),
+            Text(if counts.claimed == 1 {
+                " entry"
+            } else {
+                " entries"
+            }),
+            Text(", and the certificate has "),
+            Number(counts.found as u64),
+            Line("certificate line"),
+            number,
+        ]),
     }
 }
 
-/// Adds the lines that tell why, if something is known.
-fn push_plain(lines: &mut Lines, why: PlainWhy)
-    ensures { Adds lines.old lines.new (told_plainly why) }
-{
-    let why = match why {
-        PlainWhy::Nothing => return,
-        PlainWhy::Line { line, why } => return push_line(lines, line, why),
-        PlainWhy::RomLength { bytes, map } => InputWhy::RomLength {
-            bytes,
-            words: Addresses::of_map(map),
-        },
-        PlainWhy::FrameLength { bytes } => InputWhy::FrameLength(bytes),
-        PlainWhy::Budget(budget) => InputWhy::Budget(budget),
-    };
-    lines.push(Line::Why(Why::Input(why)));
+/// The lines that tell why, if something is known.
+fn why_lines(alloc: Global, why: PlainWhy) -> Result<Vec<Piece>, AllocError> {
+    let mut lines = Lines::new(alloc);
+    match why {
+        PlainWhy::Nothing => {}
+        PlainWhy::RomLength { bytes, map } => {
+            lines.add(&[Line("why"), Text("the ROM has ")]);
+            push_length(&mut lines, bytes, MOST_ROM_BYTES);
+            lines.add(&[rom_fault(bytes), Fitting(map, bytes)]);
+        }
+        PlainWhy::FrameLength { bytes } => {
+            lines.add(&[Line("why"), Text("the frame has ")]);
+            push_length(&mut lines, bytes, MOST_FRAME_BYTES);
+            lines.add(&[frame_fault(bytes)]);
+        }
+        PlainWhy::Budget(budget) => {
+            lines.add(&[Line("why"), Text("the budget is "), Number(budget as u64)])
+        }
+        PlainWhy::Line { line, why } => push_line(&mut lines, line, why),
+    }
+    lines.finish()
 }
 
 /// The lines of a refusal with this number before any item was judged on a machine (this project's own).
@@ -113,13 +162,14 @@ pub fn plain_lines(
     alloc: Global,
     number: u8,
     why: PlainWhy,
-) -> Result<Vec<Line>, AllocError>
-    ensures { IfOk result (λ lines. lines.items ≡ plain_lines machine number why) }
+) -> Result<Vec<Piece>, AllocError>
+    ensures { IfOk result (λ lines. ArePlainLines machine number (told lines.items)) }
 {
+    let why = why_lines(alloc, why)?;
     let mut lines = Lines::new(alloc);
     lines.push_machine(machine);
-    lines.push(Line::Rule(number));
-    push_plain(&mut lines, why);
-    lines.push(Line::WhatToDo(number));
+    lines.add(&[Line("rule"), Rule(number)]);
+    lines.add(&why);
+    lines.add(&[ToDo, Cure(number)]);
     lines.finish()
 }

@@ -5,13 +5,20 @@ ghost use Rattle.dvg_words.specs.Decoding.{cell_at};
 ghost use Rattle.dvg_words.specs.declared.instruction.Cell.TheVariants.{Holds};
 ghost use Rattle.dvg_words.specs.declared.map.TheConstants.{ADDRESS_END};
 
-use crate::item::words_at;
-use crate::line::{Words, Zeros};
+use crate::item::{ItemWords, words_at};
 use dvg_items::{Item, Kind};
 use dvg_words::{Cell, Fetch, read_cell};
 
 /// How many items a shape or a frame has at most.
-pub const MOST_ITEMS: u16 = 2048;
+const MOST_ITEMS: u16 = 2048;
+
+/// Words 0000 that lead to an item: the addresses of the first and the last, and the last item before them.
+#[derive(Clone, Copy)]
+pub struct Zeros {
+    pub first: u16,
+    pub last: u16,
+    pub before: Option<Item>,
+}
 
 /// What leads to an item: the item right before it, and the zeros, if there are any.
 #[derive(Clone, Copy)]
@@ -52,11 +59,14 @@ impl Way {
 
 /// Whether a VCTR of zeros stands at an address, or its first word alone where there is no second.
 fn are_zeros<F: Fetch>(words: &F, at: u16) -> bool {
-    matches!(words_at(words, at), Words::One(0) | Words::Two(0, 0))
+    matches!(
+        words_at(words, at),
+        ItemWords::One(0) | ItemWords::Two(0, 0)
+    )
 }
 
 /// The item at this word address, if one stands there and the address is below another.
-pub fn item_below<F: Fetch>(words: &F, here: Option<u16>, end: u16) -> Option<Item>
+fn item_below<F: Fetch>(words: &F, here: Option<u16>, end: u16) -> Option<Item>
     ensures address { IfSome result (λ item. item.at < ADDRESS_END) }
     ensures below { IfSome result (λ item. item.at < end) }
     ensures stands { IfSome result (λ item. cell_at (F.words words.now) item.at ≡ Holds item.format item.instr) }
@@ -74,8 +84,8 @@ pub fn item_below<F: Fetch>(words: &F, here: Option<u16>, end: u16) -> Option<It
 /// The last of the zeros that lead to the item at a word address: its own last word if it is of zeros, or the word before it.
 fn last_zero<F: Fetch>(words: &F, at: u16) -> u16 {
     match words_at(words, at) {
-        Words::One(0) => at,
-        Words::Two(0, 0) => at.saturating_add(1),
+        ItemWords::One(0) => at,
+        ItemWords::Two(0, 0) => at.saturating_add(1),
         _ => at.saturating_sub(1),
     }
 }
