@@ -1,27 +1,20 @@
--- The lines of calls, one after the other: those so far, and those of what is left.
-use Rattle.dvg_account.proofs.Common.{arith, ◌≡◌, ◌∙◌, ap, sym, ℕ, suc, ◌+◌, ◌<◌, ◌≤◌, List, [], ◌∷◌, ◌++◌, length, get_or, append_assoc, append-nil, drop, Told, Line, values}
+-- The lines of steps, one after the other: those so far, and those of what is left.
+use Rattle.dvg_account.proofs.Common.{arith, ◌≡◌, ◌∙◌, ap, sym, ℕ, suc, ◌+◌, ◌<◌, ◌≤◌, List, [], ◌∷◌, ◌++◌, length, get_or, append_assoc, append-nil, drop, Told}
 use Rattle.std.proofs.Math.Seq.{drop-cons}
 use Rattle.std.proofs.lemmas.List.{drop_all}
-use Rattle.dvg_survey.specs.declared.calls.Call.{Call}
-use Rattle.dvg_account.specs.declared.piece.Piece.TheVariants.{Address}
-use Rattle.dvg_account.specs.Chains.{call_steps, name_of}
+use Rattle.dvg_account.specs.Chains.{steps}
 
--- the line of a call
-abbrev step : List ℕ → List Told → Call → List Told
-step key from c = Line key ∷ from ++ values (Address c.at ∷ name_of c.entry ∷ [])
-
-module _ (key : List ℕ) (calls : List Call) (i : ℕ) (done whole from : List Told)
-    (so_far : done ++ call_steps key from (drop i calls) ≡ whole) where
-  pub next : (d : Call) → i < length calls
-      → (done ++ (Line key ∷ from ++ values (Address (get_or calls i d).at ∷ name_of (get_or calls i d).entry ∷ [])))
-      ++ call_steps key (values (name_of (get_or calls i d).entry ∷ [])) (drop (i + 1) calls) ≡ whole
+module _ {A : Type 0} (tell : List Told → A → List Told) (led : A → List Told) (xs : List A) (i : ℕ) (done whole from : List Told)
+    (so_far : done ++ steps tell led from (drop i xs) ≡ whole) where
+  pub next : (d : A) → i < length xs
+      → (done ++ tell from (get_or xs i d)) ++ steps tell led (led (get_or xs i d)) (drop (i + 1) xs) ≡ whole
   next d lt =
-      let c = get_or calls i d in
-      let rest : List Call → List Told = call_steps key (values (name_of c.entry ∷ [])) in
+      let x = get_or xs i d in
+      let rest : List A → List Told = steps tell led (led x) in
       let up : suc i ≡ i + 1 = omega arith in
-      ap (λ n. (done ++ step key from c) ++ rest (drop n calls)) (sym up)
-      ∙ append_assoc done (step key from c) (rest (drop (suc i) calls))
-      ∙ ap (λ cs. done ++ call_steps key from cs) (sym (drop-cons calls i d lt)) ∙ so_far
+      ap (λ n. (done ++ tell from x) ++ rest (drop n xs)) (sym up)
+      ∙ append_assoc done (tell from x) (rest (drop (suc i) xs))
+      ∙ ap (λ ys. done ++ steps tell led from ys) (sym (drop-cons xs i d lt)) ∙ so_far
 
-  pub last : length calls ≤ i → done ≡ whole
-  last le = sym (append-nil done) ∙ ap (λ cs. done ++ call_steps key from cs) (sym (drop_all i calls le)) ∙ so_far
+  pub last : length xs ≤ i → done ≡ whole
+  last le = sym (append-nil done) ∙ ap (λ ys. done ++ steps tell led from ys) (sym (drop_all i xs le)) ∙ so_far

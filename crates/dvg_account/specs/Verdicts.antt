@@ -11,9 +11,11 @@ use Rattle.dvg_check.specs.declared.verdict.Refusal.{Refusal}
 use Rattle.dvg_check.specs.declared.finding.RomFinding.{RomFinding}
 use Rattle.dvg_check.specs.declared.finding.RomFinding.TheVariants as finding
 use Rattle.dvg_account.specs.Accepted.{AcceptedLines, AreImagesOf}
-use Rattle.dvg_account.specs.Plain.{ArePlainLines}
+use Rattle.dvg_account.specs.Plain.{plain_lines}
 use Rattle.dvg_account.specs.Refused.{FrameLines, ShapeLines}
 use Rattle.dvg_account.specs.declared.inputs.Inputs.{Inputs}
+use Rattle.dvg_account.specs.declared.inputs.PlainWhy.{PlainWhy}
+use Rattle.dvg_account.specs.declared.inputs.PlainWhy.TheVariants.{Nothing}
 use Rattle.dvg_account.specs.Told.{Told}
 use Rattle.dvg_account.specs.Making.{UnmadeLines}
 use Rattle.dvg_make.specs.declared.account.EntryCause.{EntryCause}
@@ -30,7 +32,7 @@ RefusedLines inputs rom frame refusal (Some (finding.Shape f)) lines =
     IfSome inputs.cert (λ cert. IfSome rom (λ r. ShapeLines inputs r frame cert.now.entries f lines))
 RefusedLines inputs rom frame refusal (Some (finding.Frame f)) lines =
     IfSome inputs.cert (λ cert. IfSome frame (λ words. FrameLines inputs rom words cert.now.entries f lines))
-RefusedLines inputs rom frame refusal cause lines = ArePlainLines inputs.machine (refusal_number refusal) lines
+RefusedLines inputs rom frame refusal cause lines = (why : PlainWhy) × (lines ≡ plain_lines inputs.machine (refusal_number refusal) why)
 
 -- the lines of a verdict on inputs with these images
 abbrev pub LinesOf : Inputs → Option Rom → Option (List ℕ) → Result Yes Refusal → Option RomFinding → List Told → Type 0
@@ -48,7 +50,7 @@ pub record VerdictLines (inputs : Inputs) (verdict : Result Yes Refusal) (cause 
 abbrev pub FrameVerdictLines : Inputs → Result Yes FrameRefusal → Option RomFinding → List Told → Type 0
 FrameVerdictLines inputs (Ok y) cause lines = VerdictLines inputs (Ok y) None lines
 FrameVerdictLines inputs (Err (Check refusal)) cause lines = VerdictLines inputs (Err refusal) cause lines
-FrameVerdictLines inputs (Err refusal) cause lines = ArePlainLines inputs.machine 63 lines
+FrameVerdictLines inputs (Err refusal) cause lines = lines ≡ plain_lines inputs.machine 63 Nothing
 
 -- the lines of a verdict on inputs with these images that comes with the cause of a refusal
 abbrev pub JudgedLines : Inputs → Rom → List ℕ → Result Yes RomFinding → List Told → Type 0
@@ -72,7 +74,7 @@ LinesBy inputs rom frame judged lines = (by : Inputs) × IsBy inputs judged.cert
 
 -- the lines of a refusal of the maker over a ROM; of a want of memory its number alone
 abbrev pub TellsUnmade : Machine → Rom → List ℕ → MakeAccount → EntryCause → List Told → Type 0
-TellsUnmade machine rom frame account cause.Memory lines = ArePlainLines machine 63 lines
+TellsUnmade machine rom frame account cause.Memory lines = lines ≡ plain_lines machine 63 Nothing
 TellsUnmade machine rom frame account other lines = UnmadeLines rom (frame ∷ []) account lines
 
 -- the lines of a frame by its own certificate over a ROM: of the verdict by it, or of why none is made

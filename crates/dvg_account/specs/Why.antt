@@ -1,5 +1,5 @@
 -- What the sentence of a refusal tells of its cause: its numbers, addresses and places, in their order. All of it is this project's own.
-use Rattle.std.specs.Prelude.{ℕ, ◌+◌, ◌-◌, ◌%◌, nat_lt, if◌then◌else◌, List, [], ◌∷◌, ◌++◌, length, Option, Some, None, option_map, option_to_list}
+use Rattle.std.specs.Prelude.{ℕ, ◌+◌, ◌-◌, ◌%◌, nat_eq, nat_lt, if◌then◌else◌, List, [], ◌∷◌, ◌++◌, codes, length, Option, Some, None}
 use Rattle.dvg_words.specs.declared.machine.Machine.{Machine}
 use Rattle.dvg_words.specs.Values.{Source}
 use Rattle.dvg_words.specs.Memory.{Rom, frame_word, rom_word}
@@ -20,7 +20,7 @@ use Rattle.dvg_check.specs.declared.leaving.BoxLeaving.TheVariants as left
 use Rattle.dvg_account.specs.declared.piece.Bounds.{Bounds}
 use Rattle.dvg_account.specs.declared.piece.Bounds.TheVariants.{Window, ClaimedBox}
 use Rattle.dvg_account.specs.declared.piece.Piece.TheVariants as piece
-use Rattle.dvg_account.specs.Told.{Told, values}
+use Rattle.dvg_account.specs.Told.{Told, values, said, one}
 use Rattle.dvg_account.specs.Items.{ItemWords, words_at}
 use Rattle.dvg_account.specs.declared.item.ItemWords.TheVariants as held
 
@@ -38,15 +38,45 @@ missing_word source at first last =
 abbrev pub odd_field : ℕ → Option ℕ
 odd_field word = if nat_lt 1023 (word % 4096) then Some (word % 4096) else None
 
+-- a field of a LABS, behind its name
+abbrev pub named_field : List ℕ → ℕ → List Told
+named_field name field = said name ++ values (piece.Number field ∷ [])
+
 -- these fields of a LABS, Y and X
 abbrev pub odd_fields : Option ℕ → Option ℕ → List Told
-odd_fields y x = values (option_to_list (option_map piece.Number y) ++ option_to_list (option_map piece.Number x))
+odd_fields y x = one (named_field (codes "Y ")) y ++ one (named_field (codes "X ")) x
 
 -- the fields of a LABS that are over 1023, by its words: Y in the first, X in the second
 abbrev pub odd_labs : ItemWords → List Told
 odd_labs held.Nothing = []
 odd_labs (held.One first) = odd_fields (odd_field first) None
 odd_labs (held.Two first second) = odd_fields (odd_field first) (odd_field second)
+
+-- a HALT
+abbrev pub halt : List ℕ
+halt = codes "HALT stands in a shape"
+
+-- a draw at a lost place
+abbrev pub draws_at_lost_place : List ℕ
+draws_at_lost_place = codes "it draws lit at a lost place"
+
+-- a draw at an unknown scale
+abbrev pub draws_at_unknown_scale : List ℕ
+draws_at_unknown_scale = codes "it draws lit at unknown scale"
+
+-- what lights at a lost place: the box of the entry that the item names, or a draw
+abbrev pub box_or_draw : Option Entry → List ℕ
+box_or_draw (Some e) = codes "the entry that it names has a box, and the place is lost"
+box_or_draw None = draws_at_lost_place
+
+-- what lights at a lost place, by what was found there
+abbrev pub lost_place : Found → List ℕ
+lost_place (Seen v) = box_or_draw v.callee
+lost_place found = draws_at_lost_place
+
+-- a jump to the item's own address, or to a lower one
+abbrev pub jumps_back : ℕ → ℕ → List Told
+jumps_back at to = values (piece.Address to ∷ []) ++ said (if nat_eq to at then codes ", its own address" else codes ", a lower address")
 
 -- the corner that is past an edge, by how much; which corner of the item it is, is only tested
 abbrev pub past : Leaving → Bounds → List Told
@@ -73,13 +103,15 @@ words_over words most over = values (piece.Number words ∷ piece.Number most �
 
 -- what a cause of frames tells
 abbrev pub frame_why : Machine → List ℕ → FrameFinding → FrameCause → List Told
-frame_why machine words f frame.Unmapped = missing_word (frame_word machine words) f.fault.word 0 (length words - 1)
-frame_why machine words f frame.Odd = odd_labs (words_at (frame_word machine words) f.fault.word)
-frame_why machine words f (frame.BackJump to) = values (piece.Address to ∷ [])
-frame_why machine words f (frame.OffScreen leaving) = past leaving Window
-frame_why machine words f (frame.NoEntry to scale) = no_entry to scale
-frame_why machine words f (frame.Budget over) = words_over (words_with f.found) (words_with f.found - over) over
-frame_why machine words f other = []
+frame_why machine list f frame.Unmapped = missing_word (frame_word machine list) f.fault.word 0 (length list - 1)
+frame_why machine list f frame.Odd = odd_labs (words_at (frame_word machine list) f.fault.word)
+frame_why machine list f frame.ReturnInFrame = said (codes "RTSL stands in a frame")
+frame_why machine list f (frame.BackJump to) = jumps_back f.fault.word to
+frame_why machine list f frame.BeamUnknown = said (lost_place f.found)
+frame_why machine list f frame.ScaleUnknown = said draws_at_unknown_scale
+frame_why machine list f (frame.OffScreen leaving) = past leaving Window
+frame_why machine list f (frame.NoEntry to scale) = no_entry to scale
+frame_why machine list f (frame.Budget over) = words_over (words_with f.found) (words_with f.found - over) over
 
 -- what an entry claims, and what its shape needs, which takes so many words up to and with the item
 abbrev pub claim_why : Entry → ℕ → ShapeCause → List Told
@@ -95,9 +127,9 @@ claim_why e words other = words_over words e.words 0
 abbrev pub shape_why : Rom → ShapeFinding → ShapeCause → List Told
 shape_why rom f shape.Unmapped = missing_word (rom_word rom) f.fault.word rom.map.rom_first rom.map.rom_last
 shape_why rom f shape.Odd = odd_labs (words_at (rom_word rom) f.fault.word)
-shape_why rom f shape.HaltInShape = []
-shape_why rom f shape.BeamUnknown = []
-shape_why rom f shape.ScaleUnknown = []
+shape_why rom f shape.HaltInShape = said halt
+shape_why rom f shape.BeamUnknown = said (lost_place f.found)
+shape_why rom f shape.ScaleUnknown = said draws_at_unknown_scale
 shape_why rom f (shape.OffScreen leaving) = past leaving Window
 shape_why rom f (shape.NoEntry to scale) = no_entry to scale
 shape_why rom f (shape.BoxTooSmall leaving) = leaves_box leaving

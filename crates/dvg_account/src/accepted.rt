@@ -83,14 +83,14 @@ impl Survey {
 fn push_counts(lines: &mut Lines, yes: Yes, budget: u32)
     ensures { Adds lines.old lines.new (counts_lines yes budget) }
 {
-    lines.add(&[Line("shapes"), Number(yes.shapes as u64), Text(" of 4096")]);
     lines.add(&[
+        Line("shapes"),
+        Number(yes.shapes as u64),
+        Text(" of 4096"),
         Line("words"),
         Number(yes.words as u64),
         Text(" of the budget "),
         Number(budget as u64),
-    ]);
-    lines.add(&[
         Line("return places"),
         Number(yes.depth as u64),
         Text(" of 4"),

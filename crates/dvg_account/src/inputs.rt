@@ -1,11 +1,12 @@
 //! What was judged, and the account of a refusal before any item was judged.
 
-ghost use Rattle.std.specs.Prelude.{IfOk};
+ghost use Rattle.std.specs.Prelude.{◌≡◌, IfOk};
 ghost use Rattle.dvg_account.specs.Told.{told};
-ghost use Rattle.dvg_account.specs.Plain.{ArePlainLines};
+ghost use Rattle.dvg_account.specs.Plain.{plain_lines, told_of_line, told_plainly};
+ghost use Rattle.dvg_account.specs.Building.{Adds};
 
 use crate::lines::Lines;
-use crate::piece::Piece::{self, Cure, Fitting, Line, Number, Rule, Text, ToDo};
+use crate::piece::Piece::{self, Bytes, Cure, Expected, Fitting, Line, Number, Rule, Text, ToDo};
 use crate::starts::ShapeStarts;
 use dvg_cert::Cert;
 use dvg_check::{Mode, Refusal};
@@ -77,34 +78,30 @@ const MOST_FRAME_BYTES: usize = 2048;
 /// The most bytes of a ROM. Of a longer one, one byte more is read.
 const MOST_ROM_BYTES: usize = 4096;
 
-/// Adds how many bytes an input has, or that they are more than the most.
-fn push_length(lines: &mut Lines, bytes: usize, most: usize) {
-    let more = if bytes > most { "more than " } else { "" };
-    lines.add(&[Text(more), Number(bytes.min(most) as u64), Text(" bytes")]);
-}
-
 /// What is wrong with so many bytes of a ROM, if they are no more than the most.
-fn rom_fault(bytes: usize) -> Piece {
-    Text(if bytes < MOST_ROM_BYTES && bytes % 2 == 1 {
+fn rom_fault(bytes: usize) -> &'static str {
+    if bytes < MOST_ROM_BYTES && bytes % 2 == 1 {
         ", an odd number, and words "
     } else {
         ", and words "
-    })
+    }
 }
 
 /// What is wrong with so many bytes of a frame, if they are no more than the most.
-fn frame_fault(bytes: usize) -> Piece {
-    Text(if bytes == 0 {
+fn frame_fault(bytes: usize) -> &'static str {
+    if bytes == 0 {
         ", and one word is the least"
     } else if bytes < MOST_FRAME_BYTES {
         ", an odd number: words have two"
     } else {
         ""
-    })
+    }
 }
 
 /// Adds the lines that tell of a refused line of the certificate.
-fn push_line(lines: &mut Lines, line: u32, why: Option<LineWhy>) {
+fn push_line(lines: &mut Lines, line: u32, why: Option<LineWhy>)
+    ensures { Adds lines.old lines.new (told_of_line line why) }
+{
     let number = Number(line as u64);
     match why {
         None => lines.add(&[Line("certificate line"), number]),
@@ -114,17 +111,13 @@ fn push_line(lines: &mut Lines, line: u32, why: Option<LineWhy>) {
             Line("column"),
             Number(leaving.column as u64),
             Line("expected"),
-            Piece::Expected(leaving.expected),
+            Expected(leaving.expected),
         ]),
         Some(LineWhy::Count(counts)) => lines.add(&[
             Line("why"),
             Text("the `done` line says "),
             Number(counts.claimed as u64),
-            Text(if counts.claimed == 1 {
-                " entry"
-            } else {
-                " entries"
-            }),
+            Text(entries(counts.claimed)),
             Text(", and the certificate has "),
             Number(counts.found as u64),
             Line("certificate line"),
@@ -133,27 +126,35 @@ fn push_line(lines: &mut Lines, line: u32, why: Option<LineWhy>) {
     }
 }
 
-/// The lines that tell why, if something is known.
-fn why_lines(alloc: Global, why: PlainWhy) -> Result<Vec<Piece>, AllocError> {
-    let mut lines = Lines::new(alloc);
-    match why {
+/// The word for so many entries.
+fn entries(count: u16) -> &'static str {
+    if count == 1 { " entry" } else { " entries" }
+}
+
+/// Adds the lines that tell why, if something is known.
+fn push_plain(lines: &mut Lines, why: &PlainWhy)
+    ensures { Adds lines.old lines.new (told_plainly why.now) }
+{
+    match *why {
         PlainWhy::Nothing => {}
-        PlainWhy::RomLength { bytes, map } => {
-            lines.add(&[Line("why"), Text("the ROM has ")]);
-            push_length(&mut lines, bytes, MOST_ROM_BYTES);
-            lines.add(&[rom_fault(bytes), Fitting(map, bytes)]);
-        }
-        PlainWhy::FrameLength { bytes } => {
-            lines.add(&[Line("why"), Text("the frame has ")]);
-            push_length(&mut lines, bytes, MOST_FRAME_BYTES);
-            lines.add(&[frame_fault(bytes)]);
-        }
+        PlainWhy::RomLength { bytes, map } => lines.add(&[
+            Line("why"),
+            Text("the ROM has "),
+            Bytes(bytes, MOST_ROM_BYTES),
+            Text(rom_fault(bytes)),
+            Fitting(map, bytes),
+        ]),
+        PlainWhy::FrameLength { bytes } => lines.add(&[
+            Line("why"),
+            Text("the frame has "),
+            Bytes(bytes, MOST_FRAME_BYTES),
+            Text(frame_fault(bytes)),
+        ]),
         PlainWhy::Budget(budget) => {
             lines.add(&[Line("why"), Text("the budget is "), Number(budget as u64)])
         }
-        PlainWhy::Line { line, why } => push_line(&mut lines, line, why),
+        PlainWhy::Line { line, why } => push_line(lines, line, why),
     }
-    lines.finish()
 }
 
 /// The lines of a refusal with this number before any item was judged on a machine (this project's own).
@@ -163,13 +164,12 @@ pub fn plain_lines(
     number: u8,
     why: PlainWhy,
 ) -> Result<Vec<Piece>, AllocError>
-    ensures { IfOk result (λ lines. ArePlainLines machine number (told lines.items)) }
+    ensures { IfOk result (λ lines. told lines.items ≡ plain_lines machine number why) }
 {
-    let why = why_lines(alloc, why)?;
     let mut lines = Lines::new(alloc);
     lines.push_machine(machine);
     lines.add(&[Line("rule"), Rule(number)]);
-    lines.add(&why);
+    push_plain(&mut lines, &why);
     lines.add(&[ToDo, Cure(number)]);
     lines.finish()
 }

@@ -136,11 +136,12 @@ fn push_at(lines: &mut Lines, role: Role, at: u16)
 fn push_words(lines: &mut Lines, role: Role, words: ItemWords)
     ensures { Adds lines.old lines.new (of role (codes "holds") (words_of words)) }
 {
-    let key = role.key("holds");
     match words {
-        ItemWords::Nothing => lines.add(&[key, Text("nothing")]),
-        ItemWords::One(first) => lines.add(&[key, Word(first)]),
-        ItemWords::Two(first, second) => lines.add(&[key, Word(first), Text(" "), Word(second)]),
+        ItemWords::Nothing => lines.add_as(role, "holds", &[Text("nothing")]),
+        ItemWords::One(first) => lines.add_as(role, "holds", &[Word(first)]),
+        ItemWords::Two(first, second) => {
+            lines.add_as(role, "holds", &[Word(first), Text(" "), Word(second)])
+        }
     }
 }
 
@@ -148,10 +149,9 @@ fn push_words(lines: &mut Lines, role: Role, words: ItemWords)
 fn push_instruction(lines: &mut Lines, role: Role, instruction: Option<Instruction>)
     ensures { Adds lines.old lines.new (of role (codes "instruction") (option_to_list (option_map pieces.Instruction instruction))) }
 {
-    let key = role.key("instruction");
     match instruction {
-        Some(instruction) => lines.add(&[key, Piece::Instruction(instruction)]),
-        None => lines.add(&[key, Text("none")]),
+        Some(there) => lines.add_as(role, "instruction", &[Piece::Instruction(there)]),
+        None => lines.add_as(role, "instruction", &[Text("none")]),
     }
 }
 
@@ -160,7 +160,7 @@ fn push_called(lines: &mut Lines, role: Role, called: Option<Entry>)
     ensures { Adds lines.old lines.new (one (λ e. of role (codes "called entry") (pieces.Entry e ∷ [])) called) }
 {
     if let Some(entry) = called {
-        lines.add(&[role.key("called entry"), Piece::Entry(entry)]);
+        lines.add_as(role, "called entry", &[Piece::Entry(entry)]);
     }
 }
 
@@ -169,7 +169,7 @@ pub fn push_item(lines: &mut Lines, role: Role, key: &'static str, item: Option<
     ensures { Adds lines.old lines.new (item_line role key.now item) }
 {
     if let Some(item) = item {
-        lines.add(&[role.key(key), Piece::Item(item)]);
+        lines.add_as(role, key, &[Piece::Item(item)]);
     }
 }
 
@@ -178,9 +178,9 @@ fn push_known(lines: &mut Lines, role: Role, before: Option<Known>)
     ensures { Adds lines.old lines.new (one (known_lines role) before) }
 {
     if let Some(before) = before {
-        lines.add(&[role.key("place before"), Place(before.place)]);
-        lines.add(&[role.key("scale before"), Scale(before.scale)]);
-        lines.add(&[role.key("words before"), Number(before.words as u64)]);
+        lines.add_as(role, "place before", &[Place(before.place)]);
+        lines.add_as(role, "scale before", &[Scale(before.scale)]);
+        lines.add_as(role, "words before", &[Number(before.words as u64)]);
     }
 }
 
@@ -188,21 +188,10 @@ fn push_known(lines: &mut Lines, role: Role, before: Option<Known>)
 fn push_zeros(lines: &mut Lines, role: Role, zeros: Option<Zeros>)
     ensures { Adds lines.old lines.new (one (zeros_lines role) zeros) }
 {
-    if let Some(
-        Zeros {
-            first,
-            last,
-            before,
-        },
-    ) = zeros
-    {
-        lines.add(&[
-            role.key("zeros"),
-            Address(first),
-            Text(" to "),
-            Address(last),
-        ]);
-        push_before_zeros(lines, role, before);
+    if let Some(zeros) = zeros {
+        let between = [Address(zeros.first), Text(" to "), Address(zeros.last)];
+        lines.add_as(role, "zeros", &between);
+        push_before_zeros(lines, role, zeros.before);
     }
 }
 
@@ -210,10 +199,9 @@ fn push_zeros(lines: &mut Lines, role: Role, zeros: Option<Zeros>)
 fn push_before_zeros(lines: &mut Lines, role: Role, before: Option<Item>)
     ensures { Adds lines.old lines.new (of role (codes "before zeros") (option_to_list (option_map pieces.Item before))) }
 {
-    let key = role.key("before zeros");
     match before {
-        Some(item) => lines.add(&[key, Piece::Item(item)]),
-        None => lines.add(&[key, Text("none")]),
+        Some(item) => lines.add_as(role, "before zeros", &[Piece::Item(item)]),
+        None => lines.add_as(role, "before zeros", &[Text("none")]),
     }
 }
 

@@ -1,11 +1,12 @@
 //! The lines of an account, put together of pieces.
 
-ghost use Rattle.std.specs.Prelude.{◌≡◌, [], Some, IfOk};
-ghost use Rattle.dvg_account.specs.Told.{told};
+ghost use Rattle.std.specs.Prelude.{◌≡◌, ◌++◌, [], Some, IfOk};
+ghost use Rattle.dvg_account.specs.Told.{told, keyed};
 ghost use Rattle.dvg_account.specs.Building.{Adds, Tells};
 ghost use Rattle.dvg_account.specs.Machines.{machine_lines, IsZone};
 
 use crate::piece::Piece::{self, Line, Text};
+use crate::piece::Role;
 use dvg_words::{CLIPPED, Machine, Window};
 use std::alloc::{AllocError, Global};
 use std::marker::Model;
@@ -47,6 +48,14 @@ impl Lines {
         if added.is_err() {
             self.pieces = Err(AllocError);
         }
+    }
+
+    /// Adds a line about the item in a role, with this key and these pieces.
+    pub fn add_as(&mut self, role: Role, key: &'static str, pieces: &[Piece])
+        ensures { Adds self.old self.new (keyed role key.now ++ told pieces.now) }
+    {
+        self.add(&[role.key(key)]);
+        self.add(pieces);
     }
 
     /// Adds the line that names a machine, unless it is the profile's.

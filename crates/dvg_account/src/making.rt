@@ -1,11 +1,11 @@
 //! The account of an answer of the maker.
 
-ghost use Rattle.std.specs.Prelude.{◌≡◌, ◌∷◌, [], option_copied, IfOk};
-ghost use Rattle.dvg_account.specs.Told.{told, values, one};
-ghost use Rattle.dvg_account.specs.Making.{made_lines, most_words, most_depth, way_lines, why_lines, maker_why, call_why, frame_of_call, UnmadeLines, IsCallItem, IsMakerItem};
+ghost use Rattle.std.specs.Prelude.{◌≡◌, option_copied, flat_map, IfOk, OnOk};
+ghost use Rattle.dvg_account.specs.Told.{told, one};
+ghost use Rattle.dvg_account.specs.Making.{made_lines, most_words, most_depth, way_lines, chain_lines, asked_by, caller_told, ring_line, why_lines, maker_why, call_why, frame_of_call, TellsBelow, UnmadeLines, IsCallItem, IsMakerItem};
 ghost use Rattle.dvg_account.specs.Items.{lines_as};
-ghost use Rattle.dvg_account.specs.declared.piece.Piece.TheVariants.{Name};
-ghost use Rattle.dvg_account.specs.Building.{Adds};
+ghost use Rattle.dvg_account.specs.Chains.{shape_name, shape_steps};
+ghost use Rattle.dvg_account.specs.Building.{Adds, Tells};
 
 use crate::chains::push_steps;
 use crate::cure::advice;
@@ -13,7 +13,7 @@ use crate::item::RefusedItem;
 use crate::lines::Lines;
 use crate::meant::{meant, push_meant};
 use crate::middle::{middle_of, push_middle};
-use crate::piece::Piece::{self, Address, Line, Name, Number, Rule, Text, ToDo};
+use crate::piece::Piece::{self, Address, Line, Name, Number, Rule, Text, ToDo, Words};
 use crate::piece::Role;
 use crate::why::{
     AT_LOST_PLACE, AT_UNKNOWN_SCALE, HALT_IN_SHAPE, IN_ROM, push_missing, push_odd, push_words_over,
@@ -79,16 +79,14 @@ pub fn unmade_lines(
     let item = item_of(rom, frame, account);
     let meant = meant(alloc, rom, account)?;
     let middle = middle_of(rom.machine(), frame, account);
-    let chain = chain_lines(alloc, account)?;
-    let below = below_lines(alloc, rom, account.cause)?;
     let mut lines = Lines::new(alloc);
     lines.push_machine(rom.machine());
     lines.add(&[Line("rule"), Rule(number)]);
     push_why(&mut lines, rom, account);
     push_meant(&mut lines, account.at, meant);
     push_middle(&mut lines, middle);
-    push_way(&mut lines, &call, &item, &chain);
-    lines.add(&below);
+    push_way(&mut lines, &call, &item, account);
+    push_below(alloc, rom, account.cause, &mut lines)?;
     lines.add(&[ToDo]);
     lines.add(&advice(rom.map(), account));
     lines.finish()
@@ -135,24 +133,24 @@ fn item_of(rom: &RomImage, frame: Option<&FrameImage>, account: &MakeAccount) ->
     }
 }
 
-/// The lines of the item, and of the way to where the making stops. The item of a frame is its call.
+/// Adds the lines of the item, and of the way to where the making stops. The item of a frame is its call.
 fn push_way(
     lines: &mut Lines,
     call: &Option<RefusedItem>,
     item: &Option<RefusedItem>,
-    chain: &[Piece],
+    account: &MakeAccount,
 )
-    ensures { Adds lines.old lines.new (way_lines call.now item.now (told chain.now)) }
+    ensures { Adds lines.old lines.new (way_lines call.now item.now (chain_lines account.now account.now.cause)) }
 {
     match call {
         Some(call) => {
             call.push_lines(Role::Refused, lines);
-            lines.add(chain);
+            push_chain(lines, account);
             push_item(lines, Role::Stop, item);
         }
         None => {
             push_item(lines, Role::Refused, item);
-            lines.add(chain);
+            push_chain(lines, account);
         }
     }
 }
@@ -166,30 +164,46 @@ fn push_item(lines: &mut Lines, role: Role, item: &Option<RefusedItem>)
     }
 }
 
-/// The lines of the shapes on the way to the one that can't be made, and of those that need one another.
-fn chain_lines(alloc: Global, account: &MakeAccount) -> Result<Vec<Piece>, AllocError> {
-    let mut lines = Lines::new(alloc);
+/// Adds the lines of the shapes on the way to the one that can't be made, and of those that need one another.
+fn push_chain(lines: &mut Lines, account: &MakeAccount)
+    ensures { Adds lines.old lines.new (chain_lines account.now account.now.cause) }
+{
+    push_shapes(lines, account.fault.call, &account.chain);
+    if let EntryCause::Ring { from } = account.cause {
+        push_ring(lines, account.chain.get(from..).unwrap_or(&[]));
+    }
+}
+
+/// Adds the lines of shapes that lead from one to the next, of which a frame's call or a root asks for the first.
+fn push_shapes(lines: &mut Lines, call: Option<FrameCall>, shapes: &[ShapeAt])
+    ensures { Adds lines.old lines.new (shape_steps (asked_by call) shapes.now) }
+{
     let mut caller = None;
-    for shape in &account.chain {
+    for shape in shapes {
         lines.add(&[Line("chain")]);
-        push_caller(&mut lines, account.fault.call, caller);
+        push_caller(lines, call, caller);
         lines.add(&[Text(" leads to "), Name(shape.addr, shape.key)]);
         caller = Some(*shape);
     }
-    if let EntryCause::Ring { from } = account.cause {
-        for shape in account.chain.iter().skip(from) {
-            lines.add(&[Line("ring"), Name(shape.addr, shape.key)]);
-        }
-    }
-    lines.finish()
 }
 
 /// Adds what asks for a shape: the shape before it, a frame's call, or a root.
-fn push_caller(lines: &mut Lines, call: Option<FrameCall>, caller: Option<ShapeAt>) {
+fn push_caller(lines: &mut Lines, call: Option<FrameCall>, caller: Option<ShapeAt>)
+    ensures { Adds lines.old lines.new (caller_told call caller) }
+{
     match (caller, call) {
         (Some(shape), _) => lines.add(&[Name(shape.addr, shape.key)]),
         (None, Some(call)) => lines.add(&[Text("frame at "), Address(call.at)]),
         (None, None) => lines.add(&[Text("root")]),
+    }
+}
+
+/// Adds the lines of the shapes that need one another.
+fn push_ring(lines: &mut Lines, shapes: &[ShapeAt])
+    ensures { Adds lines.old lines.new (flat_map ring_line shapes.now) }
+{
+    for shape in shapes {
+        lines.add(&[Line("ring"), Name(shape.addr, shape.key)]);
     }
 }
 
@@ -219,10 +233,12 @@ fn push_call_why(lines: &mut Lines, rom: &RomImage, account: &MakeAccount)
         EntryCause::Missing if at < RAM_WORDS => lines.add(&[
             Text("word "),
             Address(at),
-            Text(" is in vector RAM, and a call into vector RAM is always refused"),
+            Words(" is in vector RAM"),
+            Text(", and a call into vector RAM is always refused"),
         ]),
         EntryCause::BeamUnknown | EntryCause::ScaleUnknown => lines.add(&[
-            Text("no LABS before the call sets the scale, and what it calls draws lit at "),
+            Words("no LABS before the call sets the scale"),
+            Text(", and what it calls draws lit at "),
             Address(at),
         ]),
         _ => {
@@ -242,9 +258,9 @@ fn push_maker_why(lines: &mut Lines, rom: &RomImage, account: &MakeAccount)
             push_missing(lines, rom, at, IN_ROM, rom.map().first(), rom.map().last())
         }
         EntryCause::Odd => push_odd(lines, rom, at),
-        EntryCause::Halt => lines.add(&[Text(HALT_IN_SHAPE)]),
-        EntryCause::BeamUnknown => lines.add(&[Text(AT_LOST_PLACE)]),
-        EntryCause::ScaleUnknown => lines.add(&[Text(AT_UNKNOWN_SCALE)]),
+        EntryCause::Halt => lines.add(&[Words(HALT_IN_SHAPE)]),
+        EntryCause::BeamUnknown => lines.add(&[Words(AT_LOST_PLACE)]),
+        EntryCause::ScaleUnknown => lines.add(&[Words(AT_UNKNOWN_SCALE)]),
         EntryCause::Ring { from } => push_needed(lines, account.chain.get(from)),
         EntryCause::Deep { to, scale } => {
             lines.add(&[
@@ -259,14 +275,14 @@ fn push_maker_why(lines: &mut Lines, rom: &RomImage, account: &MakeAccount)
             let over = words.saturating_sub(MOST_WORDS);
             push_words_over(lines, words, "a shape may take ", MOST_WORDS, over)
         }
-        EntryCause::TooManyEntries => lines.add(&[Text("it would be the 4097th entry")]),
+        EntryCause::TooManyEntries => lines.add(&[Words("it would be the 4097th entry")]),
         EntryCause::Memory => {}
     }
 }
 
 /// Adds that an item leads to a shape which needs it.
 fn push_needed(lines: &mut Lines, shape: Option<&ShapeAt>)
-    ensures { Adds lines.old lines.new (one (λ s. values (Name s.addr s.key ∷ [])) (option_copied shape.entry)) }
+    ensures { Adds lines.old lines.new (one shape_name (option_copied shape.entry)) }
 {
     if let Some(shape) = shape {
         let name = Name(shape.addr, shape.key);
@@ -274,14 +290,21 @@ fn push_needed(lines: &mut Lines, shape: Option<&ShapeAt>)
     }
 }
 
-/// The lines of the calls below what the item calls, where calls go too deep by it.
-fn below_lines(alloc: Global, rom: &RomImage, cause: EntryCause) -> Result<Vec<Piece>, AllocError> {
-    let mut lines = Lines::new(alloc);
-    if let EntryCause::Deep { to, scale } = cause {
-        let calls = calls_below(alloc, rom, to, scale)?;
-        push_steps(&mut lines, "below", Some((to, scale)), &calls);
-    }
-    lines.finish()
+/// Adds the lines of the calls below what the item calls, where calls go too deep by it.
+fn push_below(
+    alloc: Global,
+    rom: &RomImage,
+    cause: EntryCause,
+    lines: &mut Lines,
+) -> Result<(), AllocError>
+    ensures { OnOk result (Tells lines.old lines.new (TellsBelow cause)) }
+{
+    let EntryCause::Deep { to, scale } = cause else {
+        return Ok(());
+    };
+    let calls = calls_below(alloc, rom, to, scale)?;
+    push_steps(lines, "below", Some((to, scale)), &calls);
+    Ok(())
 }
 
 /// The calls that go deepest below a shape, by the certificate of that shape alone.

@@ -20,7 +20,11 @@ pub enum Piece {
     ToDo,
     /// Words between values.
     Text(&'static str),
+    /// Words that tell something by themselves.
+    Words(&'static str),
     Number(u64),
+    /// How many bytes an input has, which may have so many at most.
+    Bytes(usize, usize),
     /// A word address, by the label that names it, if one does.
     Address(u16),
     /// A word address alone, whatever label names it.

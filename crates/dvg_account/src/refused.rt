@@ -18,7 +18,7 @@ use crate::furthest::furthest;
 use crate::inputs::{Inputs, plain_lines};
 use crate::item::{RefusedItem, callee_of, push_item};
 use crate::lines::Lines;
-use crate::piece::Piece::{self, Cure, Line, Name, OrHalt, Rule, Text, ToDo};
+use crate::piece::Piece::{self, Cure, Line, Name, OrHalt, Rule, Text, ToDo, Words};
 use crate::piece::Role;
 use crate::why::{push_frame_why, push_shape_why};
 use dvg_cert::{Cert, Entries, Entry, HashIndex, ListIndex};
@@ -210,7 +210,7 @@ fn shape_lines(
 
 /// Adds that the certificate may have been made for the other machine, if this fault may come of it.
 fn push_other_machine(lines: &mut Lines, machine: Machine, why: ShapeWhy)
-    ensures { Adds lines.old lines.new (other_machine_lines why) }
+    ensures { Adds lines.old lines.new (other_machine_lines machine why) }
 {
     let (ShapeWhy::EndDiffers | ShapeWhy::BoxTooSmall) = why else {
         return;
@@ -218,11 +218,13 @@ fn push_other_machine(lines: &mut Lines, machine: Machine, why: ShapeWhy)
     lines.add(&[
         Line("other machine"),
         Text("the certificate may have been made "),
+        Words(match machine {
+            Machine::Profile => "for the board",
+            Machine::Board => "without `--board`",
+        }),
         Text(match machine {
-            Machine::Profile => {
-                "for the board, by `make --board`; `make` without it makes one for this machine"
-            }
-            Machine::Board => "without `--board`; `make --board` makes one for the board",
+            Machine::Profile => ", by `make --board`; `make` without it makes one for this machine",
+            Machine::Board => "; `make --board` makes one for the board",
         }),
     ]);
 }

@@ -109,8 +109,9 @@ fn push_piece(text: &mut Text, telling: Telling, piece: &Piece) {
         Piece::Line(key) => text.begin_line("", key),
         Piece::There(key) => text.begin_line("there ", key),
         Piece::ToDo => push_to_do(text, telling.swapped),
-        Piece::Text(words) => text.push(words),
+        Piece::Text(words) | Piece::Words(words) => text.push(words),
         Piece::Number(number) => text.push_decimal(*number),
+        Piece::Bytes(bytes, most) => push_bytes(text, *bytes, *most),
         Piece::Address(addr) => text.push_address(*addr),
         Piece::BareAddress(addr) => text.push_hex_address(*addr),
         Piece::At(addr) => push_at(text, *addr),
@@ -144,6 +145,15 @@ fn push_to_do(text: &mut Text, swapped: Option<Swapped>) {
         text.push(whose_bytes(swapped));
         text.push("; or, if they are right as they are, ");
     }
+}
+
+/// How many bytes an input has, or that they are more than the most: of those behind them one was read.
+fn push_bytes(text: &mut Text, bytes: usize, most: usize) {
+    if bytes > most {
+        text.push("more than ");
+    }
+    text.push_decimal(bytes.min(most));
+    text.push(" bytes");
 }
 
 /// A number and its meaning, if it has one.

@@ -2,13 +2,13 @@
 
 ghost use Rattle.std.specs.Prelude.{◌≡◌};
 ghost use Rattle.dvg_account.specs.Items.{words_at};
-ghost use Rattle.dvg_account.specs.Why.{frame_why, shape_why, claim_why, missing_word, odd_field, odd_fields, odd_labs, no_entry, leaves_box, words_with, words_over, past};
+ghost use Rattle.dvg_account.specs.Why.{frame_why, shape_why, claim_why, missing_word, odd_field, odd_fields, odd_labs, lost_place, no_entry, leaves_box, words_with, words_over, past};
 ghost use Rattle.dvg_account.specs.Building.{Adds};
 
 use crate::item::{ItemWords, words_at};
 use crate::lines::Lines;
 use crate::piece::Bounds;
-use crate::piece::Piece::{self, Address, Number, Past, Place, Scale, Text};
+use crate::piece::Piece::{self, Address, Number, Past, Place, Scale, Text, Words};
 use dvg_cert::{End, Entry, Key};
 use dvg_check::{BoxLeaving, Found, FrameCause, FrameFinding, Leaving, ShapeCause, ShapeFinding};
 use dvg_items::{LitExtent, Seen};
@@ -72,19 +72,23 @@ fn push_odd_fields(lines: &mut Lines, y: Option<u16>, x: Option<u16>)
     let most = Text(", at most 1023");
     match (y, x) {
         (Some(y), Some(x)) => lines.add(&[
-            Text("bit 11 or bit 10 is set in both its words: Y "),
+            Text("bit 11 or bit 10 is set in both its words: "),
+            Words("Y "),
             Number(y as u64),
-            Text(", X "),
+            Text(", "),
+            Words("X "),
             Number(x as u64),
             most,
         ]),
         (Some(y), None) => lines.add(&[
-            Text("bit 11 or bit 10 is set in its first word: Y "),
+            Text("bit 11 or bit 10 is set in its first word: "),
+            Words("Y "),
             Number(y as u64),
             most,
         ]),
         (None, Some(x)) => lines.add(&[
-            Text("bit 11 or bit 10 is set in its second word: X "),
+            Text("bit 11 or bit 10 is set in its second word: "),
+            Words("X "),
             Number(x as u64),
             most,
         ]),
@@ -102,7 +106,9 @@ pub const AT_LOST_PLACE: &str = "it draws lit at a lost place";
 pub const AT_UNKNOWN_SCALE: &str = "it draws lit at unknown scale";
 
 /// What lights at a lost place: the box of the entry that the item names, or a draw.
-fn lost_place(found: &Found) -> &'static str {
+fn lost_place(found: &Found) -> &'static str
+    ensures { result.now ≡ lost_place found.now }
+{
     match found {
         Found::Seen(
             Seen {
@@ -238,20 +244,21 @@ pub fn push_frame_why(
             push_missing(lines, &framed, at, IN_FRAME, 0, last)
         }
         FrameCause::Odd => push_odd(lines, &framed, at),
-        FrameCause::ReturnInFrame => lines.add(&[Text(
-            "RTSL stands in a frame, and there is no call to return from",
-        )]),
+        FrameCause::ReturnInFrame => lines.add(&[
+            Words("RTSL stands in a frame"),
+            Text(", and there is no call to return from"),
+        ]),
         FrameCause::BackJump(to) => lines.add(&[
             Text("it jumps to "),
             Address(to),
-            Text(if to == at {
+            Words(if to == at {
                 ", its own address"
             } else {
                 ", a lower address"
             }),
         ]),
-        FrameCause::BeamUnknown => lines.add(&[Text(lost_place(found))]),
-        FrameCause::ScaleUnknown => lines.add(&[Text(AT_UNKNOWN_SCALE)]),
+        FrameCause::BeamUnknown => lines.add(&[Words(lost_place(found))]),
+        FrameCause::ScaleUnknown => lines.add(&[Words(AT_UNKNOWN_SCALE)]),
         FrameCause::OffScreen(leaving) => push_past(lines, found, leaving, Bounds::Window),
         FrameCause::NoEntry { to, scale } => push_no_entry(lines, to, scale),
         FrameCause::Budget(over) => {
@@ -278,9 +285,9 @@ pub fn push_shape_why(lines: &mut Lines, finding: &ShapeFinding, rom: &RomImage)
             push_missing(lines, rom, at, IN_ROM, rom.map().first(), rom.map().last())
         }
         ShapeCause::Odd => push_odd(lines, rom, at),
-        ShapeCause::HaltInShape => lines.add(&[Text(HALT_IN_SHAPE)]),
-        ShapeCause::BeamUnknown => lines.add(&[Text(lost_place(found))]),
-        ShapeCause::ScaleUnknown => lines.add(&[Text(AT_UNKNOWN_SCALE)]),
+        ShapeCause::HaltInShape => lines.add(&[Words(HALT_IN_SHAPE)]),
+        ShapeCause::BeamUnknown => lines.add(&[Words(lost_place(found))]),
+        ShapeCause::ScaleUnknown => lines.add(&[Words(AT_UNKNOWN_SCALE)]),
         ShapeCause::OffScreen(leaving) => push_past(lines, found, leaving, Bounds::Window),
         ShapeCause::NoEntry { to, scale } => push_no_entry(lines, to, scale),
         ShapeCause::BoxTooSmall(leaving) => push_leaves_box(lines, found, leaving),
