@@ -23,9 +23,13 @@ told_plainly plain.Nothing = []
 told_plainly (plain.RomLength bytes map) = line (codes "why") (Bytes bytes 4096 ∷ Fitting map bytes ∷ [])
 told_plainly (plain.FrameLength bytes) = line (codes "why") (Bytes bytes 2048 ∷ [])
 told_plainly (plain.Budget budget) = line (codes "why") (Number budget ∷ [])
-told_plainly (plain.Line number why) = told_of_line number why
+told_plainly (plain.Line number) = told_of_line number None
 
 -- the lines of an account without an item: the machine, the rule, why, and what to do
-abbrev pub plain_lines : Machine → ℕ → PlainWhy → List Told
-plain_lines machine number why = machine_lines machine ++ line (codes "rule") (Rule number ∷ []) ++ told_plainly why
+abbrev pub framed : Machine → ℕ → List Told → List Told
+framed machine number why = machine_lines machine ++ line (codes "rule") (Rule number ∷ []) ++ why
     ++ line (codes "what to do") (Cure number ∷ [])
+
+-- those of such a refusal
+abbrev pub plain_lines : Machine → ℕ → PlainWhy → List Told
+plain_lines machine number why = framed machine number (told_plainly why)

@@ -2,7 +2,7 @@
 
 ghost use Rattle.std.specs.Prelude.{◌≡◌, IfOk};
 ghost use Rattle.dvg_account.specs.Told.{told};
-ghost use Rattle.dvg_account.specs.Plain.{plain_lines, told_of_line, told_plainly};
+ghost use Rattle.dvg_account.specs.Plain.{framed, plain_lines, told_of_line, told_plainly};
 ghost use Rattle.dvg_account.specs.Building.{Adds};
 
 use crate::lines::Lines;
@@ -47,8 +47,8 @@ pub enum PlainWhy {
     FrameLength { bytes: usize },
     /// The budget is so many words.
     Budget(u32),
-    /// This line of the certificate is refused, and so much is known of why.
-    Line { line: u32, why: Option<LineWhy> },
+    /// This line of the certificate is refused.
+    Line(u32),
 }
 
 impl<'a> Inputs<'a> {
@@ -63,10 +63,7 @@ impl<'a> Inputs<'a> {
                 bytes: self.frame.len(),
             },
             (Refusal::BudgetRange, _) => PlainWhy::Budget(self.budget),
-            (Refusal::Cert(fault), _) => PlainWhy::Line {
-                line: fault.line,
-                why: None,
-            },
+            (Refusal::Cert(fault), _) => PlainWhy::Line(fault.line),
             _ => PlainWhy::Nothing,
         }
     }
@@ -98,7 +95,7 @@ fn frame_fault(bytes: usize) -> &'static str {
     }
 }
 
-/// Adds the lines that tell of a refused line of the certificate.
+/// Adds the lines that tell of a refused line of the certificate, and of why, if that is known.
 fn push_line(lines: &mut Lines, line: u32, why: Option<LineWhy>)
     ensures { Adds lines.old lines.new (told_of_line line why) }
 {
@@ -132,10 +129,10 @@ fn entries(count: u16) -> &'static str {
 }
 
 /// Adds the lines that tell why, if something is known.
-fn push_plain(lines: &mut Lines, why: &PlainWhy)
-    ensures { Adds lines.old lines.new (told_plainly why.now) }
+fn push_plain(lines: &mut Lines, why: PlainWhy)
+    ensures { Adds lines.old lines.new (told_plainly why) }
 {
-    match *why {
+    match why {
         PlainWhy::Nothing => {}
         PlainWhy::RomLength { bytes, map } => lines.add(&[
             Line("why"),
@@ -153,7 +150,7 @@ fn push_plain(lines: &mut Lines, why: &PlainWhy)
         PlainWhy::Budget(budget) => {
             lines.add(&[Line("why"), Text("the budget is "), Number(budget as u64)])
         }
-        PlainWhy::Line { line, why } => push_line(lines, line, why),
+        PlainWhy::Line(line) => { lines.add(&[Line("certificate line"), Number(line as u64)]) }
     }
 }
 
@@ -169,7 +166,25 @@ pub fn plain_lines(
     let mut lines = Lines::new(alloc);
     lines.push_machine(machine);
     lines.add(&[Line("rule"), Rule(number)]);
-    push_plain(&mut lines, &why);
+    push_plain(&mut lines, why);
+    lines.add(&[ToDo, Cure(number)]);
+    lines.finish()
+}
+
+/// The lines of a refusal of a certificate's text with this number, by this line, of which so much is known (this project's own).
+pub fn line_lines(
+    machine: Machine,
+    alloc: Global,
+    number: u8,
+    line: u32,
+    why: Option<LineWhy>,
+) -> Result<Vec<Piece>, AllocError>
+    ensures { IfOk result (λ lines. told lines.items ≡ framed machine number (told_of_line line why)) }
+{
+    let mut lines = Lines::new(alloc);
+    lines.push_machine(machine);
+    lines.add(&[Line("rule"), Rule(number)]);
+    push_line(&mut lines, line, why);
     lines.add(&[ToDo, Cure(number)]);
     lines.finish()
 }

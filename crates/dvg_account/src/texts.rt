@@ -1,7 +1,7 @@
 //! The accounts of answers, as texts. Where labels are given, they name the addresses: `SHIP+3 (819)` is three words past `SHIP`.
 
 use crate::answers::verdict_lines;
-use crate::inputs::{Inputs, PlainWhy, plain_lines};
+use crate::inputs::{Inputs, PlainWhy, line_lines, plain_lines};
 use crate::leaving::leaving_lines;
 use crate::making::{made_lines, unmade_lines};
 use crate::own::{frame_lines, own_lines};
@@ -153,7 +153,7 @@ pub fn leaving_text(
     text_of(alloc, Telling::of_own(None), &lines, labels)
 }
 
-/// The account of a certificate's text that is refused, as a text of [`plain_lines`].
+/// The account of a certificate's text that is refused, as a text of [`line_lines`].
 pub fn certificate_text(
     machine: Machine,
     alloc: Global,
@@ -161,11 +161,7 @@ pub fn certificate_text(
     labels: Option<&Labels>,
 ) -> Result<String, AllocError> {
     let fault = refused.fault();
-    let why = PlainWhy::Line {
-        line: fault.line,
-        why: refused.why(),
-    };
-    let lines = plain_lines(machine, alloc, fault.number(), why)?;
+    let lines = line_lines(machine, alloc, fault.number(), fault.line, refused.why())?;
     text_of(alloc, Telling::of_given(None), &lines, labels)
 }
 

@@ -14,13 +14,12 @@ returns c = if_ok c.finish.result c.finish.ensures (λ lines all. record {
   means = c.in_ok-meant.ensures;
   middle = c.middle_of-middle.result;
   jumps = rw (← c.machine-2.ensures, ← c.frame_of_call-frame.ensures) c.middle_of-middle.ensures;
-  chain = c.in_ok-chain.chain.items;
-  below = c.in_ok-below.below.items;
+  below = c.in_ok-push_below.ensures.added;
+  deep = c.in_ok-push_below.ensures.is_such;
   advice = c.advice.result;
   lines_are = whole c.new-lines.ensures all
       (then (then (then (then (then (then (then (then (told_as (ap machine_lines c.machine-3.ensures) c.push_machine.ensures)
       (told_as (ap (λ n. Line (codes "rule") ∷ Value (Rule n) ∷ []) (c.number-number.ensures ∙ ap fault_number c.from.ensures))
-      c.add.ensures))
-      c.push_why.ensures) c.push_meant.ensures) c.push_middle.ensures) c.push_way.ensures)
-      c.add-2.ensures) c.add-3.ensures) c.add-4.ensures);
+      c.add.ensures)) c.push_why.ensures) c.push_meant.ensures) c.push_middle.ensures) c.push_way.ensures)
+      c.in_ok-push_below.ensures.adds) c.add-2.ensures) c.add-3.ensures);
 })
