@@ -107,13 +107,20 @@ maker_why rom at chain (cause.TooManyWords words) = words_over words MOST_WORDS 
 maker_why rom at chain cause.TooManyEntries = said (codes "it would be the 4097th entry")
 maker_why rom at chain cause.Memory = []
 
--- where what a frame's call asks for can't be made, and what the cause tells of that item; a word may be in vector RAM, and where the
--- scale is unknown the call lacks a LABS
+-- a word in vector RAM
+abbrev pub in_ram : ℕ → List Told
+in_ram at = values (Address at ∷ []) ++ said (codes " is in vector RAM")
+
+-- a draw for which the call lacks a LABS
+abbrev pub no_labs : ℕ → List Told
+no_labs at = said (codes "no LABS before the call sets the scale") ++ values (Address at ∷ [])
+
+-- where what a frame's call asks for can't be made, and what the cause tells of that item
 abbrev pub call_why : Rom → MakeAccount → EntryCause → List Told
-call_why rom a cause.Missing = values (Address a.at ∷ [])
-    ++ (if nat_lt a.at RAM_WORDS then said (codes " is in vector RAM") else maker_why rom a.at a.chain.items cause.Missing)
-call_why rom a cause.BeamUnknown = said (codes "no LABS before the call sets the scale") ++ values (Address a.at ∷ [])
-call_why rom a cause.ScaleUnknown = said (codes "no LABS before the call sets the scale") ++ values (Address a.at ∷ [])
+call_why rom a cause.BeamUnknown = no_labs a.at
+call_why rom a cause.ScaleUnknown = no_labs a.at
+call_why rom a cause.Missing =
+    if nat_lt a.at RAM_WORDS then in_ram a.at else values (Address a.at ∷ []) ++ maker_why rom a.at a.chain.items cause.Missing
 call_why rom a other = values (Address a.at ∷ []) ++ maker_why rom a.at a.chain.items other
 
 -- the sentence of a root's entry stands alone; that of a frame's call says where the making stops; of a want of memory there is none

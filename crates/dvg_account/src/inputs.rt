@@ -2,13 +2,13 @@
 
 ghost use Rattle.std.specs.Prelude.{◌≡◌, IfOk};
 ghost use Rattle.dvg_account.specs.Told.{told};
-ghost use Rattle.dvg_account.specs.Plain.{framed, plain_lines, told_of_line, told_plainly};
+ghost use Rattle.dvg_account.specs.Plain.{certificate_lines, plain_lines, told_of_line, told_of_why, told_plainly};
 ghost use Rattle.dvg_account.specs.Building.{Adds};
 
 use crate::lines::Lines;
 use crate::piece::Piece::{self, Bytes, Cure, Expected, Fitting, Line, Number, Rule, Text, ToDo};
 use crate::starts::ShapeStarts;
-use dvg_cert::Cert;
+use dvg_cert::{Cert, CertFault};
 use dvg_check::{Mode, Refusal};
 use dvg_labels::Labels;
 use dvg_text::LineWhy;
@@ -99,18 +99,26 @@ fn frame_fault(bytes: usize) -> &'static str {
 fn push_line(lines: &mut Lines, line: u32, why: Option<LineWhy>)
     ensures { Adds lines.old lines.new (told_of_line line why) }
 {
-    let number = Number(line as u64);
     match why {
-        None => lines.add(&[Line("certificate line"), number]),
-        Some(LineWhy::Form(leaving)) => lines.add(&[
+        None => lines.add(&[Line("certificate line"), Number(line as u64)]),
+        Some(why) => push_line_why(lines, line, why),
+    }
+}
+
+/// Adds the lines that tell of a refused line, and of why.
+fn push_line_why(lines: &mut Lines, line: u32, why: LineWhy)
+    ensures { Adds lines.old lines.new (told_of_why line why) }
+{
+    match why {
+        LineWhy::Form(leaving) => lines.add(&[
             Line("certificate line"),
-            number,
+            Number(line as u64),
             Line("column"),
             Number(leaving.column as u64),
             Line("expected"),
             Expected(leaving.expected),
         ]),
-        Some(LineWhy::Count(counts)) => lines.add(&[
+        LineWhy::Count(counts) => lines.add(&[
             Line("why"),
             Text("the `done` line says "),
             Number(counts.claimed as u64),
@@ -118,7 +126,7 @@ fn push_line(lines: &mut Lines, line: u32, why: Option<LineWhy>)
             Text(", and the certificate has "),
             Number(counts.found as u64),
             Line("certificate line"),
-            number,
+            Number(line as u64),
         ]),
     }
 }
@@ -171,20 +179,19 @@ pub fn plain_lines(
     lines.finish()
 }
 
-/// The lines of a refusal of a certificate's text with this number, by this line, of which so much is known (this project's own).
-pub fn line_lines(
+/// The lines of a certificate's text that is refused, with what is told of the refused line, if anything is (this project's own).
+pub fn certificate_lines(
     machine: Machine,
     alloc: Global,
-    number: u8,
-    line: u32,
+    fault: CertFault,
     why: Option<LineWhy>,
 ) -> Result<Vec<Piece>, AllocError>
-    ensures { IfOk result (λ lines. told lines.items ≡ framed machine number (told_of_line line why)) }
+    ensures { IfOk result (λ lines. told lines.items ≡ certificate_lines machine fault why) }
 {
     let mut lines = Lines::new(alloc);
     lines.push_machine(machine);
-    lines.add(&[Line("rule"), Rule(number)]);
-    push_line(&mut lines, line, why);
-    lines.add(&[ToDo, Cure(number)]);
+    lines.add(&[Line("rule"), Rule(fault.number())]);
+    push_line(&mut lines, fault.line, why);
+    lines.add(&[ToDo, Cure(fault.number())]);
     lines.finish()
 }

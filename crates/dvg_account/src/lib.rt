@@ -48,7 +48,7 @@ mod zeros;
 pub use answers::verdict_lines;
 pub use beginnings::Beginning;
 pub use dumps::dump_text;
-pub use inputs::{Inputs, PlainWhy, plain_lines};
+pub use inputs::{Inputs, PlainWhy, certificate_lines, plain_lines};
 pub use leaving::leaving_lines;
 pub use making::{made_lines, unmade_lines};
 pub use own::{frame_lines, own_lines};

@@ -1,7 +1,7 @@
 //! The accounts of answers, as texts. Where labels are given, they name the addresses: `SHIP+3 (819)` is three words past `SHIP`.
 
 use crate::answers::verdict_lines;
-use crate::inputs::{Inputs, PlainWhy, line_lines, plain_lines};
+use crate::inputs::{Inputs, PlainWhy, certificate_lines, plain_lines};
 use crate::leaving::leaving_lines;
 use crate::making::{made_lines, unmade_lines};
 use crate::own::{frame_lines, own_lines};
@@ -153,15 +153,14 @@ pub fn leaving_text(
     text_of(alloc, Telling::of_own(None), &lines, labels)
 }
 
-/// The account of a certificate's text that is refused, as a text of [`line_lines`].
+/// The account of a certificate's text that is refused, [`certificate_lines`] as a text.
 pub fn certificate_text(
     machine: Machine,
     alloc: Global,
     refused: &RefusedText,
     labels: Option<&Labels>,
 ) -> Result<String, AllocError> {
-    let fault = refused.fault();
-    let lines = line_lines(machine, alloc, fault.number(), fault.line, refused.why())?;
+    let lines = certificate_lines(machine, alloc, refused.fault(), refused.why())?;
     text_of(alloc, Telling::of_given(None), &lines, labels)
 }
 

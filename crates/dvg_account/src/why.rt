@@ -2,7 +2,7 @@
 
 ghost use Rattle.std.specs.Prelude.{◌≡◌};
 ghost use Rattle.dvg_account.specs.Items.{words_at};
-ghost use Rattle.dvg_account.specs.Why.{frame_why, shape_why, claim_why, missing_word, odd_field, odd_fields, odd_labs, lost_place, no_entry, leaves_box, words_with, words_over, past};
+ghost use Rattle.dvg_account.specs.Why.{frame_why, shape_why, claim_why, missing_word, odd_field, odd_fields, odd_labs, lost_place, jumps_back, no_entry, leaves_box, words_with, words_over, past};
 ghost use Rattle.dvg_account.specs.Building.{Adds};
 
 use crate::item::{ItemWords, words_at};
@@ -226,6 +226,18 @@ pub fn push_words_over(lines: &mut Lines, words: u32, allows: &'static str, most
     ]);
 }
 
+/// Adds that an item at a word address jumps to its own address, or to a lower one.
+fn push_jumps_back(lines: &mut Lines, at: u16, to: u16)
+    ensures { Adds lines.old lines.new (jumps_back at to) }
+{
+    let jumps = Text("it jumps to ");
+    if to == at {
+        lines.add(&[jumps, Address(to), Words(", its own address")]);
+    } else {
+        lines.add(&[jumps, Address(to), Words(", a lower address")]);
+    }
+}
+
 /// Adds why an item of a frame is refused on a machine.
 pub fn push_frame_why(
     lines: &mut Lines,
@@ -248,15 +260,7 @@ pub fn push_frame_why(
             Words("RTSL stands in a frame"),
             Text(", and there is no call to return from"),
         ]),
-        FrameCause::BackJump(to) => lines.add(&[
-            Text("it jumps to "),
-            Address(to),
-            Words(if to == at {
-                ", its own address"
-            } else {
-                ", a lower address"
-            }),
-        ]),
+        FrameCause::BackJump(to) => push_jumps_back(lines, at, to),
         FrameCause::BeamUnknown => lines.add(&[Words(lost_place(found))]),
         FrameCause::ScaleUnknown => lines.add(&[Words(AT_UNKNOWN_SCALE)]),
         FrameCause::OffScreen(leaving) => push_past(lines, found, leaving, Bounds::Window),

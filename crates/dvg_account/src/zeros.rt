@@ -1,16 +1,8 @@
 //! The items that lead to an item: the one right before it, and zeros.
 
-ghost use Rattle.std.specs.Prelude.{◌≡◌, ◌<◌, IfSome};
-ghost use Rattle.dvg_words.specs.Decoding.{cell_at};
-ghost use Rattle.dvg_words.specs.declared.instruction.Cell.TheVariants.{Holds};
-ghost use Rattle.dvg_words.specs.declared.map.TheConstants.{ADDRESS_END};
-
 use crate::item::{ItemWords, words_at};
-use dvg_items::{Item, Kind};
-use dvg_words::{Cell, Fetch, read_cell};
-
-/// How many items a shape or a frame has at most.
-const MOST_ITEMS: u16 = 2048;
+use dvg_items::{Item, Items, Kind};
+use dvg_words::Fetch;
 
 /// Words 0000 that lead to an item: the addresses of the first and the last, and the last item before them.
 #[derive(Clone, Copy)]
@@ -30,30 +22,63 @@ pub struct Way {
 impl Way {
     /// What leads to the item at a word address, among the items that begin at another. Zeros may be its own words, too.
     pub fn to<F: Fetch>(words: &F, kind: Kind, first: u16, at: u16) -> Way {
-        let mut here = Some(first);
-        let mut last = None;
-        let mut before = None;
-        let mut from = None;
-        for _ in 0..MOST_ITEMS {
-            let Some(item) = item_below(words, here, at) else {
+        let mut passed = Passed {
+            last: None,
+            run: None,
+            before: None,
+        };
+        for item in Items::from(words, kind, first) {
+            if item.at >= at {
                 break;
-            };
-            if !are_zeros(words, item.at) {
-                before = Some(item);
-                from = None;
-            } else if from.is_none() {
-                from = Some(item.at);
             }
-            last = Some(item);
-            here = item.next_address(kind);
+            passed = if are_zeros(words, item.at) {
+                passed.and_zeros(item)
+            } else {
+                Passed::behind(item)
+            };
         }
+        let Passed { last, run, before } = passed;
         let own = if are_zeros(words, at) { Some(at) } else { None };
-        let zeros = from.or(own).map(|first| Zeros {
+        let zeros = run.or(own).map(|first| Zeros {
             first,
             last: last_zero(words, at),
             before,
         });
         Way { last, zeros }
+    }
+}
+
+/// The items passed so far.
+#[derive(Clone, Copy)]
+struct Passed {
+    last: Option<Item>,
+    /// Where the zeros begin that the last item ends, if it is of zeros.
+    run: Option<u16>,
+    /// The last item that isn't of zeros.
+    before: Option<Item>,
+}
+
+impl Passed {
+    /// After an item that isn't of zeros.
+    fn behind(item: Item) -> Passed {
+        let last = Some(item);
+        let before = last;
+        Passed {
+            last,
+            run: None,
+            before,
+        }
+    }
+
+    /// After an item of zeros more.
+    fn and_zeros(self, item: Item) -> Passed {
+        let Passed { run, before, .. } = self;
+        let at = item.at;
+        Passed {
+            last: Some(item),
+            run: run.or(Some(at)),
+            before,
+        }
     }
 }
 
@@ -63,22 +88,6 @@ fn are_zeros<F: Fetch>(words: &F, at: u16) -> bool {
         words_at(words, at),
         ItemWords::One(0) | ItemWords::Two(0, 0)
     )
-}
-
-/// The item at this word address, if one stands there and the address is below another.
-fn item_below<F: Fetch>(words: &F, here: Option<u16>, end: u16) -> Option<Item>
-    ensures address { IfSome result (λ item. item.at < ADDRESS_END) }
-    ensures below { IfSome result (λ item. item.at < end) }
-    ensures stands { IfSome result (λ item. cell_at (F.words words.now) item.at ≡ Holds item.format item.instr) }
-{
-    let at = here?;
-    if at >= end {
-        return None;
-    }
-    match read_cell(words, at) {
-        Cell::Holds { format, instr } => Some(Item { at, format, instr }),
-        _ => None,
-    }
 }
 
 /// The last of the zeros that lead to the item at a word address: its own last word if it is of zeros, or the word before it.
