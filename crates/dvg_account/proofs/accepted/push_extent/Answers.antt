@@ -7,5 +7,5 @@ pub returns-in-Some : goal.returns-in-Some
 returns-in-Some c = record {
   added = _;
   adds = then c.add.ensures c.add-in-Some.ensures;
-  is_such = margins_line c.args.margins.now c.in-Some.distances , ((c.in-Some.distances , (c.in-Some.ensures.some , refl)) , refl);
+  is_such = (margins_line c.args.margins.now c.in-Some.distances, (c.in-Some.distances, c.in-Some.ensures.some, refl), refl);
 }
