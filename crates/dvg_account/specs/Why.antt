@@ -74,9 +74,9 @@ abbrev pub lost_place : Found → List ℕ
 lost_place (Seen v) = box_or_draw v.callee
 lost_place found = draws_at_lost_place
 
--- a jump to the item's own address, or to a lower one
-abbrev pub jumps_back : ℕ → ℕ → List Told
-jumps_back at to = values (piece.Address to ∷ []) ++ said (if nat_eq to at then codes ", its own address" else codes ", a lower address")
+-- where a jump back lands: at the item's own address, or at a lower one
+abbrev pub landing : ℕ → ℕ → List ℕ
+landing at to = if nat_eq to at then codes ", its own address" else codes ", a lower address"
 
 -- the corner that is past an edge, by how much; which corner of the item it is, is only tested
 abbrev pub past : Leaving → Bounds → List Told
@@ -106,7 +106,7 @@ abbrev pub frame_why : Machine → List ℕ → FrameFinding → FrameCause → 
 frame_why machine list f frame.Unmapped = missing_word (frame_word machine list) f.fault.word 0 (length list - 1)
 frame_why machine list f frame.Odd = odd_labs (words_at (frame_word machine list) f.fault.word)
 frame_why machine list f frame.ReturnInFrame = said (codes "RTSL stands in a frame")
-frame_why machine list f (frame.BackJump to) = jumps_back f.fault.word to
+frame_why machine list f (frame.BackJump to) = values (piece.Address to ∷ []) ++ said (landing f.fault.word to)
 frame_why machine list f frame.BeamUnknown = said (lost_place f.found)
 frame_why machine list f frame.ScaleUnknown = said draws_at_unknown_scale
 frame_why machine list f (frame.OffScreen leaving) = past leaving Window

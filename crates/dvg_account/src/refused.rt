@@ -9,7 +9,7 @@ ghost use Rattle.dvg_survey.specs.Losses.{AreLosses, NoneLead};
 ghost use Rattle.dvg_make.specs.Made.{HasEntry};
 ghost use Rattle.dvg_account.specs.Told.{told, Line};
 ghost use Rattle.dvg_account.specs.Refused.{FrameLines, ShapeLines, TellsChain, TellsBesideFrame, TellsBesideShape, frame_cure, key_at, keys_at};
-ghost use Rattle.dvg_account.specs.Machines.{other_machine_lines};
+ghost use Rattle.dvg_account.specs.Machines.{made_otherwise, other_machine_lines};
 ghost use Rattle.dvg_account.specs.Building.{Adds, Tells};
 
 use crate::accepted::{board_answer, push_board};
@@ -208,6 +208,16 @@ fn shape_lines(
     lines.finish()
 }
 
+/// How a certificate was made that is for the other machine than this one.
+fn made_otherwise(machine: Machine) -> &'static str
+    ensures { result.now ≡ made_otherwise machine }
+{
+    match machine {
+        Machine::Profile => "for the board",
+        Machine::Board => "without `--board`",
+    }
+}
+
 /// Adds that the certificate may have been made for the other machine, if this fault may come of it.
 fn push_other_machine(lines: &mut Lines, machine: Machine, why: ShapeWhy)
     ensures { Adds lines.old lines.new (other_machine_lines machine why) }
@@ -218,10 +228,7 @@ fn push_other_machine(lines: &mut Lines, machine: Machine, why: ShapeWhy)
     lines.add(&[
         Line("other machine"),
         Text("the certificate may have been made "),
-        Words(match machine {
-            Machine::Profile => "for the board",
-            Machine::Board => "without `--board`",
-        }),
+        Words(made_otherwise(machine)),
         Text(match machine {
             Machine::Profile => ", by `make --board`; `make` without it makes one for this machine",
             Machine::Board => "; `make --board` makes one for the board",

@@ -2,7 +2,7 @@
 
 ghost use Rattle.std.specs.Prelude.{◌≡◌};
 ghost use Rattle.dvg_account.specs.Items.{words_at};
-ghost use Rattle.dvg_account.specs.Why.{frame_why, shape_why, claim_why, missing_word, odd_field, odd_fields, odd_labs, lost_place, jumps_back, no_entry, leaves_box, words_with, words_over, past};
+ghost use Rattle.dvg_account.specs.Why.{frame_why, shape_why, claim_why, missing_word, odd_field, odd_fields, odd_labs, lost_place, landing, no_entry, leaves_box, words_with, words_over, past};
 ghost use Rattle.dvg_account.specs.Building.{Adds};
 
 use crate::item::{ItemWords, words_at};
@@ -226,15 +226,14 @@ pub fn push_words_over(lines: &mut Lines, words: u32, allows: &'static str, most
     ]);
 }
 
-/// Adds that an item at a word address jumps to its own address, or to a lower one.
-fn push_jumps_back(lines: &mut Lines, at: u16, to: u16)
-    ensures { Adds lines.old lines.new (jumps_back at to) }
+/// Where an item at a word address lands that jumps back: at its own address, or at a lower one.
+fn landing(at: u16, to: u16) -> &'static str
+    ensures { result.now ≡ landing at to }
 {
-    let jumps = Text("it jumps to ");
     if to == at {
-        lines.add(&[jumps, Address(to), Words(", its own address")]);
+        ", its own address"
     } else {
-        lines.add(&[jumps, Address(to), Words(", a lower address")]);
+        ", a lower address"
     }
 }
 
@@ -260,7 +259,11 @@ pub fn push_frame_why(
             Words("RTSL stands in a frame"),
             Text(", and there is no call to return from"),
         ]),
-        FrameCause::BackJump(to) => push_jumps_back(lines, at, to),
+        FrameCause::BackJump(to) => lines.add(&[
+            Text("it jumps to "),
+            Address(to),
+            Words(landing(at, to)),
+        ]),
         FrameCause::BeamUnknown => lines.add(&[Words(lost_place(found))]),
         FrameCause::ScaleUnknown => lines.add(&[Words(AT_UNKNOWN_SCALE)]),
         FrameCause::OffScreen(leaving) => push_past(lines, found, leaving, Bounds::Window),

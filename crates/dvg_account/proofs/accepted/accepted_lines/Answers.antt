@@ -12,7 +12,7 @@ returns c = if_ok c.finish.result c.finish.ensures (λ lines all. record {
   frame_lights = c.push_extent.ensures.added;
   frame_lit = c.push_extent.ensures.is_such;
   clipped = c.push_clipped.ensures.added;
-  clips = subst (λ past. IsClipped c.args.inputs.now.window past c.push_clipped.ensures.added) c.deref-2.ensures
+  clips = subst (λ past. IsClipped c.args.inputs.now.window past c.push_clipped.ensures.added) c.deref-2.ensures.value
       c.push_clipped.ensures.is_such;
   shapes_light = c.push_extent-2.ensures.added;
   shapes_lit = c.push_extent-2.ensures.is_such;
@@ -20,6 +20,6 @@ returns c = if_ok c.finish.result c.finish.ensures (λ lines all. record {
   board = c.in_ok-on_board.ensures;
   lines_are = whole c.new-lines.ensures all
       (then (then (then (then (then (then (then (then c.push_machine.ensures c.push_zone.ensures.adds) c.push_counts.ensures)
-      (told_as (ap (flat_map call_line) c.deref.ensures) c.push_calls.ensures)) c.push_extent.ensures.adds) c.push_clipped.ensures.adds)
-      c.push_extent-2.ensures.adds) (told_as (ap told c.deref-3.ensures) c.add.ensures)) c.push_board.ensures);
+      (told_as (ap (flat_map call_line) c.deref.ensures.value) c.push_calls.ensures)) c.push_extent.ensures.adds) c.push_clipped.ensures.adds)
+      c.push_extent-2.ensures.adds) (told_as (ap told c.deref-3.ensures.value) c.add.ensures)) c.push_board.ensures);
 })
