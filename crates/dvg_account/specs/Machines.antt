@@ -5,7 +5,7 @@ use Rattle.dvg_words.specs.declared.machine.Machine.TheVariants.{Profile, Board}
 use Rattle.dvg_words.specs.Values.{Window, clipped}
 use Rattle.dvg_check.specs.declared.fault.ShapeWhy.{ShapeWhy}
 use Rattle.dvg_check.specs.declared.fault.ShapeWhy.TheVariants as shape
-use Rattle.dvg_account.specs.Told.{Told, line, said}
+use Rattle.dvg_account.specs.Told.{Told, line}
 
 -- the line that names the machine: none for the profile's
 abbrev pub machine_lines : Machine → List Told
@@ -17,13 +17,8 @@ abbrev pub IsZone : Window → List Told → Type 0
 IsZone w [] = w ≡ clipped → ⊥
 IsZone w told = (w ≡ clipped) × (told ≡ line (codes "window") [])
 
--- how a certificate was made that is for the other machine than this one
-abbrev pub made_otherwise : Machine → List ℕ
-made_otherwise Profile = codes "for the board"
-made_otherwise Board = codes "without `--board`"
-
 -- an end and a box may be those of a certificate that was made for the other machine
-abbrev pub other_machine_lines : Machine → ShapeWhy → List Told
-other_machine_lines machine shape.EndDiffers = line (codes "other machine") [] ++ said (made_otherwise machine)
-other_machine_lines machine shape.BoxTooSmall = line (codes "other machine") [] ++ said (made_otherwise machine)
-other_machine_lines machine why = []
+abbrev pub other_machine_lines : ShapeWhy → List Told
+other_machine_lines shape.EndDiffers = line (codes "other machine") []
+other_machine_lines shape.BoxTooSmall = line (codes "other machine") []
+other_machine_lines why = []

@@ -23,8 +23,8 @@ use Rattle.dvg_account.specs.Machines.{machine_lines}
 use Rattle.dvg_account.specs.Chains.{call_steps, shape_name, shape_steps}
 use Rattle.dvg_account.specs.Meant.{outside_call, IsMeant, meant_line}
 use Rattle.dvg_account.specs.Middle.{Middle, IsMiddleOf, middle_line}
-use Rattle.dvg_account.specs.Told.{Told, Line, told, values, said, line, one}
-use Rattle.dvg_account.specs.Why.{missing_word, odd_labs, words_over, halt, draws_at_lost_place, draws_at_unknown_scale}
+use Rattle.dvg_account.specs.Told.{Told, Line, told, values, line, one}
+use Rattle.dvg_account.specs.Why.{missing_word, odd_labs, words_over}
 
 -- the most words that an entry takes
 abbrev pub most_words : List Entry → ℕ
@@ -98,30 +98,19 @@ abbrev pub maker_why : Rom → ℕ → List ShapeAt → EntryCause → List Told
 maker_why rom at chain cause.RootOutside = missing_word (rom_word rom) at rom.map.rom_first rom.map.rom_last
 maker_why rom at chain cause.Missing = missing_word (rom_word rom) at rom.map.rom_first rom.map.rom_last
 maker_why rom at chain cause.Odd = odd_labs (words_at (rom_word rom) at)
-maker_why rom at chain cause.Halt = said halt
-maker_why rom at chain cause.BeamUnknown = said draws_at_lost_place
-maker_why rom at chain cause.ScaleUnknown = said draws_at_unknown_scale
 maker_why rom at chain (cause.Ring from) = one shape_name (slice_get chain from)
 maker_why rom at chain (cause.Deep to scale) = values (Name to scale ∷ [])
 maker_why rom at chain (cause.TooManyWords words) = words_over words MOST_WORDS (words - MOST_WORDS)
-maker_why rom at chain cause.TooManyEntries = said (codes "it would be the 4097th entry")
-maker_why rom at chain cause.Memory = []
+maker_why rom at chain other = []
 
--- a word in vector RAM
-abbrev pub in_ram : ℕ → List Told
-in_ram at = values (Address at ∷ []) ++ said (codes " is in vector RAM")
+-- what else is told of where a making stops that a frame's call asks for: nothing of a word in vector RAM
+abbrev pub stop_why : Rom → MakeAccount → EntryCause → List Told
+stop_why rom a cause.Missing = if nat_lt a.at RAM_WORDS then [] else maker_why rom a.at a.chain.items cause.Missing
+stop_why rom a other = maker_why rom a.at a.chain.items other
 
--- a draw for which the call lacks a LABS
-abbrev pub no_labs : ℕ → List Told
-no_labs at = said (codes "no LABS before the call sets the scale") ++ values (Address at ∷ [])
-
--- where what a frame's call asks for can't be made, and what the cause tells of that item
+-- where the making stops that a frame's call asks for, and what else is told of it
 abbrev pub call_why : Rom → MakeAccount → EntryCause → List Told
-call_why rom a cause.BeamUnknown = no_labs a.at
-call_why rom a cause.ScaleUnknown = no_labs a.at
-call_why rom a cause.Missing =
-    if nat_lt a.at RAM_WORDS then in_ram a.at else values (Address a.at ∷ []) ++ maker_why rom a.at a.chain.items cause.Missing
-call_why rom a other = values (Address a.at ∷ []) ++ maker_why rom a.at a.chain.items other
+call_why rom a why = values (Address a.at ∷ []) ++ stop_why rom a why
 
 -- the sentence of a root's entry stands alone; that of a frame's call says where the making stops; of a want of memory there is none
 abbrev pub why_lines : Rom → MakeAccount → EntryCause → Option FrameCall → List Told

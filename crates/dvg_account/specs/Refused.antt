@@ -51,7 +51,7 @@ TellsBesideFrame inputs list cause lines = lines ≡ []
 -- what else is told of a fault of a shape: of an odd LABS the board's answer, of an end or a box that differs the other machine
 abbrev pub TellsBesideShape : Inputs → ShapeWhy → List Told → Type 0
 TellsBesideShape inputs shape.Odd lines = TellsBoard inputs lines
-TellsBesideShape inputs why lines = lines ≡ other_machine_lines inputs.machine why
+TellsBesideShape inputs why lines = lines ≡ other_machine_lines why
 
 -- what to do about a number
 abbrev pub cure_line : ℕ → List Told

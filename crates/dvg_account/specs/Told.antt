@@ -5,11 +5,10 @@ use Rattle.dvg_account.specs.declared.piece.Piece.TheVariants as piece
 pub use Rattle.dvg_account.specs.declared.piece.Role.{Role}
 use Rattle.dvg_account.specs.declared.piece.Role.TheVariants as role
 
--- a key, which begins a line, also of one about the item at which a making stops; words that tell something; or a value
+-- a key, which begins a line, also of one about the item at which a making stops; or a value
 pub data Told : Type 0 where
   Line : List ℕ → Told
   There : List ℕ → Told
-  Words : List ℕ → Told
   Value : Piece → Told
 
 -- what a piece tells
@@ -18,7 +17,6 @@ told_by (piece.Line key) = Line key.now ∷ []
 told_by (piece.There key) = There key.now ∷ []
 told_by piece.ToDo = Line (codes "what to do") ∷ []
 told_by (piece.Text words) = []
-told_by (piece.Words words) = Words words.now ∷ []
 told_by value = Value value ∷ []
 
 -- what pieces tell
@@ -30,9 +28,9 @@ told (p ∷ pieces) = told_by p ++ told pieces
 abbrev pub values : List Piece → List Told
 values vs = map Value vs
 
--- these words
-abbrev pub said : List ℕ → List Told
-said words = Words words ∷ []
+-- this number
+abbrev pub number : ℕ → List Told
+number n = values (piece.Number n ∷ [])
 
 -- a line with this key and these values
 abbrev pub line : List ℕ → List Piece → List Told

@@ -1,4 +1,5 @@
--- What the sentence of a refusal tells of its cause: its numbers, addresses and places, in their order. All of it is this project's own.
+-- What the sentence of a refusal tells of its cause: its numbers, addresses and places, in their order; its words are only tested. All of it is
+-- this project's own.
 use Rattle.std.specs.Prelude.{ℕ, ◌+◌, ◌-◌, ◌%◌, nat_eq, nat_lt, if◌then◌else◌, List, [], ◌∷◌, ◌++◌, codes, length, Option, Some, None}
 use Rattle.dvg_words.specs.declared.machine.Machine.{Machine}
 use Rattle.dvg_words.specs.Values.{Source}
@@ -20,7 +21,7 @@ use Rattle.dvg_check.specs.declared.leaving.BoxLeaving.TheVariants as left
 use Rattle.dvg_account.specs.declared.piece.Bounds.{Bounds}
 use Rattle.dvg_account.specs.declared.piece.Bounds.TheVariants.{Window, ClaimedBox}
 use Rattle.dvg_account.specs.declared.piece.Piece.TheVariants as piece
-use Rattle.dvg_account.specs.Told.{Told, values, said, one}
+use Rattle.dvg_account.specs.Told.{Told, values, number, one}
 use Rattle.dvg_account.specs.Items.{ItemWords, words_at}
 use Rattle.dvg_account.specs.declared.item.ItemWords.TheVariants as held
 
@@ -38,45 +39,15 @@ missing_word source at first last =
 abbrev pub odd_field : ℕ → Option ℕ
 odd_field word = if nat_lt 1023 (word % 4096) then Some (word % 4096) else None
 
--- a field of a LABS, behind its name
-abbrev pub named_field : List ℕ → ℕ → List Told
-named_field name field = said name ++ values (piece.Number field ∷ [])
-
 -- these fields of a LABS, Y and X
 abbrev pub odd_fields : Option ℕ → Option ℕ → List Told
-odd_fields y x = one (named_field (codes "Y ")) y ++ one (named_field (codes "X ")) x
+odd_fields y x = one number y ++ one number x
 
 -- the fields of a LABS that are over 1023, by its words: Y in the first, X in the second
 abbrev pub odd_labs : ItemWords → List Told
 odd_labs held.Nothing = []
 odd_labs (held.One first) = odd_fields (odd_field first) None
 odd_labs (held.Two first second) = odd_fields (odd_field first) (odd_field second)
-
--- a HALT
-abbrev pub halt : List ℕ
-halt = codes "HALT stands in a shape"
-
--- a draw at a lost place
-abbrev pub draws_at_lost_place : List ℕ
-draws_at_lost_place = codes "it draws lit at a lost place"
-
--- a draw at an unknown scale
-abbrev pub draws_at_unknown_scale : List ℕ
-draws_at_unknown_scale = codes "it draws lit at unknown scale"
-
--- what lights at a lost place: the box of the entry that the item names, or a draw
-abbrev pub box_or_draw : Option Entry → List ℕ
-box_or_draw (Some e) = codes "the entry that it names has a box, and the place is lost"
-box_or_draw None = draws_at_lost_place
-
--- what lights at a lost place, by what was found there
-abbrev pub lost_place : Found → List ℕ
-lost_place (Seen v) = box_or_draw v.callee
-lost_place found = draws_at_lost_place
-
--- where a jump back lands: at the item's own address, or at a lower one
-abbrev pub landing : ℕ → ℕ → List ℕ
-landing at to = if nat_eq to at then codes ", its own address" else codes ", a lower address"
 
 -- the corner that is past an edge, by how much; which corner of the item it is, is only tested
 abbrev pub past : Leaving → Bounds → List Told
@@ -105,13 +76,11 @@ words_over words most over = values (piece.Number words ∷ piece.Number most �
 abbrev pub frame_why : Machine → List ℕ → FrameFinding → FrameCause → List Told
 frame_why machine list f frame.Unmapped = missing_word (frame_word machine list) f.fault.word 0 (length list - 1)
 frame_why machine list f frame.Odd = odd_labs (words_at (frame_word machine list) f.fault.word)
-frame_why machine list f frame.ReturnInFrame = said (codes "RTSL stands in a frame")
-frame_why machine list f (frame.BackJump to) = values (piece.Address to ∷ []) ++ said (landing f.fault.word to)
-frame_why machine list f frame.BeamUnknown = said (lost_place f.found)
-frame_why machine list f frame.ScaleUnknown = said draws_at_unknown_scale
+frame_why machine list f (frame.BackJump to) = values (piece.Address to ∷ [])
 frame_why machine list f (frame.OffScreen leaving) = past leaving Window
 frame_why machine list f (frame.NoEntry to scale) = no_entry to scale
 frame_why machine list f (frame.Budget over) = words_over (words_with f.found) (words_with f.found - over) over
+frame_why machine list f other = []
 
 -- what an entry claims, and what its shape needs, which takes so many words up to and with the item
 abbrev pub claim_why : Entry → ℕ → ShapeCause → List Told
@@ -127,9 +96,9 @@ claim_why e words other = words_over words e.words 0
 abbrev pub shape_why : Rom → ShapeFinding → ShapeCause → List Told
 shape_why rom f shape.Unmapped = missing_word (rom_word rom) f.fault.word rom.map.rom_first rom.map.rom_last
 shape_why rom f shape.Odd = odd_labs (words_at (rom_word rom) f.fault.word)
-shape_why rom f shape.HaltInShape = said halt
-shape_why rom f shape.BeamUnknown = said (lost_place f.found)
-shape_why rom f shape.ScaleUnknown = said draws_at_unknown_scale
+shape_why rom f shape.HaltInShape = []
+shape_why rom f shape.BeamUnknown = []
+shape_why rom f shape.ScaleUnknown = []
 shape_why rom f (shape.OffScreen leaving) = past leaving Window
 shape_why rom f (shape.NoEntry to scale) = no_entry to scale
 shape_why rom f (shape.BoxTooSmall leaving) = leaves_box leaving

@@ -2,7 +2,7 @@
 
 ghost use Rattle.std.specs.Prelude.{◌≡◌, option_copied, flat_map, IfOk, OnOk};
 ghost use Rattle.dvg_account.specs.Told.{told, one};
-ghost use Rattle.dvg_account.specs.Making.{made_lines, most_words, most_depth, way_lines, chain_lines, asked_by, caller_told, ring_line, why_lines, maker_why, call_why, in_ram, no_labs, frame_of_call, TellsBelow, UnmadeLines, IsCallItem, IsMakerItem};
+ghost use Rattle.dvg_account.specs.Making.{made_lines, most_words, most_depth, way_lines, chain_lines, asked_by, caller_told, ring_line, why_lines, maker_why, call_why, frame_of_call, TellsBelow, UnmadeLines, IsCallItem, IsMakerItem};
 ghost use Rattle.dvg_account.specs.Items.{lines_as};
 ghost use Rattle.dvg_account.specs.Chains.{shape_name, shape_steps};
 ghost use Rattle.dvg_account.specs.Building.{Adds, Tells};
@@ -13,7 +13,7 @@ use crate::item::RefusedItem;
 use crate::lines::Lines;
 use crate::meant::{meant, push_meant};
 use crate::middle::{middle_of, push_middle};
-use crate::piece::Piece::{self, Address, Line, Name, Number, Rule, Text, ToDo, Words};
+use crate::piece::Piece::{self, Address, Line, Name, Number, Rule, Text, ToDo};
 use crate::piece::Role;
 use crate::why::{
     AT_LOST_PLACE, AT_UNKNOWN_SCALE, HALT_IN_SHAPE, IN_ROM, push_missing, push_odd, push_words_over,
@@ -230,37 +230,20 @@ fn push_call_why(lines: &mut Lines, rom: &RomImage, account: &MakeAccount)
 {
     let at = account.at;
     match account.cause {
-        EntryCause::Missing if at < RAM_WORDS => push_in_ram(lines, at),
-        EntryCause::BeamUnknown => push_no_labs(lines, at),
-        EntryCause::ScaleUnknown => push_no_labs(lines, at),
+        EntryCause::Missing if at < RAM_WORDS => lines.add(&[
+            Text("word "),
+            Address(at),
+            Text(" is in vector RAM, and a call into vector RAM is always refused"),
+        ]),
+        EntryCause::BeamUnknown | EntryCause::ScaleUnknown => lines.add(&[
+            Text("no LABS before the call sets the scale, and what it calls draws lit at "),
+            Address(at),
+        ]),
         _ => {
             lines.add(&[Text("what it calls comes to "), Address(at), Text(": ")]);
             push_maker_why(lines, rom, account)
         }
     }
-}
-
-/// Adds that a word to which a frame's call leads is in vector RAM.
-fn push_in_ram(lines: &mut Lines, at: u16)
-    ensures { Adds lines.old lines.new (in_ram at) }
-{
-    lines.add(&[
-        Text("word "),
-        Address(at),
-        Words(" is in vector RAM"),
-        Text(", and a call into vector RAM is always refused"),
-    ]);
-}
-
-/// Adds that a frame's call lacks a LABS for what draws here.
-fn push_no_labs(lines: &mut Lines, at: u16)
-    ensures { Adds lines.old lines.new (no_labs at) }
-{
-    lines.add(&[
-        Words("no LABS before the call sets the scale"),
-        Text(", and what it calls draws lit at "),
-        Address(at),
-    ]);
 }
 
 /// Adds why the maker stops at an item.
@@ -273,9 +256,9 @@ fn push_maker_why(lines: &mut Lines, rom: &RomImage, account: &MakeAccount)
             push_missing(lines, rom, at, IN_ROM, rom.map().first(), rom.map().last())
         }
         EntryCause::Odd => push_odd(lines, rom, at),
-        EntryCause::Halt => lines.add(&[Words(HALT_IN_SHAPE)]),
-        EntryCause::BeamUnknown => lines.add(&[Words(AT_LOST_PLACE)]),
-        EntryCause::ScaleUnknown => lines.add(&[Words(AT_UNKNOWN_SCALE)]),
+        EntryCause::Halt => lines.add(&[Text(HALT_IN_SHAPE)]),
+        EntryCause::BeamUnknown => lines.add(&[Text(AT_LOST_PLACE)]),
+        EntryCause::ScaleUnknown => lines.add(&[Text(AT_UNKNOWN_SCALE)]),
         EntryCause::Ring { from } => push_needed(lines, account.chain.get(from)),
         EntryCause::Deep { to, scale } => {
             lines.add(&[
@@ -290,7 +273,7 @@ fn push_maker_why(lines: &mut Lines, rom: &RomImage, account: &MakeAccount)
             let over = words.saturating_sub(MOST_WORDS);
             push_words_over(lines, words, "a shape may take ", MOST_WORDS, over)
         }
-        EntryCause::TooManyEntries => lines.add(&[Words("it would be the 4097th entry")]),
+        EntryCause::TooManyEntries => lines.add(&[Text("it would be the 4097th entry")]),
         EntryCause::Memory => {}
     }
 }

@@ -20,8 +20,6 @@ pub enum Piece {
     ToDo,
     /// Words between values.
     Text(&'static str),
-    /// Words that tell something by themselves.
-    Words(&'static str),
     Number(u64),
     /// How many bytes an input has, which may have so many at most.
     Bytes(usize, usize),

@@ -9,7 +9,7 @@ ghost use Rattle.dvg_survey.specs.Losses.{AreLosses, NoneLead};
 ghost use Rattle.dvg_make.specs.Made.{HasEntry};
 ghost use Rattle.dvg_account.specs.Told.{told, Line};
 ghost use Rattle.dvg_account.specs.Refused.{FrameLines, ShapeLines, TellsChain, TellsBesideFrame, TellsBesideShape, frame_cure, key_at, keys_at};
-ghost use Rattle.dvg_account.specs.Machines.{made_otherwise, other_machine_lines};
+ghost use Rattle.dvg_account.specs.Machines.{other_machine_lines};
 ghost use Rattle.dvg_account.specs.Building.{Adds, Tells};
 
 use crate::accepted::{board_answer, push_board};
@@ -18,7 +18,7 @@ use crate::furthest::furthest;
 use crate::inputs::{Inputs, plain_lines};
 use crate::item::{RefusedItem, callee_of, push_item};
 use crate::lines::Lines;
-use crate::piece::Piece::{self, Cure, Line, Name, OrHalt, Rule, Text, ToDo, Words};
+use crate::piece::Piece::{self, Cure, Line, Name, OrHalt, Rule, Text, ToDo};
 use crate::piece::Role;
 use crate::why::{push_frame_why, push_shape_why};
 use dvg_cert::{Cert, Entries, Entry, HashIndex, ListIndex};
@@ -209,9 +209,7 @@ fn shape_lines(
 }
 
 /// How a certificate was made that is for the other machine than this one.
-fn made_otherwise(machine: Machine) -> &'static str
-    ensures { result.now ≡ made_otherwise machine }
-{
+fn made_otherwise(machine: Machine) -> &'static str {
     match machine {
         Machine::Profile => "for the board",
         Machine::Board => "without `--board`",
@@ -220,7 +218,7 @@ fn made_otherwise(machine: Machine) -> &'static str
 
 /// Adds that the certificate may have been made for the other machine, if this fault may come of it.
 fn push_other_machine(lines: &mut Lines, machine: Machine, why: ShapeWhy)
-    ensures { Adds lines.old lines.new (other_machine_lines machine why) }
+    ensures { Adds lines.old lines.new (other_machine_lines why) }
 {
     let (ShapeWhy::EndDiffers | ShapeWhy::BoxTooSmall) = why else {
         return;
@@ -228,7 +226,7 @@ fn push_other_machine(lines: &mut Lines, machine: Machine, why: ShapeWhy)
     lines.add(&[
         Line("other machine"),
         Text("the certificate may have been made "),
-        Words(made_otherwise(machine)),
+        Text(made_otherwise(machine)),
         Text(match machine {
             Machine::Profile => ", by `make --board`; `make` without it makes one for this machine",
             Machine::Board => "; `make --board` makes one for the board",

@@ -109,7 +109,7 @@ fn push_piece(text: &mut Text, telling: Telling, piece: &Piece) {
         Piece::Line(key) => text.begin_line("", key),
         Piece::There(key) => text.begin_line("there ", key),
         Piece::ToDo => push_to_do(text, telling.swapped),
-        Piece::Text(words) | Piece::Words(words) => text.push(words),
+        Piece::Text(words) => text.push(words),
         Piece::Number(number) => text.push_decimal(*number),
         Piece::Bytes(bytes, most) => push_bytes(text, *bytes, *most),
         Piece::Address(addr) => text.push_address(*addr),

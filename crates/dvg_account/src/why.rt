@@ -2,13 +2,13 @@
 
 ghost use Rattle.std.specs.Prelude.{◌≡◌};
 ghost use Rattle.dvg_account.specs.Items.{words_at};
-ghost use Rattle.dvg_account.specs.Why.{frame_why, shape_why, claim_why, missing_word, odd_field, odd_fields, odd_labs, lost_place, landing, no_entry, leaves_box, words_with, words_over, past};
+ghost use Rattle.dvg_account.specs.Why.{frame_why, shape_why, claim_why, missing_word, odd_field, odd_fields, odd_labs, no_entry, leaves_box, words_with, words_over, past};
 ghost use Rattle.dvg_account.specs.Building.{Adds};
 
 use crate::item::{ItemWords, words_at};
 use crate::lines::Lines;
 use crate::piece::Bounds;
-use crate::piece::Piece::{self, Address, Number, Past, Place, Scale, Text, Words};
+use crate::piece::Piece::{self, Address, Number, Past, Place, Scale, Text};
 use dvg_cert::{End, Entry, Key};
 use dvg_check::{BoxLeaving, Found, FrameCause, FrameFinding, Leaving, ShapeCause, ShapeFinding};
 use dvg_items::{LitExtent, Seen};
@@ -73,22 +73,22 @@ fn push_odd_fields(lines: &mut Lines, y: Option<u16>, x: Option<u16>)
     match (y, x) {
         (Some(y), Some(x)) => lines.add(&[
             Text("bit 11 or bit 10 is set in both its words: "),
-            Words("Y "),
+            Text("Y "),
             Number(y as u64),
             Text(", "),
-            Words("X "),
+            Text("X "),
             Number(x as u64),
             most,
         ]),
         (Some(y), None) => lines.add(&[
             Text("bit 11 or bit 10 is set in its first word: "),
-            Words("Y "),
+            Text("Y "),
             Number(y as u64),
             most,
         ]),
         (None, Some(x)) => lines.add(&[
             Text("bit 11 or bit 10 is set in its second word: "),
-            Words("X "),
+            Text("X "),
             Number(x as u64),
             most,
         ]),
@@ -106,9 +106,7 @@ pub const AT_LOST_PLACE: &str = "it draws lit at a lost place";
 pub const AT_UNKNOWN_SCALE: &str = "it draws lit at unknown scale";
 
 /// What lights at a lost place: the box of the entry that the item names, or a draw.
-fn lost_place(found: &Found) -> &'static str
-    ensures { result.now ≡ lost_place found.now }
-{
+fn lost_place(found: &Found) -> &'static str {
     match found {
         Found::Seen(
             Seen {
@@ -227,9 +225,7 @@ pub fn push_words_over(lines: &mut Lines, words: u32, allows: &'static str, most
 }
 
 /// Where an item at a word address lands that jumps back: at its own address, or at a lower one.
-fn landing(at: u16, to: u16) -> &'static str
-    ensures { result.now ≡ landing at to }
-{
+fn landing(at: u16, to: u16) -> &'static str {
     if to == at {
         ", its own address"
     } else {
@@ -256,16 +252,16 @@ pub fn push_frame_why(
         }
         FrameCause::Odd => push_odd(lines, &framed, at),
         FrameCause::ReturnInFrame => lines.add(&[
-            Words("RTSL stands in a frame"),
+            Text("RTSL stands in a frame"),
             Text(", and there is no call to return from"),
         ]),
         FrameCause::BackJump(to) => lines.add(&[
             Text("it jumps to "),
             Address(to),
-            Words(landing(at, to)),
+            Text(landing(at, to)),
         ]),
-        FrameCause::BeamUnknown => lines.add(&[Words(lost_place(found))]),
-        FrameCause::ScaleUnknown => lines.add(&[Words(AT_UNKNOWN_SCALE)]),
+        FrameCause::BeamUnknown => lines.add(&[Text(lost_place(found))]),
+        FrameCause::ScaleUnknown => lines.add(&[Text(AT_UNKNOWN_SCALE)]),
         FrameCause::OffScreen(leaving) => push_past(lines, found, leaving, Bounds::Window),
         FrameCause::NoEntry { to, scale } => push_no_entry(lines, to, scale),
         FrameCause::Budget(over) => {
@@ -292,9 +288,9 @@ pub fn push_shape_why(lines: &mut Lines, finding: &ShapeFinding, rom: &RomImage)
             push_missing(lines, rom, at, IN_ROM, rom.map().first(), rom.map().last())
         }
         ShapeCause::Odd => push_odd(lines, rom, at),
-        ShapeCause::HaltInShape => lines.add(&[Words(HALT_IN_SHAPE)]),
-        ShapeCause::BeamUnknown => lines.add(&[Words(lost_place(found))]),
-        ShapeCause::ScaleUnknown => lines.add(&[Words(AT_UNKNOWN_SCALE)]),
+        ShapeCause::HaltInShape => lines.add(&[Text(HALT_IN_SHAPE)]),
+        ShapeCause::BeamUnknown => lines.add(&[Text(lost_place(found))]),
+        ShapeCause::ScaleUnknown => lines.add(&[Text(AT_UNKNOWN_SCALE)]),
         ShapeCause::OffScreen(leaving) => push_past(lines, found, leaving, Bounds::Window),
         ShapeCause::NoEntry { to, scale } => push_no_entry(lines, to, scale),
         ShapeCause::BoxTooSmall(leaving) => push_leaves_box(lines, found, leaving),
