@@ -299,7 +299,6 @@ pub fn run_recipes<
 /// Judges one recipe as [`run_recipes`] does. If it is refused, and a frame shows why, the frame's bytes are written, too, behind the line.
 ///
 /// The fault is 73, if a writer failed, or 74, if there was no memory to look for a frame; in both the line may have been written.
-#[tactic(auto, using(crate::proofs::RecipeLines::one_told))]
 pub fn run_recipe_for_witness<'a, R: CountedRead + Drop, W: CountedWrite, F: CountedWrite>(
     alloc: Global,
     rom: &'a [u8],
