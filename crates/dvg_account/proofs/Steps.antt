@@ -1,5 +1,5 @@
 -- The lines of steps, one after the other: those so far, and those of what is left.
-use Rattle.dvg_account.proofs.Common.{arith, ◌≡◌, ◌∙◌, ap, sym, ℕ, suc, ◌+◌, ◌<◌, ◌≤◌, List, [], ◌∷◌, ◌++◌, length, get_or, append_assoc, append-nil, drop, Told}
+use Rattle.dvg_account.proofs.Common.{arith, ◌≡◌, ◌∙◌, ap, sym, ℕ, suc, ◌+◌, ◌<◌, ◌≤◌, List, ◌++◌, length, get_or, append_assoc, append-nil, drop, Told}
 use Rattle.std.proofs.Math.Seq.{drop-cons}
 use Rattle.std.proofs.lemmas.List.{drop_all}
 use Rattle.dvg_account.specs.Chains.{steps}

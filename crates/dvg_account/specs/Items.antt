@@ -12,7 +12,6 @@ use Rattle.dvg_items.specs.declared.known.Known.{Known}
 use Rattle.dvg_check.specs.declared.fault.Found.{Found}
 use Rattle.dvg_check.specs.declared.fault.Found.TheVariants.{Seen}
 use Rattle.dvg_survey.specs.declared.losses.Losses.{Losses}
-use Rattle.dvg_account.specs.declared.zeros.Way.{Way}
 use Rattle.dvg_account.specs.declared.zeros.Zeros.{Zeros}
 pub use Rattle.dvg_account.specs.declared.item.RefusedItem.{RefusedItem}
 pub use Rattle.dvg_account.specs.declared.item.ItemWords.{ItemWords}

@@ -1,5 +1,5 @@
 -- The lines about the machine. All of it is this project's own.
-use Rattle.std.specs.Prelude.{◌≡◌, ℕ, List, [], ◌++◌, codes}
+use Rattle.std.specs.Prelude.{◌≡◌, List, [], codes}
 use Rattle.dvg_words.specs.declared.machine.Machine.{Machine}
 use Rattle.dvg_words.specs.declared.machine.Machine.TheVariants.{Profile, Board}
 use Rattle.dvg_words.specs.Values.{Window, clipped}

@@ -15,7 +15,6 @@ use Rattle.dvg_make.specs.declared.account.EntryCause.TheVariants as cause
 use Rattle.dvg_make.specs.declared.account.ShapeAt.{ShapeAt}
 use Rattle.dvg_items.specs.declared.item.Kind.TheVariants.{Shape, Frame}
 use Rattle.dvg_account.specs.Items.{RefusedItem, IsItem, IsItemWith, words_at, lines_as}
-use Rattle.dvg_account.specs.declared.piece.Role.{Role}
 use Rattle.dvg_account.specs.declared.piece.Role.TheVariants as role
 use Rattle.dvg_account.specs.declared.piece.Piece.{Piece}
 use Rattle.dvg_account.specs.declared.piece.Piece.TheVariants.{Number, Address, Name, Rule}

@@ -1,4 +1,4 @@
-use Rattle.dvg_account.proofs.Common.{◌∷◌, ap, sym, Line, codes, rules, append-nil}
+use Rattle.dvg_account.proofs.Common.{◌∷◌, ap, sym, Line, codes}
 use Rattle.dvg_account.proofs.Building.{then, told_as, more}
 use Rattle.dvg_account.specs.Refused.{key_at}
 use Rattle.dvg_account.proofs.refused.push_keys_at.Goals as goal
