@@ -1,3 +1,4 @@
 pub mod Common
 mod Building
-mod Keys
+mod Telling
+mod Steps

@@ -1,6 +1,5 @@
 -- The lines of what is accepted. All of it is this project's own.
-use Rattle.std.specs.Global.{Vec}
-use Rattle.std.specs.Prelude.{◌≡◌, ℕ, List, ◌∷◌, ◌++◌, length, Option, Some, None, IfSome, option_to_list, Result}
+use Rattle.std.specs.Prelude.{◌≡◌, ℕ, List, [], ◌∷◌, ◌++◌, codes, flat_map, length, Option, Some, None, IfSome, Result}
 use Rattle.dvg_words.specs.declared.machine.Machine.{Machine}
 use Rattle.dvg_words.specs.declared.machine.Machine.TheVariants.{Profile, Board}
 use Rattle.dvg_words.specs.Values.{MemoryMap, Window, clipped}
@@ -13,48 +12,74 @@ use Rattle.dvg_items.specs.Known.{frame_context}
 use Rattle.dvg_check.specs.Verdict.{InRange}
 use Rattle.dvg_check.specs.declared.verdict.Yes.{Yes}
 use Rattle.dvg_survey.specs.Calls.{IsShapesExtent}
+use Rattle.dvg_survey.specs.declared.calls.Call.{Call}
 use Rattle.dvg_survey.specs.Survey.{IsSurvey}
 use Rattle.dvg_check.specs.Leaving.{window_limits}
 use Rattle.dvg_survey.specs.declared.margins.Margins.{Margins}
 use Rattle.dvg_survey.specs.Margins.{AreMargins, limits_box}
 use Rattle.dvg_make.specs.Judging.{VerdictByMade}
 use Rattle.dvg_make.specs.declared.judging.FrameRefusal.{FrameRefusal}
-use Rattle.dvg_account.specs.Machines.{machine_lines, TellsZone}
+use Rattle.dvg_account.specs.Machines.{machine_lines, IsZone}
+use Rattle.dvg_account.specs.Told.{Told, told, line, one}
+use Rattle.dvg_account.specs.declared.piece.Piece.TheVariants as piece
 use Rattle.dvg_account.specs.declared.accepted.Survey.{Survey}
 use Rattle.dvg_account.specs.declared.inputs.Inputs.{Inputs}
-use Rattle.dvg_account.specs.declared.line.Line.{Line}
-use Rattle.dvg_account.specs.declared.line.Line.TheVariants.{Accepted}
-use Rattle.dvg_account.specs.declared.line.AcceptedLine.{AcceptedLine}
-use Rattle.dvg_account.specs.declared.line.AcceptedLine.TheVariants as line
 
 -- of the images of a ROM and a frame, as far as there are such: what the frame's own items call and light, and what the shapes light
 pub record Surveyed (machine : Machine) (cert : Certificate) (rom : Option Rom) (frame : Option (List ℕ)) (s : Survey) : Type 0 where
   pub frame_is : IfSome frame (λ words. IsSurvey (frame_context machine cert.entries) (frame_word machine words) s.frame)
   pub shapes_are : IfSome rom (λ r. IsShapesExtent r cert.entries s.shapes)
 
+-- the counts of a yes, and the budget
+abbrev pub counts_lines : Yes → ℕ → List Told
+counts_lines y budget = line (codes "shapes") (piece.Number y.shapes ∷ [])
+    ++ line (codes "words") (piece.Number y.words ∷ piece.Number budget ∷ [])
+    ++ line (codes "return places") (piece.Number y.depth ∷ [])
+
+-- a call of a frame
+abbrev pub call_line : Call → List Told
+call_line c = line (codes "call") (piece.Address c.at ∷ piece.Entry c.entry ∷ [])
+
+-- the distances from the left edge, the right, the lower and the upper one
+abbrev pub margins_line : List ℕ → Margins → List Told
+margins_line key m = line key (piece.Distance m.left ∷ piece.Distance m.right ∷ piece.Distance m.bottom ∷ piece.Distance m.top ∷ [])
+
 -- how far the box is from each edge of the window; no line where it is empty or reaches outside
-abbrev pub TellsMargins : Window → LitBox → (Margins → AcceptedLine) → Option Line → Type 0
-TellsMargins w box tell None = IsInside box (limits_box (window_limits w)) → box ≡ Empty
-TellsMargins w box tell (Some told) = (m : Margins) × AreMargins (window_limits w) box m × (told ≡ Accepted (tell m))
+abbrev pub AreMarginsLine : List ℕ → Window → LitBox → List Told → Type 0
+AreMarginsLine key w box [] = IsInside box (limits_box (window_limits w)) → box ≡ Empty
+AreMarginsLine key w box lines = (m : Margins) × AreMargins (window_limits w) box m × (lines ≡ margins_line key m)
 
--- the word addresses of the items that light past the screen; no line where the window is not the zone that a board clips
-abbrev pub TellsClipped : Window → Vec ℕ → Option Line → Type 0
-TellsClipped w past_screen None = w ≡ clipped → ⊥
-TellsClipped w past_screen (Some told) = (w ≡ clipped) × (told ≡ Accepted (line.Clipped past_screen))
+-- the box under the one key, and the distances from the window's edges under the other
+abbrev pub IsExtent : List ℕ → List ℕ → Window → LitBox → List Told → Type 0
+IsExtent lights margins w box lines =
+    (distances : List Told) × AreMarginsLine margins w box distances × (lines ≡ line lights (piece.Within box ∷ []) ++ distances)
 
--- the board's answer to bytes of a ROM at this map and of a frame, by the frame's own certificate there; no line for bytes that
+-- how many items light past the screen, and the word address of the first, if there are any
+abbrev pub clipped_line : List ℕ → List Told
+clipped_line [] = line (codes "clipped") []
+clipped_line (first ∷ rest) = line (codes "clipped") (piece.Number (length (first ∷ rest)) ∷ piece.Address first ∷ [])
+
+-- the items that light past the screen; no line where the window is not the zone that a board clips
+abbrev pub IsClipped : Window → List ℕ → List Told → Type 0
+IsClipped w past_screen [] = w ≡ clipped → ⊥
+IsClipped w past_screen lines = (w ≡ clipped) × (lines ≡ clipped_line past_screen)
+
+-- the board's answer to bytes of a ROM at this map and of a frame, by the frame's own certificate there; none for bytes that
 -- can't be judged
-abbrev pub TellsBoardAt : Option MemoryMap → Inputs → Option Line → Type 0
-TellsBoardAt None inputs told = told ≡ None
-TellsBoardAt (Some map) inputs None = InRange inputs.frame.now inputs.budget → IsRomLength map (length inputs.rom.now) → ⊥
-TellsBoardAt (Some map) inputs (Some told) = (answer : Result Yes FrameRefusal)
-    × VerdictByMade (rom_on Board map inputs.rom.now) (words_of inputs.frame.now) inputs.window inputs.budget answer
-    × (told ≡ Accepted (line.OnBoard answer))
+abbrev pub IsBoardAt : Option MemoryMap → Inputs → Option (Result Yes FrameRefusal) → Type 0
+IsBoardAt None inputs answer = answer ≡ None
+IsBoardAt (Some map) inputs None = InRange inputs.frame.now inputs.budget → IsRomLength map (length inputs.rom.now) → ⊥
+IsBoardAt (Some map) inputs (Some answer) =
+    VerdictByMade (rom_on Board map inputs.rom.now) (words_of inputs.frame.now) inputs.window inputs.budget answer
 
 -- an answer about the profile is told with the board's
-abbrev pub TellsBoard : Machine → Inputs → Option Line → Type 0
-TellsBoard Profile inputs told = TellsBoardAt inputs.map inputs told
-TellsBoard Board inputs told = told ≡ None
+abbrev pub IsBoard : Machine → Inputs → Option (Result Yes FrameRefusal) → Type 0
+IsBoard Profile inputs answer = IsBoardAt inputs.map inputs answer
+IsBoard Board inputs answer = answer ≡ None
+
+-- the line of the board's answer
+abbrev pub board_line : Result Yes FrameRefusal → List Told
+board_line answer = line (codes "on the board") (piece.Answer answer ∷ [])
 
 -- these are the images of bytes of a ROM at this map and of a frame, as far as they are of the right length
 pub record AreImagesOf (machine : Machine) (map : MemoryMap) (rom_bytes frame_bytes : List ℕ) (rom : Option Rom)
@@ -64,21 +89,19 @@ pub record AreImagesOf (machine : Machine) (map : MemoryMap) (rom_bytes frame_by
 
 -- the lines of what is accepted of inputs with these images: counts, calls, where the frame and the shapes light, what the board
 -- clips, what is worth a second look (only tested), and the board's answer
-pub record AcceptedLines (inputs : Inputs) (rom : Option Rom) (frame : Option (List ℕ)) (yes : Yes) (lines : List Line) : Type 0 where
+pub record AcceptedLines (inputs : Inputs) (rom : Option Rom) (frame : Option (List ℕ)) (yes : Yes) (lines : List Told) : Type 0 where
   pub survey : Survey
   pub surveyed : IfSome inputs.cert (λ cert. Surveyed inputs.machine cert.now rom frame survey)
-  pub zone : Option Line
-  pub in_zone : TellsZone inputs.window zone
-  pub frame_margins : Option Line
-  pub frame_inside : TellsMargins inputs.window survey.frame.lit line.FrameMargins frame_margins
-  pub clipped : Option Line
-  pub clips : TellsClipped inputs.window survey.frame.clipped clipped
-  pub shapes_margins : Option Line
-  pub shapes_inside : TellsMargins inputs.window survey.shapes line.ShapesMargins shapes_margins
-  pub on_board : Option Line
-  pub board : TellsBoard inputs.machine inputs on_board
-  pub told : lines ≡ machine_lines inputs.machine ++ option_to_list zone ++ Accepted (line.Shapes yes.shapes)
-      ∷ Accepted (line.Words yes.words inputs.budget) ∷ Accepted (line.ReturnPlaces yes.depth)
-      ∷ Accepted (line.Calls survey.frame.calls) ∷ Accepted (line.FrameLights survey.frame.lit)
-      ∷ option_to_list frame_margins ++ option_to_list clipped ++ Accepted (line.ShapesLight survey.shapes) ∷ option_to_list shapes_margins
-      ++ Accepted (line.Remarks survey.remarks) ∷ option_to_list on_board
+  pub zone : List Told
+  pub in_zone : IsZone inputs.window zone
+  pub frame_lights : List Told
+  pub frame_lit : IsExtent (codes "frame lights within") (codes "frame margins") inputs.window survey.frame.lit frame_lights
+  pub clipped : List Told
+  pub clips : IsClipped inputs.window survey.frame.clipped.items clipped
+  pub shapes_light : List Told
+  pub shapes_lit : IsExtent (codes "shapes light within") (codes "shapes margins") inputs.window survey.shapes shapes_light
+  pub on_board : Option (Result Yes FrameRefusal)
+  pub board : IsBoard inputs.machine inputs on_board
+  pub lines_are : lines ≡ machine_lines inputs.machine ++ zone ++ counts_lines yes inputs.budget
+      ++ flat_map call_line survey.frame.calls.items ++ frame_lights ++ clipped ++ shapes_light
+      ++ told survey.remarks.items ++ one board_line on_board

@@ -10,3 +10,9 @@ Extends (Some old) (Some new) added = new ≡ old ++ added
 -- these were added to a list, unless memory ran out
 pub record Adds {A : Type 0} (old new : Option (List A)) (added : List A) : Type 0 where
   pub extends : Extends old new added
+
+-- what was added to a list is such, unless memory ran out
+pub record Tells {A : Type 0} (old new : Option (List A)) (IsSuch : List A → Type 0) : Type 0 where
+  pub added : List A
+  pub adds : Adds old new added
+  pub is_such : IsSuch added

@@ -1,10 +1,10 @@
 -- The item of a refusal, and its lines. All of it is this project's own.
-use Rattle.std.specs.Prelude.{◌≡◌, ℕ, ◌+◌, List, [], ◌∷◌, ◌++◌, map, Option, Some, None, option_map, option_to_list, if◌then◌else◌}
+use Rattle.std.specs.Prelude.{◌≡◌, ℕ, ◌+◌, List, [], ◌∷◌, ◌++◌, codes, Option, Some, None, option_map, option_to_list, if◌then◌else◌}
 use Rattle.dvg_words.specs.Values.{Source}
 use Rattle.dvg_words.specs.Decoding.{opcode, is_long_opcode, cell_at}
 use Rattle.dvg_words.specs.declared.instruction.Cell.{Cell}
 use Rattle.dvg_words.specs.declared.instruction.Cell.TheVariants as cell
-use Rattle.dvg_cert.specs.declared.entry.Entry.{Entry}
+use Rattle.dvg_cert.specs.declared.entry.Entry.{Entry as Called}
 use Rattle.dvg_items.specs.declared.item.Item.{Item as Before}
 use Rattle.dvg_items.specs.declared.item.Kind.{Kind}
 use Rattle.dvg_items.specs.declared.item.Kind.TheVariants.{Shape, Frame}
@@ -12,49 +12,45 @@ use Rattle.dvg_items.specs.declared.known.Known.{Known}
 use Rattle.dvg_check.specs.declared.fault.Found.{Found}
 use Rattle.dvg_check.specs.declared.fault.Found.TheVariants.{Seen}
 use Rattle.dvg_survey.specs.declared.losses.Losses.{Losses}
-use Rattle.dvg_account.specs.declared.zeros.Way.{Way}
-use Rattle.dvg_account.specs.declared.line.Zeros.{Zeros}
+use Rattle.dvg_account.specs.declared.zeros.Zeros.{Zeros}
 pub use Rattle.dvg_account.specs.declared.item.RefusedItem.{RefusedItem}
-pub use Rattle.dvg_account.specs.declared.line.Words.{Words}
-pub use Rattle.dvg_account.specs.declared.line.Words.TheVariants as words
-pub use Rattle.dvg_account.specs.declared.line.Instruction.{Instruction}
-pub use Rattle.dvg_account.specs.declared.line.Line.{Line}
-use Rattle.dvg_account.specs.declared.line.Line.TheVariants.{Item}
-pub use Rattle.dvg_account.specs.declared.line.Role.{Role}
-use Rattle.dvg_account.specs.declared.line.Role.TheVariants as role
-use Rattle.dvg_account.specs.declared.line.ItemLine.{ItemLine}
-use Rattle.dvg_account.specs.declared.line.ItemLine.TheVariants as line
+pub use Rattle.dvg_account.specs.declared.item.ItemWords.{ItemWords}
+use Rattle.dvg_account.specs.declared.item.ItemWords.TheVariants as held
+pub use Rattle.dvg_account.specs.declared.piece.Instruction.{Instruction as There}
+use Rattle.dvg_account.specs.declared.piece.Piece.TheVariants.{At, Number, Address, Word, Instruction, Item, Entry, Place, Scale}
+use Rattle.dvg_account.specs.Told.{Told, Piece, Role, line, of, one}
+use Rattle.dvg_account.specs.declared.piece.Role.TheVariants as role
 
 -- the words of an instruction by its first word and the one after it, as far as they are there
-abbrev pub words_with : ℕ → Option ℕ → Words
-words_with first None = words.One first
-words_with first (Some second) = words.Two first second
+abbrev pub words_with : ℕ → Option ℕ → ItemWords
+words_with first None = held.One first
+words_with first (Some second) = held.Two first second
 
 -- the words of an instruction, of which the first may be missing, too
-abbrev pub words_from : Option ℕ → Option ℕ → Words
-words_from None next = words.Nothing
-words_from (Some first) next = if is_long_opcode (opcode first) then words_with first next else words.One first
+abbrev pub words_from : Option ℕ → Option ℕ → ItemWords
+words_from None next = held.Nothing
+words_from (Some first) next = if is_long_opcode (opcode first) then words_with first next else held.One first
 
 -- the words of the item at a word address
-abbrev pub words_at : Source → ℕ → Words
+abbrev pub words_at : Source → ℕ → ItemWords
 words_at source at = words_from (source.word at) (source.word (at + 1))
 
 -- the instruction at a word address, if one stands there
-abbrev pub instruction_of : Cell → Option Instruction
+abbrev pub instruction_of : Cell → Option There
 instruction_of (cell.Holds format instr) = Some (record { format = format; instr = instr })
 instruction_of c = None
 
 -- the instruction at a word address of a source
-abbrev pub instruction_at : Source → ℕ → Option Instruction
+abbrev pub instruction_at : Source → ℕ → Option There
 instruction_at source at = instruction_of (cell_at source at)
 
 -- the entry that an item names
-abbrev pub callee_of : Found → Option Entry
+abbrev pub callee_of : Found → Option Called
 callee_of (Seen v) = v.callee
 callee_of found = None
 
 -- the item at a word address, before which this is known, if that is told, and which names this entry
-pub record IsItemWith (kind : Kind) (source : Source) (at : ℕ) (before : Option Known) (callee : Option Entry)
+pub record IsItemWith (kind : Kind) (source : Source) (at : ℕ) (before : Option Known) (callee : Option Called)
     (i : RefusedItem) : Type 0 where
   pub of_kind : i.kind ≡ kind
   pub stands : i.at ≡ at
@@ -64,49 +60,52 @@ pub record IsItemWith (kind : Kind) (source : Source) (at : ℕ) (before : Optio
   pub known : i.before ≡ before
 
 -- the refused item, of which all that stands before it is known
-abbrev pub IsItem : Kind → Source → ℕ → Known → Option Entry → RefusedItem → Type 0
+abbrev pub IsItem : Kind → Source → ℕ → Known → Option Called → RefusedItem → Type 0
 IsItem kind source at before callee i = IsItemWith kind source at (Some before) callee i
 
 -- ---- lines
 
--- a line of the item in a role, if there is one
-abbrev pub item_line : Role → Option ItemLine → List Line
-item_line r l = map (Item r) (option_to_list l)
+-- where the item stands
+abbrev pub stands : Role → ℕ → List Told
+stands role.Refused at = line (codes "item") (At at ∷ [])
+stands role.Stop at = line (codes "comes to") (At at ∷ [])
+
+-- its words
+abbrev pub words_of : ItemWords → List Piece
+words_of held.Nothing = []
+words_of (held.One first) = Word first ∷ []
+words_of (held.Two first second) = Word first ∷ Word second ∷ []
+
+-- another item under this key, if there is one
+abbrev pub item_line : Role → List ℕ → Option Before → List Told
+item_line r key other = one (λ i. of r key (Item i ∷ [])) other
 
 -- an item of a frame is told with the item that goes on to it, unless zeros lead there; one of a shape only where it is missing
-abbrev pub unless_zeros : Option Zeros → Option Before → Option ItemLine
-unless_zeros None before = option_map line.ComesFrom before
-unless_zeros (Some zeros) before = None
+abbrev pub comes_from : Kind → ItemWords → Option Zeros → Option Before → Option Before
+comes_from Frame words None before = before
+comes_from Shape held.Nothing None before = before
+comes_from kind words zeros before = None
 
--- the item that goes on to this one, where it is told
-abbrev pub comes_from : Kind → Words → Way → Option ItemLine
-comes_from Frame held way = unless_zeros way.zeros way.last
-comes_from Shape words.Nothing way = unless_zeros way.zeros way.last
-comes_from Shape held way = None
+-- what was lost by an item
+abbrev pub lost_by : (Losses → Option Before) → Option Losses → Option Before
+lost_by what None = None
+lost_by what (Some l) = what l
 
--- the item by which the place was lost
-abbrev pub place_lost_by : Option Losses → Option ItemLine
-place_lost_by None = None
-place_lost_by (Some l) = option_map line.PlaceLostBy l.place
+-- what is known before the item
+abbrev pub known_lines : Role → Known → List Told
+known_lines r known = of r (codes "place before") (Place known.place ∷ []) ++ of r (codes "scale before") (Scale known.scale ∷ [])
+    ++ of r (codes "words before") (Number known.words ∷ [])
 
--- the item by which the scale was lost
-abbrev pub scale_lost_by : Option Losses → Option ItemLine
-scale_lost_by None = None
-scale_lost_by (Some l) = option_map line.ScaleLostBy l.scale
-
--- what is known before the item, if that is told
-abbrev pub known_lines : Role → Option Known → List Line
-known_lines r None = []
-known_lines r (Some known) =
-    Item r (line.PlaceBefore known.place) ∷ Item r (line.ScaleBefore known.scale) ∷ Item r (line.WordsBefore known.words) ∷ []
+-- zeros that lead to the item, and the item before them
+abbrev pub zeros_lines : Role → Zeros → List Told
+zeros_lines r z = of r (codes "zeros") (Address z.first ∷ Address z.last ∷ [])
+    ++ of r (codes "before zeros") (option_to_list (option_map Item z.before))
 
 -- where the item stands, what it is, what is known before it, by which items the rest was lost, and the zeros that lead to it
-abbrev pub lines_as : Role → RefusedItem → List Line
-lines_as r i =
-    Item r (line.At i.at) ∷ Item r (line.Holds i.words) ∷ Item r (line.Instruction i.instruction)
-    ∷ item_line r (option_map line.CalledEntry i.callee) ++ item_line r (comes_from i.kind i.words i.way) ++ known_lines r i.before
-    ++ item_line r (place_lost_by i.losses) ++ item_line r (scale_lost_by i.losses) ++ item_line r (option_map line.Zeros i.way.zeros)
-
--- of the item by which something is refused
-abbrev pub item_lines : RefusedItem → List Line
-item_lines i = lines_as role.Refused i
+abbrev pub lines_as : Role → RefusedItem → List Told
+lines_as r i = stands r i.at ++ of r (codes "holds") (words_of i.words)
+    ++ of r (codes "instruction") (option_to_list (option_map Instruction i.instruction))
+    ++ one (λ e. of r (codes "called entry") (Entry e ∷ [])) i.callee
+    ++ item_line r (codes "comes from") (comes_from i.kind i.words i.way.zeros i.way.last) ++ one (known_lines r) i.before
+    ++ item_line r (codes "place lost by") (lost_by (λ l. l.place) i.losses)
+    ++ item_line r (codes "scale lost by") (lost_by (λ l. l.scale) i.losses) ++ one (zeros_lines r) i.way.zeros

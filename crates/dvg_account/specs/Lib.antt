@@ -1,13 +1,14 @@
 pub mod Building
+pub mod Told
 pub mod Machines
 pub mod Items
 pub mod Leaving
 pub mod Why
 pub mod Plain
 pub mod Furthest
+pub mod Chains
 pub mod Refused
 pub mod Accepted
-pub mod Cures
 pub mod Meant
 pub mod Middle
 pub mod Making

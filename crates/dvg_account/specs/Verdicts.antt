@@ -16,7 +16,7 @@ use Rattle.dvg_account.specs.Refused.{FrameLines, ShapeLines}
 use Rattle.dvg_account.specs.declared.inputs.Inputs.{Inputs}
 use Rattle.dvg_account.specs.declared.inputs.PlainWhy.{PlainWhy}
 use Rattle.dvg_account.specs.declared.inputs.PlainWhy.TheVariants.{Nothing}
-use Rattle.dvg_account.specs.declared.line.Line.{Line}
+use Rattle.dvg_account.specs.Told.{Told}
 use Rattle.dvg_account.specs.Making.{UnmadeLines}
 use Rattle.dvg_make.specs.declared.account.EntryCause.{EntryCause}
 use Rattle.dvg_make.specs.declared.account.EntryCause.TheVariants as cause
@@ -27,7 +27,7 @@ use Rattle.dvg_make.specs.declared.judging.FrameRefusal.TheVariants.{Check}
 
 -- the lines of a refusal of inputs with these images: those of the first fault of the shapes or the frame, where that is its cause,
 -- else of its number
-abbrev pub RefusedLines : Inputs → Option Rom → Option (List ℕ) → Refusal → Option RomFinding → List Line → Type 0
+abbrev pub RefusedLines : Inputs → Option Rom → Option (List ℕ) → Refusal → Option RomFinding → List Told → Type 0
 RefusedLines inputs rom frame refusal (Some (finding.Shape f)) lines =
     IfSome inputs.cert (λ cert. IfSome rom (λ r. ShapeLines inputs r frame cert.now.entries f lines))
 RefusedLines inputs rom frame refusal (Some (finding.Frame f)) lines =
@@ -35,25 +35,25 @@ RefusedLines inputs rom frame refusal (Some (finding.Frame f)) lines =
 RefusedLines inputs rom frame refusal cause lines = (why : PlainWhy) × (lines ≡ plain_lines inputs.machine (refusal_number refusal) why)
 
 -- the lines of a verdict on inputs with these images
-abbrev pub LinesOf : Inputs → Option Rom → Option (List ℕ) → Result Yes Refusal → Option RomFinding → List Line → Type 0
+abbrev pub LinesOf : Inputs → Option Rom → Option (List ℕ) → Result Yes Refusal → Option RomFinding → List Told → Type 0
 LinesOf inputs rom frame (Ok y) cause lines = AcceptedLines inputs rom frame y lines
 LinesOf inputs rom frame (Err refusal) cause lines = RefusedLines inputs rom frame refusal cause lines
 
 -- the lines of a verdict on inputs
-pub record VerdictLines (inputs : Inputs) (verdict : Result Yes Refusal) (cause : Option RomFinding) (lines : List Line) : Type 0 where
+pub record VerdictLines (inputs : Inputs) (verdict : Result Yes Refusal) (cause : Option RomFinding) (lines : List Told) : Type 0 where
   pub rom : Option Rom
   pub frame : Option (List ℕ)
   pub are_images : IfSome inputs.cert (λ cert. AreImagesOf inputs.machine cert.now.map inputs.rom.now inputs.frame.now rom frame)
   pub told : LinesOf inputs rom frame verdict cause lines
 
 -- the lines of a verdict on a frame; a refusal of the maker is told as one for memory
-abbrev pub FrameVerdictLines : Inputs → Result Yes FrameRefusal → Option RomFinding → List Line → Type 0
+abbrev pub FrameVerdictLines : Inputs → Result Yes FrameRefusal → Option RomFinding → List Told → Type 0
 FrameVerdictLines inputs (Ok y) cause lines = VerdictLines inputs (Ok y) None lines
 FrameVerdictLines inputs (Err (Check refusal)) cause lines = VerdictLines inputs (Err refusal) cause lines
 FrameVerdictLines inputs (Err refusal) cause lines = lines ≡ plain_lines inputs.machine 63 Nothing
 
 -- the lines of a verdict on inputs with these images that comes with the cause of a refusal
-abbrev pub JudgedLines : Inputs → Rom → List ℕ → Result Yes RomFinding → List Line → Type 0
+abbrev pub JudgedLines : Inputs → Rom → List ℕ → Result Yes RomFinding → List Told → Type 0
 JudgedLines inputs rom frame (Ok y) lines = AcceptedLines inputs (Some rom) (Some frame) y lines
 JudgedLines inputs rom frame (Err f) lines = RefusedLines inputs (Some rom) (Some frame) (refusal_of f) (Some f) lines
 
@@ -69,15 +69,15 @@ pub record IsBy (inputs : Inputs) (c : Certificate) (by : Inputs) : Type 0 where
   pub mode_is : by.mode ≡ Exact
 
 -- the lines of the verdict on inputs with these images by the frame's own certificate
-abbrev pub LinesBy : Inputs → Rom → List ℕ → JudgedFrame → List Line → Type 0
+abbrev pub LinesBy : Inputs → Rom → List ℕ → JudgedFrame → List Told → Type 0
 LinesBy inputs rom frame judged lines = (by : Inputs) × IsBy inputs judged.cert by × JudgedLines by rom frame judged.verdict lines
 
 -- the lines of a refusal of the maker over a ROM; of a want of memory its number alone
-abbrev pub TellsUnmade : Machine → Rom → List ℕ → MakeAccount → EntryCause → List Line → Type 0
+abbrev pub TellsUnmade : Machine → Rom → List ℕ → MakeAccount → EntryCause → List Told → Type 0
 TellsUnmade machine rom frame account cause.Memory lines = lines ≡ plain_lines machine 63 Nothing
 TellsUnmade machine rom frame account other lines = UnmadeLines rom (frame ∷ []) account lines
 
 -- the lines of a frame by its own certificate over a ROM: of the verdict by it, or of why none is made
-abbrev pub OwnLines : Inputs → Rom → List ℕ → Result JudgedFrame MakeAccount → List Line → Type 0
+abbrev pub OwnLines : Inputs → Rom → List ℕ → Result JudgedFrame MakeAccount → List Told → Type 0
 OwnLines inputs rom frame (Ok judged) lines = LinesBy inputs rom frame judged lines
 OwnLines inputs rom frame (Err account) lines = TellsUnmade inputs.machine rom frame account account.cause lines

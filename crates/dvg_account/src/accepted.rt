@@ -1,18 +1,18 @@
 //! The account of what is accepted.
 
-ghost use Rattle.std.specs.Prelude.{IfOk, IfSome, option_copied};
-ghost use Rattle.dvg_account.specs.Accepted.{Surveyed, TellsMargins, TellsClipped, TellsBoard, AcceptedLines};
-ghost use Rattle.dvg_account.specs.declared.line.AcceptedLine.TheVariants.{FrameMargins, ShapesMargins};
-ghost use Rattle.dvg_account.specs.Building.{Adds};
+ghost use Rattle.std.specs.Prelude.{◌≡◌, IfOk, IfSome, option_copied, flat_map};
+ghost use Rattle.dvg_account.specs.Told.{told, one};
+ghost use Rattle.dvg_account.specs.Accepted.{Surveyed, IsExtent, IsClipped, IsBoard, board_line, AcceptedLines, counts_lines, call_line};
+ghost use Rattle.dvg_account.specs.Building.{Adds, Tells};
 
 use crate::inputs::Inputs;
-use crate::line::{AcceptedLine, Line};
-use crate::lines::{Lines, zone_line};
-use crate::remarks::{Remark, remarks_on};
+use crate::lines::Lines;
+use crate::piece::Piece::{self, Address, Answer, Distance, Line, Number, Text, Within};
+use crate::remarks::remarks_on;
 use dvg_cert::{Cert, HashIndex, LitBox};
 use dvg_check::{Refusal, Yes, frame_of};
 use dvg_make::{FrameRefusal, judge};
-use dvg_survey::{FrameSurvey, Margins, shapes_extent, survey_frame};
+use dvg_survey::{Call, FrameSurvey, Margins, shapes_extent, survey_frame};
 use dvg_words::{CLIPPED, FrameImage, Machine, RomImage, Window};
 use std::alloc::{AllocError, Global};
 
@@ -22,7 +22,7 @@ use std::alloc::{AllocError, Global};
 pub struct Survey {
     pub frame: FrameSurvey,
     pub shapes: LitBox,
-    pub remarks: Vec<Remark>,
+    pub remarks: Vec<Piece>,
 }
 
 impl Survey {
@@ -79,36 +79,87 @@ impl Survey {
     }
 }
 
-/// The line of how far what the frame lights is from each edge of the window, if it lights something there.
-fn frame_margins(window: &Window, lit: &LitBox) -> Option<Line>
-    ensures { TellsMargins window.now lit.now FrameMargins result }
+/// Adds the lines of the counts of a yes.
+fn push_counts(lines: &mut Lines, yes: Yes, budget: u32)
+    ensures { Adds lines.old lines.new (counts_lines yes budget) }
 {
-    let margins = Margins::within(window, lit)?;
-    Some(Line::Accepted(AcceptedLine::FrameMargins(margins)))
+    lines.add(&[
+        Line("shapes"),
+        Number(yes.shapes as u64),
+        Text(" of 4096"),
+        Line("words"),
+        Number(yes.words as u64),
+        Text(" of the budget "),
+        Number(budget as u64),
+        Line("return places"),
+        Number(yes.depth as u64),
+        Text(" of 4"),
+    ]);
 }
 
-/// The line of how far what the shapes light is from each edge of the window, if they light something there.
-fn shapes_margins(window: &Window, lit: &LitBox) -> Option<Line>
-    ensures { TellsMargins window.now lit.now ShapesMargins result }
+/// Adds a line for each call of a frame.
+fn push_calls(lines: &mut Lines, calls: &[Call])
+    ensures { Adds lines.old lines.new (flat_map call_line calls.now) }
 {
-    let margins = Margins::within(window, lit)?;
-    Some(Line::Accepted(AcceptedLine::ShapesMargins(margins)))
-}
-
-/// The line of the frame's items that light past the screen, where the window is the zone that a board clips.
-fn clipped_line(window: &Window, clipped: Vec<u16>) -> Option<Line>
-    ensures { TellsClipped window.now clipped result }
-{
-    if *window == CLIPPED {
-        Some(Line::Accepted(AcceptedLine::Clipped(clipped)))
-    } else {
-        None
+    for call in calls {
+        lines.add(&[
+            Line("call"),
+            Address(call.at),
+            Text(" "),
+            Piece::Entry(call.entry),
+        ]);
     }
 }
 
-/// The line of what the board answers to the same inputs, by the frame's own certificate there, unless the board was asked.
-pub fn board_line(alloc: Global, inputs: &Inputs) -> Result<Option<Line>, AllocError>
-    ensures { IfOk result (TellsBoard inputs.now.machine inputs.now) }
+/// Adds the line of where something lights, and that of how far this is from each edge of the window, if it lights something there.
+fn push_extent(
+    lines: &mut Lines,
+    lights: &'static str,
+    margins: &'static str,
+    window: &Window,
+    lit: &LitBox,
+)
+    ensures { Tells lines.old lines.new (IsExtent lights.now margins.now window.now lit.now) }
+{
+    lines.add(&[Line(lights), Within(*lit)]);
+    if let Some(distances) = Margins::within(window, lit) {
+        lines.add(&[
+            Line(margins),
+            Text("left "),
+            Distance(distances.left),
+            Text(", right "),
+            Distance(distances.right),
+            Text(", bottom "),
+            Distance(distances.bottom),
+            Text(", top "),
+            Distance(distances.top),
+        ]);
+    }
+}
+
+/// Adds the line of the frame's items that light past the screen, where the window is the zone that a board clips.
+fn push_clipped(lines: &mut Lines, window: &Window, clipped: &[u16])
+    ensures { Tells lines.old lines.new (IsClipped window.now clipped.now) }
+{
+    if *window == CLIPPED {
+        match clipped.first() {
+            Some(first) => lines.add(&[
+                Line("clipped"),
+                Number(clipped.len() as u64),
+                Text(" of the frame's items, the first at "),
+                Address(*first),
+            ]),
+            None => lines.add(&[Line("clipped"), Text("none of the frame's items")]),
+        }
+    }
+}
+
+/// What the board answers to the same inputs, by the frame's own certificate there, unless the board was asked.
+pub fn board_answer(
+    alloc: Global,
+    inputs: &Inputs,
+) -> Result<Option<Result<Yes, FrameRefusal>>, AllocError>
+    ensures { IfOk result (IsBoard inputs.now.machine inputs.now) }
 {
     let (Machine::Profile, Some(map)) = (inputs.machine, inputs.map) else {
         return Ok(None);
@@ -121,7 +172,16 @@ pub fn board_line(alloc: Global, inputs: &Inputs) -> Result<Option<Line>, AllocE
     };
     match judge(alloc, &rom, &frame, inputs.budget, inputs.window) {
         Err(FrameRefusal::NoMemory | FrameRefusal::Check(Refusal::IndexMemory)) => Err(AllocError),
-        answer => Ok(Some(Line::Accepted(AcceptedLine::OnBoard(answer)))),
+        answer => Ok(Some(answer)),
+    }
+}
+
+/// Adds the line of what the board answers, if that is told.
+pub fn push_board(lines: &mut Lines, answer: Option<Result<Yes, FrameRefusal>>)
+    ensures { Adds lines.old lines.new (one board_line answer) }
+{
+    if let Some(answer) = answer {
+        lines.add(&[Line("on the board"), Answer(answer)]);
     }
 }
 
@@ -133,33 +193,35 @@ pub fn accepted_lines(
     rom: Option<&RomImage>,
     frame: Option<&FrameImage>,
     yes: Yes,
-) -> Result<Vec<Line>, AllocError>
-    ensures { IfOk result (λ lines. AcceptedLines inputs.now (option_copied rom.entry) (option_copied frame.entry) yes lines.items) }
+) -> Result<Vec<Piece>, AllocError>
+    ensures { IfOk result (λ lines. AcceptedLines inputs.now (option_copied rom.entry) (option_copied frame.entry) yes
+        (told lines.items)) }
 {
     let survey = Survey::of(alloc, inputs, rom, frame)?;
-    let on_board = board_line(alloc, inputs)?;
-    let Survey {
-        frame,
-        shapes,
-        remarks,
-    } = survey;
-    let lit = frame.lit;
+    let on_board = board_answer(alloc, inputs)?;
+    let frame = &survey.frame;
+    let window = &inputs.window;
     let mut lines = Lines::new(alloc);
     lines.push_machine(inputs.machine);
-    lines.push_some(zone_line(&inputs.window));
-    lines.push_accepted(AcceptedLine::Shapes(yes.shapes));
-    lines.push_accepted(AcceptedLine::Words {
-        words: yes.words,
-        budget: inputs.budget,
-    });
-    lines.push_accepted(AcceptedLine::ReturnPlaces(yes.depth));
-    lines.push_accepted(AcceptedLine::Calls(frame.calls));
-    lines.push_accepted(AcceptedLine::FrameLights(lit));
-    lines.push_some(frame_margins(&inputs.window, &lit));
-    lines.push_some(clipped_line(&inputs.window, frame.clipped));
-    lines.push_accepted(AcceptedLine::ShapesLight(shapes));
-    lines.push_some(shapes_margins(&inputs.window, &shapes));
-    lines.push_accepted(AcceptedLine::Remarks(remarks));
-    lines.push_some(on_board);
+    lines.push_zone(window);
+    push_counts(&mut lines, yes, inputs.budget);
+    push_calls(&mut lines, &frame.calls);
+    push_extent(
+        &mut lines,
+        "frame lights within",
+        "frame margins",
+        window,
+        &frame.lit,
+    );
+    push_clipped(&mut lines, window, &frame.clipped);
+    push_extent(
+        &mut lines,
+        "shapes light within",
+        "shapes margins",
+        window,
+        &survey.shapes,
+    );
+    lines.add(&survey.remarks);
+    push_board(&mut lines, on_board);
     lines.finish()
 }

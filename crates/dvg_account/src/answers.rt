@@ -1,11 +1,12 @@
 //! The account of a verdict, as lines.
 
 ghost use Rattle.std.specs.Prelude.{IfOk, option_copied};
+ghost use Rattle.dvg_account.specs.Told.{told};
 ghost use Rattle.dvg_account.specs.Verdicts.{LinesOf, VerdictLines};
 
 use crate::accepted::accepted_lines;
 use crate::inputs::Inputs;
-use crate::line::Line;
+use crate::piece::Piece;
 use crate::refused::refused_lines;
 use dvg_check::{Refusal, RomFinding, Yes};
 use dvg_words::{FrameImage, RomImage};
@@ -19,9 +20,9 @@ fn lines_of(
     frame: Option<&FrameImage>,
     verdict: &Result<Yes, Refusal>,
     cause: Option<&RomFinding>,
-) -> Result<Vec<Line>, AllocError>
+) -> Result<Vec<Piece>, AllocError>
     ensures { IfOk result (λ lines. LinesOf inputs.now (option_copied rom.entry) (option_copied frame.entry) verdict.now
-        (option_copied cause.entry) lines.items) }
+        (option_copied cause.entry) (told lines.items)) }
 {
     match verdict {
         Ok(yes) => accepted_lines(alloc, inputs, rom, frame, *yes),
@@ -35,8 +36,8 @@ pub fn verdict_lines(
     inputs: &Inputs,
     verdict: &Result<Yes, Refusal>,
     cause: Option<&RomFinding>,
-) -> Result<Vec<Line>, AllocError>
-    ensures { IfOk result (λ lines. VerdictLines inputs.now verdict.now (option_copied cause.entry) lines.items) }
+) -> Result<Vec<Piece>, AllocError>
+    ensures { IfOk result (λ lines. VerdictLines inputs.now verdict.now (option_copied cause.entry) (told lines.items)) }
 {
     let rom = match inputs.cert {
         Some(cert) => RomImage::from_bytes_on(inputs.machine, inputs.rom, cert.map()).ok(),

@@ -1,21 +1,20 @@
 //! The stroke of a called shape that an account names where the call is refused.
 
 ghost use Rattle.std.specs.Prelude.{option_copied};
-ghost use Rattle.dvg_account.specs.Furthest.{TellsFurthest};
+ghost use Rattle.dvg_account.specs.Furthest.{IsFurthest};
 ghost use Rattle.dvg_account.specs.Items.{callee_of};
 
 use crate::item::callee_of;
-use crate::line::Line;
 use dvg_cert::{Cert, Entries, ListIndex};
 use dvg_check::{FrameCause, FrameFinding};
+use dvg_items::Item;
 use dvg_survey::furthest_stroke;
 use dvg_words::RomImage;
 
-/// The line of the stroke by which a called shape reaches furthest past the edge that its box leaves, where a frame is refused because
-/// of that box.
+/// The stroke by which a called shape reaches furthest past the edge that its box leaves, where a frame is refused because of that box.
 #[tactic(auto, using(dvg_items::proofs::Listed::listed_at))]
-pub fn furthest_line(rom: Option<&RomImage>, cert: &Cert, finding: &FrameFinding) -> Option<Line>
-    ensures { TellsFurthest (option_copied rom.entry) cert.now.entries finding.now.cause (callee_of finding.now.found) result }
+pub fn furthest(rom: Option<&RomImage>, cert: &Cert, finding: &FrameFinding) -> Option<Item>
+    ensures { IsFurthest (option_copied rom.entry) cert.now.entries finding.now.cause (callee_of finding.now.found) result }
 {
     let (Some(rom), FrameCause::OffScreen(leaving), Some(called)) = (
         rom,
@@ -26,6 +25,5 @@ pub fn furthest_line(rom: Option<&RomImage>, cert: &Cert, finding: &FrameFinding
     };
     let entries = ListIndex::new(cert);
     let entry = entries.find(called.addr, called.key)?;
-    let stroke = furthest_stroke(rom, cert, &entries, &entry, leaving.edge)?;
-    Some(Line::Furthest(stroke))
+    furthest_stroke(rom, cert, &entries, &entry, leaving.edge)
 }

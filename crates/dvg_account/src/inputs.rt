@@ -1,13 +1,13 @@
 //! What was judged, and the account of a refusal before any item was judged.
 
 ghost use Rattle.std.specs.Prelude.{◌≡◌, IfOk};
-ghost use Rattle.dvg_account.specs.Plain.{certificate_lines, told_of_line, told_plainly, plain_lines};
+ghost use Rattle.dvg_account.specs.Told.{told};
+ghost use Rattle.dvg_account.specs.Plain.{certificate_lines, plain_lines, told_of_line, told_of_why, told_plainly};
 ghost use Rattle.dvg_account.specs.Building.{Adds};
 
-use crate::line::Line;
 use crate::lines::Lines;
+use crate::piece::Piece::{self, Bytes, Cure, Expected, Fitting, Line, Number, Rule, Text, ToDo};
 use crate::starts::ShapeStarts;
-use crate::why::{Addresses, InputWhy, Why};
 use dvg_cert::{Cert, CertFault};
 use dvg_check::{Mode, Refusal};
 use dvg_labels::Labels;
@@ -69,39 +69,97 @@ impl<'a> Inputs<'a> {
     }
 }
 
-/// Adds the lines that tell of a refused line of the certificate.
+/// The most bytes of a frame. Of a longer one, one byte more is read.
+const MOST_FRAME_BYTES: usize = 2048;
+
+/// The most bytes of a ROM. Of a longer one, one byte more is read.
+const MOST_ROM_BYTES: usize = 4096;
+
+/// What is wrong with so many bytes of a ROM, if they are no more than the most.
+fn rom_fault(bytes: usize) -> &'static str {
+    if bytes < MOST_ROM_BYTES && bytes % 2 == 1 {
+        ", an odd number, and words "
+    } else {
+        ", and words "
+    }
+}
+
+/// What is wrong with so many bytes of a frame, if they are no more than the most.
+fn frame_fault(bytes: usize) -> &'static str {
+    if bytes == 0 {
+        ", and one word is the least"
+    } else if bytes < MOST_FRAME_BYTES {
+        ", an odd number: words have two"
+    } else {
+        ""
+    }
+}
+
+/// Adds the lines that tell of a refused line of the certificate, and of why, if that is known.
 fn push_line(lines: &mut Lines, line: u32, why: Option<LineWhy>)
     ensures { Adds lines.old lines.new (told_of_line line why) }
 {
     match why {
-        None => lines.push(Line::CertificateLine(line)),
-        Some(LineWhy::Form(leaving)) => {
-            lines.push(Line::CertificateLine(line));
-            lines.push(Line::Column(leaving.column));
-            lines.push(Line::Expected(leaving.expected));
-        }
-        Some(LineWhy::Count(counts)) => {
-            lines.push(Line::Why(Why::Input(InputWhy::EntryCounts(counts))));
-            lines.push(Line::CertificateLine(line));
-        }
+        None => lines.add(&[Line("certificate line"), Number(line as u64)]),
+        Some(why) => push_line_why(lines, line, why),
     }
+}
+
+/// Adds the lines that tell of a refused line, and of why.
+fn push_line_why(lines: &mut Lines, line: u32, why: LineWhy)
+    ensures { Adds lines.old lines.new (told_of_why line why) }
+{
+    match why {
+        LineWhy::Form(leaving) => lines.add(&[
+            Line("certificate line"),
+            Number(line as u64),
+            Line("column"),
+            Number(leaving.column as u64),
+            Line("expected"),
+            Expected(leaving.expected),
+        ]),
+        LineWhy::Count(counts) => lines.add(&[
+            Line("why"),
+            Text("the `done` line says "),
+            Number(counts.claimed as u64),
+            Text(entries(counts.claimed)),
+            Text(", and the certificate has "),
+            Number(counts.found as u64),
+            Line("certificate line"),
+            Number(line as u64),
+        ]),
+    }
+}
+
+/// The word for so many entries.
+fn entries(count: u16) -> &'static str {
+    if count == 1 { " entry" } else { " entries" }
 }
 
 /// Adds the lines that tell why, if something is known.
 fn push_plain(lines: &mut Lines, why: PlainWhy)
     ensures { Adds lines.old lines.new (told_plainly why) }
 {
-    let why = match why {
-        PlainWhy::Nothing => return,
-        PlainWhy::Line(line) => return lines.push(Line::CertificateLine(line)),
-        PlainWhy::RomLength { bytes, map } => InputWhy::RomLength {
-            bytes,
-            words: Addresses::of_map(map),
-        },
-        PlainWhy::FrameLength { bytes } => InputWhy::FrameLength(bytes),
-        PlainWhy::Budget(budget) => InputWhy::Budget(budget),
-    };
-    lines.push(Line::Why(Why::Input(why)));
+    match why {
+        PlainWhy::Nothing => {}
+        PlainWhy::RomLength { bytes, map } => lines.add(&[
+            Line("why"),
+            Text("the ROM has "),
+            Bytes(bytes, MOST_ROM_BYTES),
+            Text(rom_fault(bytes)),
+            Fitting(map, bytes),
+        ]),
+        PlainWhy::FrameLength { bytes } => lines.add(&[
+            Line("why"),
+            Text("the frame has "),
+            Bytes(bytes, MOST_FRAME_BYTES),
+            Text(frame_fault(bytes)),
+        ]),
+        PlainWhy::Budget(budget) => {
+            lines.add(&[Line("why"), Text("the budget is "), Number(budget as u64)])
+        }
+        PlainWhy::Line(line) => { lines.add(&[Line("certificate line"), Number(line as u64)]) }
+    }
 }
 
 /// The lines of a refusal with this number before any item was judged on a machine (this project's own).
@@ -110,14 +168,14 @@ pub fn plain_lines(
     alloc: Global,
     number: u8,
     why: PlainWhy,
-) -> Result<Vec<Line>, AllocError>
-    ensures { IfOk result (λ lines. lines.items ≡ plain_lines machine number why) }
+) -> Result<Vec<Piece>, AllocError>
+    ensures { IfOk result (λ lines. told lines.items ≡ plain_lines machine number why) }
 {
     let mut lines = Lines::new(alloc);
     lines.push_machine(machine);
-    lines.push(Line::Rule(number));
+    lines.add(&[Line("rule"), Rule(number)]);
     push_plain(&mut lines, why);
-    lines.push(Line::WhatToDo(number));
+    lines.add(&[ToDo, Cure(number)]);
     lines.finish()
 }
 
@@ -127,13 +185,13 @@ pub fn certificate_lines(
     alloc: Global,
     fault: CertFault,
     why: Option<LineWhy>,
-) -> Result<Vec<Line>, AllocError>
-    ensures { IfOk result (λ lines. lines.items ≡ certificate_lines machine fault why) }
+) -> Result<Vec<Piece>, AllocError>
+    ensures { IfOk result (λ lines. told lines.items ≡ certificate_lines machine fault why) }
 {
     let mut lines = Lines::new(alloc);
     lines.push_machine(machine);
-    lines.push(Line::Rule(fault.number()));
+    lines.add(&[Line("rule"), Rule(fault.number())]);
     push_line(&mut lines, fault.line, why);
-    lines.push(Line::WhatToDo(fault.number()));
+    lines.add(&[ToDo, Cure(fault.number())]);
     lines.finish()
 }

@@ -1,26 +1,36 @@
 //! The item of a refusal: where it stands, what it is, and what is known before it.
 
-ghost use Rattle.std.specs.Prelude.{◌≡◌, None, Some, option_map};
-ghost use Rattle.dvg_account.specs.Items.{words_at, instruction_at, callee_of, IsItem, IsItemWith, lines_as, known_lines, comes_from, place_lost_by, scale_lost_by};
-ghost use Rattle.dvg_account.specs.declared.line.ItemLine.TheVariants.{CalledEntry, Zeros};
+ghost use Rattle.std.specs.Prelude.{◌≡◌, ◌∷◌, [], codes, None, Some, option_map, option_to_list};
+ghost use Rattle.dvg_account.specs.declared.piece.Piece.TheVariants as pieces;
+ghost use Rattle.dvg_account.specs.Told.{of, one};
+ghost use Rattle.dvg_account.specs.Items.{words_at, instruction_at, callee_of, IsItem, IsItemWith, lines_as, stands, words_of, known_lines, item_line, zeros_lines, comes_from, lost_by};
 ghost use Rattle.dvg_account.specs.Building.{Adds};
 ghost use Rattle.dvg_items.specs.declared.item.Kind.TheVariants.{Frame};
 
-use crate::line::{Instruction, ItemLine, Role, Words};
 use crate::lines::Lines;
-use crate::zeros::Way;
+use crate::piece::Piece::{self, Address, At, Line, Number, Place, Scale, Text, Word};
+use crate::piece::{Instruction, Role};
+use crate::zeros::{Way, Zeros};
 use dvg_cert::Entry;
 use dvg_check::Found;
 use dvg_items::{Item, Kind, Known};
 use dvg_survey::Losses;
 use dvg_words::{Cell, Fetch, is_long, read_cell};
 
+/// The words of an item, as far as they are there.
+#[derive(Clone, Copy)]
+pub enum ItemWords {
+    Nothing,
+    One(u16),
+    Two(u16, u16),
+}
+
 /// The item of a refusal, and what is known before it, where the account says that.
 #[derive(Clone, Copy)]
 pub struct RefusedItem {
     pub kind: Kind,
     pub at: u16,
-    pub words: Words,
+    pub words: ItemWords,
     pub instruction: Option<Instruction>,
     pub callee: Option<Entry>,
     pub before: Option<Known>,
@@ -76,82 +86,122 @@ impl RefusedItem {
     pub fn push_lines(&self, role: Role, lines: &mut Lines)
         ensures { Adds lines.old lines.new (lines_as role self.now) }
     {
-        lines.push_item(role, ItemLine::At(self.at));
-        lines.push_item(role, ItemLine::Holds(self.words));
-        lines.push_item(role, ItemLine::Instruction(self.instruction));
-        lines.push_some_item(role, self.called_entry());
-        lines.push_some_item(role, self.comes_from());
-        self.push_known(role, lines);
-        lines.push_some_item(role, self.place_lost_by());
-        lines.push_some_item(role, self.scale_lost_by());
-        lines.push_some_item(role, self.zeros());
-    }
-
-    /// The lines of what is known before the item.
-    fn push_known(&self, role: Role, lines: &mut Lines)
-        ensures { Adds lines.old lines.new (known_lines role self.now.before) }
-    {
-        if let Some(before) = self.before {
-            lines.push_item(role, ItemLine::PlaceBefore(before.place));
-            lines.push_item(role, ItemLine::ScaleBefore(before.scale));
-            lines.push_item(role, ItemLine::WordsBefore(before.words));
-        }
-    }
-
-    /// The entry that the item names.
-    fn called_entry(&self) -> Option<ItemLine>
-        ensures { result ≡ option_map CalledEntry self.now.callee }
-    {
-        self.callee.map(ItemLine::CalledEntry)
+        push_at(lines, role, self.at);
+        push_words(lines, role, self.words);
+        push_instruction(lines, role, self.instruction);
+        push_called(lines, role, self.callee);
+        push_item(lines, role, "comes from", self.comes_from());
+        push_known(lines, role, self.before);
+        push_item(lines, role, "place lost by", self.place_lost_by());
+        push_item(lines, role, "scale lost by", self.scale_lost_by());
+        push_zeros(lines, role, self.way.zeros);
     }
 
     /// The item by which the place was lost.
-    fn place_lost_by(&self) -> Option<ItemLine>
-        ensures { result ≡ place_lost_by self.now.losses }
+    fn place_lost_by(&self) -> Option<Item>
+        ensures { result ≡ lost_by (λ l. l.place) self.now.losses }
     {
-        Some(ItemLine::PlaceLostBy(self.losses?.place?))
+        Some(self.losses?.place?)
     }
 
     /// The item by which the scale became unknown.
-    fn scale_lost_by(&self) -> Option<ItemLine>
-        ensures { result ≡ scale_lost_by self.now.losses }
+    fn scale_lost_by(&self) -> Option<Item>
+        ensures { result ≡ lost_by (λ l. l.scale) self.now.losses }
     {
-        Some(ItemLine::ScaleLostBy(self.losses?.scale?))
-    }
-
-    /// The zeros that lead to the item.
-    fn zeros(&self) -> Option<ItemLine>
-        ensures { result ≡ option_map Zeros self.now.way.zeros }
-    {
-        match self.way.zeros {
-            Some(zeros) => Some(ItemLine::Zeros(zeros)),
-            None => None,
-        }
+        Some(self.losses?.scale?)
     }
 
     /// The item that goes on to an item of a frame, or to one of a shape that is missing, unless zeros lead there.
-    fn comes_from(&self) -> Option<ItemLine>
-        ensures { result ≡ comes_from self.now.kind self.now.words self.now.way }
+    fn comes_from(&self) -> Option<Item>
+        ensures { result ≡ comes_from self.now.kind self.now.words self.now.way.zeros self.now.way.last }
     {
-        match (self.kind, self.words, self.way) {
-            (
-                Kind::Frame,
-                _,
-                Way {
-                    last: Some(last),
-                    zeros: None,
-                },
-            )
-            | (
-                Kind::Shape,
-                Words::Nothing,
-                Way {
-                    last: Some(last),
-                    zeros: None,
-                },
-            ) => Some(ItemLine::ComesFrom(last)),
+        match (self.kind, self.words, self.way.zeros) {
+            (Kind::Frame, _, None) | (Kind::Shape, ItemWords::Nothing, None) => self.way.last,
             _ => None,
         }
+    }
+}
+
+/// Adds the line of where an item in this role stands.
+fn push_at(lines: &mut Lines, role: Role, at: u16)
+    ensures { Adds lines.old lines.new (stands role at) }
+{
+    match role {
+        Role::Refused => lines.add(&[Line("item"), At(at)]),
+        Role::Stop => lines.add(&[Line("comes to"), At(at)]),
+    }
+}
+
+/// Adds the line of what an item's words are.
+fn push_words(lines: &mut Lines, role: Role, words: ItemWords)
+    ensures { Adds lines.old lines.new (of role (codes "holds") (words_of words)) }
+{
+    match words {
+        ItemWords::Nothing => lines.add_as(role, "holds", &[Text("nothing")]),
+        ItemWords::One(first) => lines.add_as(role, "holds", &[Word(first)]),
+        ItemWords::Two(first, second) => {
+            lines.add_as(role, "holds", &[Word(first), Text(" "), Word(second)])
+        }
+    }
+}
+
+/// Adds the line of an item's instruction, or that its words are none.
+fn push_instruction(lines: &mut Lines, role: Role, instruction: Option<Instruction>)
+    ensures { Adds lines.old lines.new (of role (codes "instruction") (option_to_list (option_map pieces.Instruction instruction))) }
+{
+    match instruction {
+        Some(there) => lines.add_as(role, "instruction", &[Piece::Instruction(there)]),
+        None => lines.add_as(role, "instruction", &[Text("none")]),
+    }
+}
+
+/// Adds the line of the entry that an item calls or tail jumps to, if there is one.
+fn push_called(lines: &mut Lines, role: Role, called: Option<Entry>)
+    ensures { Adds lines.old lines.new (one (λ e. of role (codes "called entry") (pieces.Entry e ∷ [])) called) }
+{
+    if let Some(entry) = called {
+        lines.add_as(role, "called entry", &[Piece::Entry(entry)]);
+    }
+}
+
+/// Adds a line with this key that names another item, if there is one.
+pub fn push_item(lines: &mut Lines, role: Role, key: &'static str, item: Option<Item>)
+    ensures { Adds lines.old lines.new (item_line role key.now item) }
+{
+    if let Some(item) = item {
+        lines.add_as(role, key, &[Piece::Item(item)]);
+    }
+}
+
+/// Adds the lines of what is known before an item, if that is told.
+fn push_known(lines: &mut Lines, role: Role, before: Option<Known>)
+    ensures { Adds lines.old lines.new (one (known_lines role) before) }
+{
+    if let Some(before) = before {
+        lines.add_as(role, "place before", &[Place(before.place)]);
+        lines.add_as(role, "scale before", &[Scale(before.scale)]);
+        lines.add_as(role, "words before", &[Number(before.words as u64)]);
+    }
+}
+
+/// Adds the lines of the zeros that lead to an item, if there are any, and of the item before them.
+fn push_zeros(lines: &mut Lines, role: Role, zeros: Option<Zeros>)
+    ensures { Adds lines.old lines.new (one (zeros_lines role) zeros) }
+{
+    if let Some(zeros) = zeros {
+        let between = [Address(zeros.first), Text(" to "), Address(zeros.last)];
+        lines.add_as(role, "zeros", &between);
+        push_before_zeros(lines, role, zeros.before);
+    }
+}
+
+/// Adds the line of the item before zeros, or that there is none.
+fn push_before_zeros(lines: &mut Lines, role: Role, before: Option<Item>)
+    ensures { Adds lines.old lines.new (of role (codes "before zeros") (option_to_list (option_map pieces.Item before))) }
+{
+    match before {
+        Some(item) => lines.add_as(role, "before zeros", &[Piece::Item(item)]),
+        None => lines.add_as(role, "before zeros", &[Text("none")]),
     }
 }
 
@@ -176,17 +226,17 @@ pub fn instruction_at<F: Fetch>(memory: &F, at: u16) -> Option<Instruction>
 }
 
 /// The words of the item at a word address.
-pub fn words_at<F: Fetch>(memory: &F, at: u16) -> Words
+pub fn words_at<F: Fetch>(memory: &F, at: u16) -> ItemWords
     ensures { result ≡ words_at (F.words memory.now) at }
 {
     let Some(first) = memory.fetch(at) else {
-        return Words::Nothing;
+        return ItemWords::Nothing;
     };
     if !is_long(first) {
-        return Words::One(first);
+        return ItemWords::One(first);
     }
     match memory.fetch(at + 1) {
-        Some(second) => Words::Two(first, second),
-        None => Words::One(first),
+        Some(second) => ItemWords::Two(first, second),
+        None => ItemWords::One(first),
     }
 }

@@ -1,13 +1,29 @@
 //! The account of a frame that leaves a recipe.
 
-ghost use Rattle.std.specs.Prelude.{IfOk};
-ghost use Rattle.dvg_account.specs.Leaving.{LeavingLines};
+ghost use Rattle.std.specs.Prelude.{IfOk, flat_map};
+ghost use Rattle.dvg_account.specs.Told.{told};
+ghost use Rattle.dvg_account.specs.Leaving.{LeavingLines, stand_line};
+ghost use Rattle.dvg_account.specs.Building.{Adds};
 
 use crate::item::RefusedItem;
-use crate::line::{Line, Role};
 use crate::lines::Lines;
+use crate::piece::Piece::{self, Line, Number, Text};
+use crate::piece::Role;
 use dvg_words::{FrameImage, FrameOn, Machine};
 use std::alloc::{AllocError, Global};
+
+/// Adds the lines of a recipe's text of which an item could stand here.
+fn push_stand(lines: &mut Lines, could_stand: &[u32])
+    ensures { Adds lines.old lines.new (flat_map stand_line could_stand.now) }
+{
+    for line in could_stand {
+        lines.add(&[
+            Line("could stand"),
+            Text("recipe line "),
+            Number(*line as u64),
+        ]);
+    }
+}
 
 /// The lines of a frame on the board that leaves a recipe at a word address, where an item of one of these lines of the recipe's text could
 /// stand (this project's own).
@@ -15,13 +31,13 @@ pub fn leaving_lines(
     alloc: Global,
     frame: &FrameImage,
     at: u16,
-    could_stand: Vec<u32>,
-) -> Result<Vec<Line>, AllocError>
-    ensures { IfOk result (λ lines. LeavingLines frame.now at could_stand lines.items) }
+    could_stand: &[u32],
+) -> Result<Vec<Piece>, AllocError>
+    ensures { IfOk result (λ lines. LeavingLines frame.now at could_stand.now (told lines.items)) }
 {
     let item = RefusedItem::call(&FrameOn::new(Machine::Board, frame), at);
     let mut lines = Lines::new(alloc);
     item.push_lines(Role::Refused, &mut lines);
-    lines.push(Line::CouldStand(could_stand));
+    push_stand(&mut lines, could_stand);
     lines.finish()
 }

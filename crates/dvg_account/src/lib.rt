@@ -1,16 +1,18 @@
 //! The account of an answer: the lines behind the answer's own.
 //!
-//! An account is a list of [`Line`]s, each with the value that it tells. [`verdict_lines`], [`frame_lines`] and [`own_lines`]
-//! answer the lines of a verdict, [`made_lines`] and [`unmade_lines`] those of an answer of the maker, [`plain_lines`] those of a
-//! refusal before any item was judged, [`leaving_lines`] that of a frame that leaves a recipe, and their contracts say which lines there
-//! are. Beside each of them stands a call that answers the same account as a text, such as [`verdict_text`]. [`recipe_text`] spells the
-//! lines of a recipe's account, which the caller finds, and [`dump_text`] the account of a dump that differs from a good one.
+//! An account is a list of [`Piece`]s: keys, which begin lines, and what stands behind them. [`verdict_lines`], [`frame_lines`] and
+//! [`own_lines`] answer the lines of a verdict, [`made_lines`] and [`unmade_lines`] those of an answer of the maker, [`plain_lines`] those
+//! of a refusal before any item was judged, [`leaving_lines`] that of a frame that leaves a recipe, and their contracts say which keys and
+//! values there are. Beside each of them stands a call that answers the same account as a text, such as [`verdict_text`].
+//! [`recipe_text`] spells the lines of a recipe's account, which the caller finds, and [`dump_text`] the account of a dump that differs
+//! from a good one.
 #![tactic(auto)]
 
 mod accepted;
 mod answers;
 mod beginnings;
 mod beside;
+mod chains;
 mod cure;
 mod dumps;
 mod finder;
@@ -20,18 +22,17 @@ mod inputs;
 mod item;
 mod labs_watch;
 mod leaving;
-mod line;
 mod lines;
 mod making;
 mod meant;
 mod middle;
 mod own;
+mod piece;
 mod reached;
 mod recipes;
 mod refused;
 mod remarked;
 mod remarks;
-mod sentences;
 mod shape_items;
 mod shape_walk;
 mod spelling;
@@ -46,24 +47,17 @@ mod zeros;
 
 pub use answers::verdict_lines;
 pub use beginnings::Beginning;
-pub use cure::MakerCure;
 pub use dumps::dump_text;
 pub use inputs::{Inputs, PlainWhy, certificate_lines, plain_lines};
 pub use leaving::leaving_lines;
-pub use line::{
-    AcceptedLine, EntryName, Instruction, ItemLine, Line, MadeLine, MakerChain, PathLine, Role,
-    TimeLine, Words, Zeros,
-};
 pub use making::{made_lines, unmade_lines};
-pub use middle::Middle;
 pub use own::{frame_lines, own_lines};
+pub use piece::{Bounds, Instruction, Piece};
 pub use recipes::{KnownBefore, RecipeLine, recipe_text};
 pub use remarked::{FrameRemark, frame_remarks, remarks_text};
-pub use remarks::Remark;
 pub use starts::ShapeStarts;
 pub use swapped::{Swapped, find_swapped};
 pub use texts::{
     address_text, certificate_text, frame_text, leaving_text, made_text, own_text, plain_text,
     timed_text, unmade_text, verdict_text,
 };
-pub use why::{Addresses, Bounds, ClaimWhy, Corner, Difference, InputWhy, MakerWhy, Owner, Why};

@@ -1,30 +1,30 @@
-//! The lines of an account, put together.
+//! The lines of an account, put together of pieces.
 
-ghost use Rattle.std.specs.Prelude.{◌≡◌, [], ◌∷◌, Some, IfOk, option_to_list};
-ghost use Rattle.dvg_account.specs.declared.line.Line.TheVariants.{Accepted, Item};
-ghost use Rattle.dvg_account.specs.Items.{item_line};
-ghost use Rattle.dvg_account.specs.Building.{Adds};
-ghost use Rattle.dvg_account.specs.Machines.{machine_lines, TellsZone};
+ghost use Rattle.std.specs.Prelude.{◌≡◌, ◌++◌, [], Some, IfOk};
+ghost use Rattle.dvg_account.specs.Told.{told, keyed};
+ghost use Rattle.dvg_account.specs.Building.{Adds, Tells};
+ghost use Rattle.dvg_account.specs.Machines.{machine_lines, IsZone};
 
-use crate::line::{AcceptedLine, ItemLine, Line, Role};
+use crate::piece::Piece::{self, Line, Text};
+use crate::piece::Role;
 use dvg_words::{CLIPPED, Machine, Window};
 use std::alloc::{AllocError, Global};
 use std::marker::Model;
 
-/// The lines of an account so far, or that memory ran out. Then no line is added any more.
+/// The lines of an account so far, or that memory ran out. Then nothing is added any more.
 #[derive(Drop)]
 pub struct Lines {
-    lines: Result<Vec<Line>, AllocError>,
+    pieces: Result<Vec<Piece>, AllocError>,
 }
 
 impl Model for Lines {
     ghost use Rattle.std.specs.Prelude.{List, Option};
-    ghost use Rattle.dvg_account.specs.declared.line.Line.{Line};
-    ghost use Rattle.dvg_account.specs.Private.Lines.{lines_so_far};
+    ghost use Rattle.dvg_account.specs.Told.{Told};
+    ghost use Rattle.dvg_account.specs.Private.Lines.{told_so_far};
 
-    ghost Value = { Option (List Line) };
+    ghost Value = { Option (List Told) };
 
-    ghost view = { λ l. lines_so_far l.lines };
+    ghost view = { λ l. told_so_far l.pieces };
 }
 
 impl Lines {
@@ -33,21 +33,29 @@ impl Lines {
         ensures { result ≡ Some [] }
     {
         Lines {
-            lines: Ok(Vec::new(alloc)),
+            pieces: Ok(Vec::new(alloc)),
         }
     }
 
-    /// Adds a line, if memory has not run out.
-    pub fn push(&mut self, line: Line)
-        ensures { Adds self.old self.new (line ∷ []) }
+    /// Adds pieces, if memory has not run out.
+    pub fn add(&mut self, pieces: &[Piece])
+        ensures { Adds self.old self.new (told pieces.now) }
     {
-        let pushed = match &mut self.lines {
-            Ok(lines) => lines.push(line),
+        let added = match &mut self.pieces {
+            Ok(all) => all.extend_from_slice(pieces),
             Err(_) => return,
         };
-        if pushed.is_err() {
-            self.lines = Err(AllocError);
+        if added.is_err() {
+            self.pieces = Err(AllocError);
         }
+    }
+
+    /// Adds a line about the item in a role, with this key and these pieces.
+    pub fn add_as(&mut self, role: Role, key: &'static str, pieces: &[Piece])
+        ensures { Adds self.old self.new (keyed role key.now ++ told pieces.now) }
+    {
+        self.add(&[role.key(key)]);
+        self.add(pieces);
     }
 
     /// Adds the line that names a machine, unless it is the profile's.
@@ -56,57 +64,29 @@ impl Lines {
     {
         match machine {
             Machine::Profile => {}
-            Machine::Board => self.push(Line::OnMachine(machine)),
+            Machine::Board => self.add(&[
+                Line("machine"),
+                Text("board: draws rounded half up to whole places, LABS of twelve bits"),
+            ]),
         }
     }
 
-    /// Adds a line, if there is one.
-    pub fn push_some(&mut self, line: Option<Line>)
-        ensures { Adds self.old self.new (option_to_list line) }
+    /// Adds the line that names the window, where it is the zone that a board clips.
+    pub fn push_zone(&mut self, window: &Window)
+        ensures { Tells self.old self.new (IsZone window.now) }
     {
-        if let Some(line) = line {
-            self.push(line);
+        if *window == CLIPPED {
+            self.add(&[
+                Line("window"),
+                Text("the zone that the board clips, X -1024 to 2047, Y -1024 to 2047"),
+            ]);
         }
-    }
-
-    /// Adds a line about an item in this role.
-    pub fn push_item(&mut self, role: Role, line: ItemLine)
-        ensures { Adds self.old self.new (Item role line ∷ []) }
-    {
-        self.push(Line::Item(role, line));
-    }
-
-    /// Adds a line about an item in this role, if there is one.
-    pub fn push_some_item(&mut self, role: Role, line: Option<ItemLine>)
-        ensures { Adds self.old self.new (item_line role line) }
-    {
-        if let Some(line) = line {
-            self.push_item(role, line);
-        }
-    }
-
-    /// Adds a line about what is accepted.
-    pub fn push_accepted(&mut self, line: AcceptedLine)
-        ensures { Adds self.old self.new (Accepted line ∷ []) }
-    {
-        self.push(Line::Accepted(line));
     }
 
     /// All lines, or that memory ran out.
-    pub fn finish(self) -> Result<Vec<Line>, AllocError>
-        ensures { IfOk result (λ lines. self ≡ Some lines.items) }
+    pub fn finish(self) -> Result<Vec<Piece>, AllocError>
+        ensures { IfOk result (λ pieces. self ≡ Some (told pieces.items)) }
     {
-        self.lines
-    }
-}
-
-/// The line that names the window, where it is the zone that a board clips.
-pub fn zone_line(window: &Window) -> Option<Line>
-    ensures { TellsZone window.now result }
-{
-    if *window == CLIPPED {
-        Some(Line::Zone)
-    } else {
-        None
+        self.pieces
     }
 }

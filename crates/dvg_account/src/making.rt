@@ -1,19 +1,26 @@
 //! The account of an answer of the maker.
 
-ghost use Rattle.std.specs.Prelude.{◌≡◌, option_copied, IfOk};
-ghost use Rattle.dvg_account.specs.Making.{made_lines, most_words, most_depth, chain_of, maker_item_lines, way_lines, why_line, frame_of_call, UnmadeLines, IsCallItem, IsMakerItem, TellsMaker, TellsBelow};
-ghost use Rattle.dvg_account.specs.Building.{Adds};
+ghost use Rattle.std.specs.Prelude.{◌≡◌, option_copied, flat_map, IfOk, OnOk};
+ghost use Rattle.dvg_account.specs.Told.{told, one};
+ghost use Rattle.dvg_account.specs.Making.{made_lines, most_words, most_depth, way_lines, chain_lines, asked_by, caller_told, ring_line, why_lines, maker_why, call_why, frame_of_call, TellsBelow, UnmadeLines, IsCallItem, IsMakerItem};
+ghost use Rattle.dvg_account.specs.Items.{lines_as};
+ghost use Rattle.dvg_account.specs.Chains.{shape_name, shape_steps};
+ghost use Rattle.dvg_account.specs.Building.{Adds, Tells};
 
-use crate::cure::MakerCure;
+use crate::chains::push_steps;
+use crate::cure::advice;
 use crate::item::RefusedItem;
-use crate::line::{EntryName, Line, MadeLine, MakerChain, PathLine, Role};
 use crate::lines::Lines;
-use crate::meant::meant_line;
-use crate::middle::middle_line;
-use crate::why::{Addresses, MakerWhy, Why};
-use dvg_cert::{Cert, Entries, Entry, Key, ListIndex};
+use crate::meant::{meant, push_meant};
+use crate::middle::{middle_of, push_middle};
+use crate::piece::Piece::{self, Address, Line, Name, Number, Rule, Text, ToDo};
+use crate::piece::Role;
+use crate::why::{
+    AT_LOST_PLACE, AT_UNKNOWN_SCALE, HALT_IN_SHAPE, IN_ROM, push_missing, push_odd, push_words_over,
+};
+use dvg_cert::{Cert, Entries, Entry, Key, ListIndex, MOST_WORDS};
 use dvg_items::Kind;
-use dvg_make::{EntryCause, FrameCall, MakeAccount, MakeFault, make};
+use dvg_make::{EntryCause, FrameCall, MakeAccount, MakeFault, ShapeAt, make};
 use dvg_survey::{Call, deepest_calls};
 use dvg_words::{FrameImage, FrameOn, Machine, RAM_WORDS, RomImage};
 use std::alloc::{AllocError, Global};
@@ -34,15 +41,26 @@ fn most_depth(entries: &[Entry]) -> u8
 }
 
 /// The lines of a certificate that is made for a machine (this project's own).
-pub fn made_lines(machine: Machine, alloc: Global, cert: &Cert) -> Result<Vec<Line>, AllocError>
-    ensures { IfOk result (λ lines. lines.items ≡ made_lines machine cert.now.entries) }
+pub fn made_lines(machine: Machine, alloc: Global, cert: &Cert) -> Result<Vec<Piece>, AllocError>
+    ensures { IfOk result (λ lines. told lines.items ≡ made_lines machine cert.now.entries) }
 {
     let entries = cert.entries();
+    let words = Number(most_words(entries) as u64);
+    let depth = Number(most_depth(entries) as u64);
     let mut lines = Lines::new(alloc);
     lines.push_machine(machine);
-    lines.push(Line::Made(MadeLine::Entries(entries.len())));
-    lines.push(Line::Made(MadeLine::Words(most_words(entries))));
-    lines.push(Line::Made(MadeLine::ReturnPlaces(most_depth(entries))));
+    lines.add(&[
+        Line("entries"),
+        Number(entries.len() as u64),
+        Text(" of 4096"),
+    ]);
+    lines.add(&[Line("words"), Text("at most "), words, Text(" of 1000000")]);
+    lines.add(&[
+        Line("return places"),
+        Text("at most "),
+        depth,
+        Text(" of 3"),
+    ]);
     lines.finish()
 }
 
@@ -51,34 +69,26 @@ pub fn unmade_lines(
     alloc: Global,
     rom: &RomImage,
     frames: &[FrameImage],
-    account: MakeAccount,
-) -> Result<Vec<Line>, AllocError>
-    ensures { IfOk result (λ lines. UnmadeLines rom.now frames.now account lines.items) }
+    account: &MakeAccount,
+) -> Result<Vec<Piece>, AllocError>
+    ensures { IfOk result (λ lines. UnmadeLines rom.now frames.now account.now (told lines.items)) }
 {
     let number = MakeFault::from(account.fault.why).number();
-    let below = below_line(alloc, rom, account.cause)?;
     let frame = frame_of_call(frames, account.fault.call);
     let call = call_item(rom.machine(), frame, account.fault.call);
-    let item = item_of(rom, frame, &account);
-    let why = why_of(rom, &account);
-    let told = why_line(account.fault.call, account.at, why);
-    let cure = MakerCure::of(rom.map(), &account);
-    let meant = meant_line(alloc, rom, cure, &account)?;
-    let middle = middle_line(rom.machine(), frame, &account);
+    let item = item_of(rom, frame, account);
+    let meant = meant(alloc, rom, account)?;
+    let middle = middle_of(rom.machine(), frame, account);
     let mut lines = Lines::new(alloc);
     lines.push_machine(rom.machine());
-    lines.push(Line::Rule(number));
-    lines.push_some(told);
-    lines.push_some(meant);
-    lines.push_some(middle);
-    push_way(
-        &mut lines,
-        &call,
-        &item,
-        Line::Path(PathLine::MakerChain(chain_of(account))),
-    );
-    lines.push_some(below);
-    lines.push(Line::MakerCure(cure));
+    lines.add(&[Line("rule"), Rule(number)]);
+    push_why(&mut lines, rom, account);
+    push_meant(&mut lines, account.at, meant);
+    push_middle(&mut lines, middle);
+    push_way(&mut lines, &call, &item, account);
+    push_below(alloc, rom, account.cause, &mut lines)?;
+    lines.add(&[ToDo]);
+    lines.add(&advice(rom.map(), account));
     lines.finish()
 }
 
@@ -123,97 +133,176 @@ fn item_of(rom: &RomImage, frame: Option<&FrameImage>, account: &MakeAccount) ->
     }
 }
 
-/// The lines of the item, and of the way to where the making stops. The item of a frame is its call.
-fn push_way(lines: &mut Lines, call: &Option<RefusedItem>, item: &Option<RefusedItem>, chain: Line)
-    ensures { Adds lines.old lines.new (way_lines call.now item.now chain) }
+/// Adds the lines of the item, and of the way to where the making stops. The item of a frame is its call.
+fn push_way(
+    lines: &mut Lines,
+    call: &Option<RefusedItem>,
+    item: &Option<RefusedItem>,
+    account: &MakeAccount,
+)
+    ensures { Adds lines.old lines.new (way_lines call.now item.now (chain_lines account.now account.now.cause)) }
 {
     match call {
         Some(call) => {
             call.push_lines(Role::Refused, lines);
-            lines.push(chain);
+            push_chain(lines, account);
             push_item(lines, Role::Stop, item);
         }
         None => {
             push_item(lines, Role::Refused, item);
-            lines.push(chain);
+            push_chain(lines, account);
         }
     }
 }
 
 /// The lines of an item in a role, if there is one.
 fn push_item(lines: &mut Lines, role: Role, item: &Option<RefusedItem>)
-    ensures { Adds lines.old lines.new (maker_item_lines role item.now) }
+    ensures { Adds lines.old lines.new (one (lines_as role) item.now) }
 {
     if let Some(item) = item {
         item.push_lines(role, lines);
     }
 }
 
-/// The line of this sentence. For a frame's call it says where the making stops.
-fn why_line(call: Option<FrameCall>, at: u16, why: Option<Why>) -> Option<Line>
-    ensures { result ≡ why_line call at why }
+/// Adds the lines of the shapes on the way to the one that can't be made, and of those that need one another.
+fn push_chain(lines: &mut Lines, account: &MakeAccount)
+    ensures { Adds lines.old lines.new (chain_lines account.now account.now.cause) }
 {
-    match call {
-        Some(_) => Some(Line::MakingStops { at, why: why? }),
-        None => Some(Line::Why(why?)),
+    push_shapes(lines, account.fault.call, &account.chain);
+    if let EntryCause::Ring { from } = account.cause {
+        push_ring(lines, account.chain.get(from..).unwrap_or(&[]));
     }
 }
 
-/// Why the maker refuses; `None` where memory was out.
-fn why_of(rom: &RomImage, account: &MakeAccount) -> Option<Why>
-    ensures { TellsMaker rom.now account.now.at account.now.chain.items account.now.cause result }
+/// Adds the lines of shapes that lead from one to the next, of which a frame's call or a root asks for the first.
+fn push_shapes(lines: &mut Lines, call: Option<FrameCall>, shapes: &[ShapeAt])
+    ensures { Adds lines.old lines.new (shape_steps (asked_by call) shapes.now) }
+{
+    let mut caller = None;
+    for shape in shapes {
+        lines.add(&[Line("chain")]);
+        push_caller(lines, call, caller);
+        lines.add(&[Text(" leads to "), Name(shape.addr, shape.key)]);
+        caller = Some(*shape);
+    }
+}
+
+/// Adds what asks for a shape: the shape before it, a frame's call, or a root.
+fn push_caller(lines: &mut Lines, call: Option<FrameCall>, caller: Option<ShapeAt>)
+    ensures { Adds lines.old lines.new (caller_told call caller) }
+{
+    match (caller, call) {
+        (Some(shape), _) => lines.add(&[Name(shape.addr, shape.key)]),
+        (None, Some(call)) => lines.add(&[Text("frame at "), Address(call.at)]),
+        (None, None) => lines.add(&[Text("root")]),
+    }
+}
+
+/// Adds the lines of the shapes that need one another.
+fn push_ring(lines: &mut Lines, shapes: &[ShapeAt])
+    ensures { Adds lines.old lines.new (flat_map ring_line shapes.now) }
+{
+    for shape in shapes {
+        lines.add(&[Line("ring"), Name(shape.addr, shape.key)]);
+    }
+}
+
+/// Adds why the maker refuses, unless memory was out. For a frame's call it says where the making stops.
+fn push_why(lines: &mut Lines, rom: &RomImage, account: &MakeAccount)
+    ensures { Adds lines.old lines.new (why_lines rom.now account.now account.now.cause account.now.fault.call) }
+{
+    match (account.cause, account.fault.call) {
+        (EntryCause::Memory, _) => {}
+        (_, None) => {
+            lines.add(&[Line("why")]);
+            push_maker_why(lines, rom, account)
+        }
+        (_, Some(_)) => {
+            lines.add(&[Line("why")]);
+            push_call_why(lines, rom, account)
+        }
+    }
+}
+
+/// Adds why what a frame's call asks for can't be made.
+fn push_call_why(lines: &mut Lines, rom: &RomImage, account: &MakeAccount)
+    ensures { Adds lines.old lines.new (call_why rom.now account.now account.now.cause) }
+{
+    let at = account.at;
+    match account.cause {
+        EntryCause::Missing if at < RAM_WORDS => lines.add(&[
+            Text("word "),
+            Address(at),
+            Text(" is in vector RAM, and a call into vector RAM is always refused"),
+        ]),
+        EntryCause::BeamUnknown | EntryCause::ScaleUnknown => lines.add(&[
+            Text("no LABS before the call sets the scale, and what it calls draws lit at "),
+            Address(at),
+        ]),
+        _ => {
+            lines.add(&[Text("what it calls comes to "), Address(at), Text(": ")]);
+            push_maker_why(lines, rom, account)
+        }
+    }
+}
+
+/// Adds why the maker stops at an item.
+fn push_maker_why(lines: &mut Lines, rom: &RomImage, account: &MakeAccount)
+    ensures { Adds lines.old lines.new (maker_why rom.now account.now.at account.now.chain.items account.now.cause) }
 {
     let at = account.at;
     match account.cause {
         EntryCause::RootOutside | EntryCause::Missing => {
-            Some(Why::missing(rom, at, Addresses::of_map(rom.map())))
+            push_missing(lines, rom, at, IN_ROM, rom.map().first(), rom.map().last())
         }
-        EntryCause::Odd => Some(Why::odd(rom, at)),
-        EntryCause::Halt => Some(Why::Halt),
-        EntryCause::BeamUnknown => Some(Why::DrawsAtLostPlace),
-        EntryCause::ScaleUnknown => Some(Why::ScaleUnknown),
-        EntryCause::Ring { from } => {
-            let shape = account.chain.get(from)?;
-            Some(Why::Maker(MakerWhy::Ring(EntryName::of_shape(shape))))
+        EntryCause::Odd => push_odd(lines, rom, at),
+        EntryCause::Halt => lines.add(&[Text(HALT_IN_SHAPE)]),
+        EntryCause::BeamUnknown => lines.add(&[Text(AT_LOST_PLACE)]),
+        EntryCause::ScaleUnknown => lines.add(&[Text(AT_UNKNOWN_SCALE)]),
+        EntryCause::Ring { from } => push_needed(lines, account.chain.get(from)),
+        EntryCause::Deep { to, scale } => {
+            lines.add(&[
+                Text("it calls "),
+                Name(to, scale),
+                Text(
+                    ", below which calls go three deep already: with this one and the frame's own they would be at least five",
+                ),
+            ])
         }
-        EntryCause::Deep { to, scale } => Some(Why::Maker(MakerWhy::Deep(EntryName {
-            addr: to,
-            key: scale,
-        }))),
-        EntryCause::TooManyWords { words } => Some(Why::Maker(MakerWhy::TooManyWords(words))),
-        EntryCause::TooManyEntries => Some(Why::Maker(MakerWhy::TooManyEntries)),
-        EntryCause::Memory => None,
+        EntryCause::TooManyWords { words } => {
+            let over = words.saturating_sub(MOST_WORDS);
+            push_words_over(lines, words, "a shape may take ", MOST_WORDS, over)
+        }
+        EntryCause::TooManyEntries => lines.add(&[Text("it would be the 4097th entry")]),
+        EntryCause::Memory => {}
     }
 }
 
-/// The shapes on the way to the one that can't be made.
-fn chain_of(account: MakeAccount) -> MakerChain
-    ensures { result ≡ chain_of account }
+/// Adds that an item leads to a shape which needs it.
+fn push_needed(lines: &mut Lines, shape: Option<&ShapeAt>)
+    ensures { Adds lines.old lines.new (one shape_name (option_copied shape.entry)) }
 {
-    let ring = match account.cause {
-        EntryCause::Ring { from } => Some(from),
-        _ => None,
-    };
-    MakerChain {
-        call: account.fault.call,
-        shapes: account.chain,
-        ring,
+    if let Some(shape) = shape {
+        let name = Name(shape.addr, shape.key);
+        lines.add(&[Text("it leads to "), name, Text(", which needs it")]);
     }
 }
 
-/// The line of the calls below what the item calls, where calls go too deep by it.
-fn below_line(alloc: Global, rom: &RomImage, cause: EntryCause) -> Result<Option<Line>, AllocError>
-    ensures { IfOk result (TellsBelow cause) }
+/// Adds the lines of the calls below what the item calls, where calls go too deep by it.
+fn push_below(
+    alloc: Global,
+    rom: &RomImage,
+    cause: EntryCause,
+    lines: &mut Lines,
+) -> Result<(), AllocError>
+    ensures { OnOk result (Tells lines.old lines.new (TellsBelow cause)) }
 {
     let EntryCause::Deep { to, scale } = cause else {
-        return Ok(None);
+        return Ok(());
     };
     let calls = calls_below(alloc, rom, to, scale)?;
-    let called = EntryName {
-        addr: to,
-        key: scale,
-    };
-    Ok(Some(Line::Path(PathLine::Below { called, calls })))
+    push_steps(lines, "below", Some((to, scale)), &calls);
+    Ok(())
 }
 
 /// The calls that go deepest below a shape, by the certificate of that shape alone.

@@ -1,15 +1,38 @@
 //! The word that a call outside the ROM may mean.
 
-ghost use Rattle.std.specs.Prelude.{◌≡◌, ◌↔◌, ◌-◌, IsTrue, IfOk, length, slice_get};
-ghost use Rattle.dvg_account.specs.Meant.{byte_word, MeansByte, TellsMeant};
+ghost use Rattle.std.specs.Prelude.{◌≡◌, ◌↔◌, IsTrue, IfOk};
+ghost use Rattle.dvg_account.specs.Meant.{byte_word, is_outside, outside_call, MeansByte, IsMeant, meant_line};
+ghost use Rattle.dvg_account.specs.Told.{one};
+ghost use Rattle.dvg_account.specs.Building.{Adds};
 
-use crate::cure::{MakerCure, is_outside};
-use crate::line::Line;
+use crate::lines::Lines;
+use crate::piece::Piece::{Address, BareAddress, Line, Text};
 use dvg_cert::Key;
-use dvg_make::{MakeAccount, MakeFault, make};
-use dvg_words::{RAM_WORDS, RomImage};
+use dvg_make::{EntryCause, MakeAccount, MakeFault, ShapeAt, make};
+use dvg_words::{RAM_WORDS, RomImage, RomMap};
 use std::alloc::{AllocError, Global};
 use std::slice;
+
+/// Whether a word address is outside the ROM.
+pub fn is_outside(map: RomMap, at: u16) -> bool
+    ensures { result ≡ is_outside map at }
+{
+    at < map.first() || map.last() < at
+}
+
+/// The only shape on the way to a missing word, if it begins at that word, outside the ROM.
+fn outside_call(map: RomMap, account: &MakeAccount) -> Option<ShapeAt>
+    ensures { result ≡ outside_call map account.now account.now.cause }
+{
+    let shape = *account.chain.last()?;
+    match account.cause {
+        EntryCause::Missing
+            if shape.addr == account.at
+                && is_outside(map, shape.addr)
+                && account.chain.len() == 1 => { Some(shape) }
+        _ => None,
+    }
+}
 
 /// The word past vector RAM of the byte whose processor address ends in these twelve bits: 4000 or 5000 is in front of them.
 fn byte_word(bits: u16) -> u16
@@ -39,23 +62,35 @@ fn means_byte(alloc: Global, rom: &RomImage, at: u16, scale: Key) -> Result<bool
     }
 }
 
-/// The line of the word that a frame's call outside the ROM means if its address is that of a byte, where it would be right then.
-pub fn meant_line(
+/// The word that a frame's call outside the ROM means if its address is that of a byte, where it would be right then.
+pub fn meant(
     alloc: Global,
     rom: &RomImage,
-    cure: MakerCure,
     account: &MakeAccount,
-) -> Result<Option<Line>, AllocError>
-    ensures { IfOk result (TellsMeant rom.now cure account.now.at (slice_get account.now.chain.items (length account.now.chain.items - 1))) }
+) -> Result<Option<u16>, AllocError>
+    ensures { IfOk result (IsMeant rom.now account.now.at (outside_call rom.now.map account.now account.now.cause)) }
 {
-    let (MakerCure::CallsRam | MakerCure::CallsOutside, Some(called)) = (cure, account.chain.last())
-    else {
+    let Some(called) = outside_call(rom.map(), account) else {
         return Ok(None);
     };
-    let at = account.at;
-    if !means_byte(alloc, rom, at, called.key)? {
+    if !means_byte(alloc, rom, account.at, called.key)? {
         return Ok(None);
     }
-    let word = byte_word(at);
-    Ok(Some(Line::ByteAddress { at, word }))
+    Ok(Some(byte_word(account.at)))
+}
+
+/// Adds the line of the word that is meant by a called address, if one is.
+pub fn push_meant(lines: &mut Lines, at: u16, word: Option<u16>)
+    ensures { Adds lines.old lines.new (one (meant_line at) word) }
+{
+    if let Some(word) = word {
+        lines.add(&[
+            Line("byte address"),
+            Text("taken as one, "),
+            BareAddress(at),
+            Text(" is word "),
+            Address(word),
+            Text("; calls take word addresses"),
+        ]);
+    }
 }

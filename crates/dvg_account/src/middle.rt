@@ -4,9 +4,12 @@ ghost use Rattle.std.specs.Prelude.{◌≡◌, ◌+◌, IfSome, option_copied};
 ghost use Rattle.dvg_words.specs.Decoding.{cell_at};
 ghost use Rattle.dvg_words.specs.declared.instruction.Cell.TheVariants.{Holds};
 ghost use Rattle.dvg_words.specs.declared.instruction.Format.TheVariants.{Long};
-ghost use Rattle.dvg_account.specs.Middle.{IsMiddle, TellsMiddle};
+ghost use Rattle.dvg_account.specs.Middle.{IsMiddle, IsMiddleOf, middle_line};
+ghost use Rattle.dvg_account.specs.Told.{one};
+ghost use Rattle.dvg_account.specs.Building.{Adds};
 
-use crate::line::Line;
+use crate::lines::Lines;
+use crate::piece::Piece::{self, Line, Text};
 use dvg_items::{Item, Items, Kind};
 use dvg_make::{EntryCause, MakeAccount};
 use dvg_words::{Fetch, FrameImage, FrameOn, Instr, Machine};
@@ -77,18 +80,31 @@ fn is_of_item(cause: EntryCause) -> bool {
     }
 }
 
-/// The line of that jump before the call of a frame, if there is one and the making stops at such an item.
-pub fn middle_line(
+/// That jump before the call of a frame, if there is one and the making stops at such an item.
+pub fn middle_of(
     machine: Machine,
     frame: Option<&FrameImage>,
     account: &MakeAccount,
-) -> Option<Line>
-    ensures { TellsMiddle machine (option_copied frame.entry) result }
+) -> Option<Middle>
+    ensures { IsMiddleOf machine (option_copied frame.entry) result }
 {
     if !is_of_item(account.cause) {
         return None;
     }
     let framed = FrameOn::new(machine, frame?);
-    let middle = middle_before(&framed, account.fault.call?.at)?;
-    Some(Line::JumpsInto(middle))
+    middle_before(&framed, account.fault.call?.at)
+}
+
+/// Adds the line of a jump that may lead into the middle of an instruction, if there is one.
+pub fn push_middle(lines: &mut Lines, middle: Option<Middle>)
+    ensures { Adds lines.old lines.new (one middle_line middle) }
+{
+    if let Some(middle) = middle {
+        lines.add(&[
+            Line("jumps into"),
+            Piece::Item(middle.into),
+            Text(", by "),
+            Piece::Item(middle.jump),
+        ]);
+    }
 }

@@ -1,13 +1,14 @@
 //! The account of a frame that is judged by its own certificate.
 
 ghost use Rattle.std.specs.Prelude.{IfOk, option_copied};
+ghost use Rattle.dvg_account.specs.Told.{told};
 ghost use Rattle.dvg_account.specs.Verdicts.{FrameVerdictLines, JudgedLines, LinesBy, OwnLines};
 
 use crate::accepted::accepted_lines;
 use crate::answers::verdict_lines;
 use crate::inputs::{Inputs, PlainWhy, plain_lines};
-use crate::line::Line;
 use crate::making::unmade_lines;
+use crate::piece::Piece;
 use crate::refused::refused_lines;
 use dvg_check::{Mode, RomFinding, Yes};
 use dvg_make::{EntryCause, FrameRefusal, JudgedFrame, MakeAccount, MakeFault};
@@ -23,8 +24,8 @@ pub fn own_lines(
     rom: &RomImage,
     frame: &FrameImage,
     judged: Result<JudgedFrame, MakeAccount>,
-) -> Result<Vec<Line>, AllocError>
-    ensures { IfOk result (λ lines. OwnLines inputs.now rom.now frame.now judged lines.items) }
+) -> Result<Vec<Piece>, AllocError>
+    ensures { IfOk result (λ lines. OwnLines inputs.now rom.now frame.now judged (told lines.items)) }
 {
     match judged {
         Ok(judged) => lines_by(alloc, inputs, rom, frame, &judged),
@@ -36,7 +37,7 @@ pub fn own_lines(
                 PlainWhy::Nothing,
             )
         }
-        Err(account) => unmade_lines(alloc, rom, slice::from_ref(frame), account),
+        Err(account) => unmade_lines(alloc, rom, slice::from_ref(frame), &account),
     }
 }
 
@@ -47,8 +48,8 @@ fn lines_by(
     rom: &RomImage,
     frame: &FrameImage,
     judged: &JudgedFrame,
-) -> Result<Vec<Line>, AllocError>
-    ensures { IfOk result (λ lines. LinesBy inputs.now rom.now frame.now judged.now lines.items) }
+) -> Result<Vec<Piece>, AllocError>
+    ensures { IfOk result (λ lines. LinesBy inputs.now rom.now frame.now judged.now (told lines.items)) }
 {
     let cert = Some(&judged.cert);
     let by_own = Inputs {
@@ -66,8 +67,8 @@ fn judged_lines(
     rom: &RomImage,
     frame: &FrameImage,
     verdict: &Result<Yes, RomFinding>,
-) -> Result<Vec<Line>, AllocError>
-    ensures { IfOk result (λ lines. JudgedLines inputs.now rom.now frame.now verdict.now lines.items) }
+) -> Result<Vec<Piece>, AllocError>
+    ensures { IfOk result (λ lines. JudgedLines inputs.now rom.now frame.now verdict.now (told lines.items)) }
 {
     match verdict {
         Ok(yes) => accepted_lines(alloc, inputs, Some(rom), Some(frame), *yes),
@@ -92,8 +93,8 @@ pub fn frame_lines(
     inputs: &Inputs,
     verdict: &Result<Yes, FrameRefusal>,
     cause: Option<&RomFinding>,
-) -> Result<Vec<Line>, AllocError>
-    ensures { IfOk result (λ lines. FrameVerdictLines inputs.now verdict.now (option_copied cause.entry) lines.items) }
+) -> Result<Vec<Piece>, AllocError>
+    ensures { IfOk result (λ lines. FrameVerdictLines inputs.now verdict.now (option_copied cause.entry) (told lines.items)) }
 {
     match verdict {
         Ok(yes) => verdict_lines(alloc, inputs, &Ok(*yes), None),

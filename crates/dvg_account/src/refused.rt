@@ -1,24 +1,27 @@
 //! The account of a refusal because of an item of a frame or of a shape.
 
 ghost use Rattle.dvg_account.specs.Verdicts.{RefusedLines};
-ghost use Rattle.std.specs.Prelude.{◌≡◌, option_copied, IfOk, IfSome, IfNone};
+ghost use Rattle.std.specs.Prelude.{◌≡◌, ◌∷◌, codes, option_copied, IfOk, OnOk, IfSome, IfNone};
 ghost use Rattle.dvg_words.specs.Memory.{rom_word};
 ghost use Rattle.dvg_items.specs.Known.{shape_context};
 ghost use Rattle.dvg_items.specs.declared.item.Kind.TheVariants.{Shape};
 ghost use Rattle.dvg_survey.specs.Losses.{AreLosses, NoneLead};
 ghost use Rattle.dvg_make.specs.Made.{HasEntry};
-ghost use Rattle.dvg_account.specs.Refused.{FrameLines, ShapeLines, TellsChain, BesideFrame, BesideShape, frame_cure, keys_at};
-ghost use Rattle.dvg_account.specs.Machines.{other_machine_line};
-ghost use Rattle.dvg_account.specs.Building.{Adds};
+ghost use Rattle.dvg_account.specs.Told.{told, Line};
+ghost use Rattle.dvg_account.specs.Refused.{FrameLines, ShapeLines, TellsChain, TellsBesideFrame, TellsBesideShape, frame_cure, key_at, keys_at};
+ghost use Rattle.dvg_account.specs.Machines.{other_machine_lines};
+ghost use Rattle.dvg_account.specs.Building.{Adds, Tells};
 
-use crate::accepted::board_line;
-use crate::furthest::furthest_line;
+use crate::accepted::{board_answer, push_board};
+use crate::chains::push_steps;
+use crate::furthest::furthest;
 use crate::inputs::{Inputs, plain_lines};
-use crate::item::{RefusedItem, callee_of};
-use crate::line::{EntryName, Line, PathLine, Role};
-use crate::lines::{Lines, zone_line};
-use crate::why::{Addresses, Why};
-use dvg_cert::{Cert, Entries, Entry, HashIndex, Key, ListIndex};
+use crate::item::{RefusedItem, callee_of, push_item};
+use crate::lines::Lines;
+use crate::piece::Piece::{self, Cure, Line, Name, OrHalt, Rule, Text, ToDo};
+use crate::piece::Role;
+use crate::why::{push_frame_why, push_shape_why};
+use dvg_cert::{Cert, Entries, Entry, HashIndex, ListIndex};
 use dvg_check::{FrameCause, FrameFinding, Refusal, RomFinding, ShapeFinding, ShapeWhy};
 use dvg_items::Kind;
 use dvg_survey::{Losses, find_chain, frame_losses, shape_losses};
@@ -34,9 +37,9 @@ pub fn refused_lines(
     frame: Option<&FrameImage>,
     refusal: &Refusal,
     cause: Option<&RomFinding>,
-) -> Result<Vec<Line>, AllocError>
+) -> Result<Vec<Piece>, AllocError>
     ensures { IfOk result (λ lines. RefusedLines inputs.now (option_copied rom.entry) (option_copied frame.entry) refusal.now
-        (option_copied cause.entry) lines.items) }
+        (option_copied cause.entry) (told lines.items)) }
 {
     match (cause, inputs.cert, rom, frame) {
         (Some(RomFinding::Shape(finding)), Some(cert), Some(rom), frame) => {
@@ -60,8 +63,9 @@ fn frame_lines(
     cert: &Cert,
     frame: &FrameImage,
     finding: &FrameFinding,
-) -> Result<Vec<Line>, AllocError>
-    ensures { IfOk result (λ lines. FrameLines inputs.now (option_copied rom.entry) frame.now cert.now.entries finding.now lines.items) }
+) -> Result<Vec<Piece>, AllocError>
+    ensures { IfOk result (λ lines. FrameLines inputs.now (option_copied rom.entry) frame.now cert.now.entries finding.now
+        (told lines.items)) }
 {
     let machine = inputs.machine;
     let at = finding.fault.word;
@@ -72,74 +76,102 @@ fn frame_lines(
         losses: frame_losses(machine, cert, &ListIndex::new(cert), frame, at),
         ..RefusedItem::new(&framed, Kind::Frame, 0, at, finding.before, callee)
     };
-    let why = Why::of_frame(machine, finding, frame);
-    let furthest = furthest_line(rom, cert, finding);
-    let besides = beside_frame(alloc, inputs, cert, finding.cause)?;
+    let stroke = furthest(rom, cert, finding);
     let mut lines = Lines::new(alloc);
     lines.push_machine(machine);
-    lines.push_some(zone_line(&inputs.window));
-    lines.push(Line::Rule(number));
-    lines.push(Line::Why(why));
-    lines.push_some(furthest);
+    lines.push_zone(&inputs.window);
+    lines.add(&[Line("rule"), Rule(number), Line("why")]);
+    push_frame_why(&mut lines, machine, finding, frame);
+    push_item(&mut lines, Role::Refused, "reaches furthest", stroke);
     item.push_lines(Role::Refused, &mut lines);
-    lines.push_some(besides);
-    lines.push(frame_cure(finding, frame));
+    push_beside_frame(alloc, inputs, cert, finding.cause, &mut lines)?;
+    push_frame_cure(&mut lines, finding, frame);
     lines.finish()
 }
 
-/// What to do about the first fault of a frame. A jump back that is its last word may be meant as its end.
-fn frame_cure(finding: &FrameFinding, frame: &FrameImage) -> Line
-    ensures { result ≡ frame_cure frame.now finding.now finding.now.cause }
+/// Adds what to do about the first fault of a frame. A jump back that is its last word may be meant as its end.
+fn push_frame_cure(lines: &mut Lines, finding: &FrameFinding, frame: &FrameImage)
+    ensures { Adds lines.old lines.new (frame_cure frame.now finding.now finding.now.cause) }
 {
     let number = finding.fault.number();
     match finding.cause {
-        FrameCause::BackJump(_) if finding.fault.word == Addresses::of_frame(frame).last => {
-            Line::EndWithHalt(number)
+        FrameCause::BackJump(_) if finding.fault.word == frame.words().saturating_sub(1) => {
+            lines.add(&[ToDo, Cure(number), OrHalt])
         }
-        _ => Line::WhatToDo(number),
+        _ => lines.add(&[ToDo, Cure(number)]),
     }
 }
 
-/// What else is told of the cause in a frame: of an odd LABS what the board answers, and of a call that names no entry the scales at
+/// Adds what else is told of the cause in a frame: of an odd LABS what the board answers, and of a call that names no entry the scales at
 /// which the certificate has the called shape.
-fn beside_frame(
+fn push_beside_frame(
     alloc: Global,
     inputs: &Inputs,
     cert: &Cert,
     cause: FrameCause,
-) -> Result<Option<Line>, AllocError>
-    ensures { IfOk result (BesideFrame inputs.now cert.now.entries cause) }
+    lines: &mut Lines,
+) -> Result<(), AllocError>
+    ensures { OnOk result (Tells lines.old lines.new (TellsBesideFrame inputs.now cert.now.entries cause)) }
 {
     match cause {
-        FrameCause::Odd => board_line(alloc, inputs),
+        FrameCause::Odd => {
+            push_board(lines, board_answer(alloc, inputs)?);
+            Ok(())
+        }
         FrameCause::NoEntry { to, .. } => {
-            let keys = keys_at(alloc, cert.entries(), to)?;
-            Ok(Some(Line::ClaimedScales(keys)))
+            push_keys_at(lines, cert.entries(), to);
+            Ok(())
         }
-        _ => Ok(None),
+        _ => Ok(()),
     }
 }
 
-/// The keys of the entries at a word address, in their order.
-fn keys_at(alloc: Global, entries: &[Entry], addr: u16) -> Result<Vec<Key>, AllocError>
-    ensures { IfOk result (λ keys. keys.items ≡ keys_at addr entries.now) }
+/// Adds the line of the keys of the entries at a word address, in their order.
+fn push_keys_at(lines: &mut Lines, entries: &[Entry], addr: u16)
+    ensures { Adds lines.old lines.new (Line (codes "claimed scales") ∷ keys_at addr entries.now) }
 {
-    let mut keys = Vec::new(alloc);
+    lines.add(&[Line("claimed scales")]);
+    let mut any = false;
     for entry in entries {
-        if entry.addr == addr {
-            keys.push(entry.key)?;
+        if push_key_at(lines, entry, addr, any) {
+            any = true;
         }
     }
-    Ok(keys)
+    lines.add(&[Text(if any { "" } else { "none" })]);
 }
 
-/// What else is told of the cause in a shape: of an odd LABS what the board answers, of an end or a box that differs the other machine.
-fn beside_shape(alloc: Global, inputs: &Inputs, why: ShapeWhy) -> Result<Option<Line>, AllocError>
-    ensures { IfOk result (BesideShape inputs.now why) }
+/// Adds the key of an entry, behind any before it, if it is at this word address. Answers whether it is.
+fn push_key_at(lines: &mut Lines, entry: &Entry, addr: u16, any: bool) -> bool
+    ensures { Adds lines.old lines.new (key_at addr entry.now) }
+{
+    if entry.addr == addr {
+        let before = Text(if any { ", " } else { "" });
+        lines.add(&[before, Piece::Key(entry.key)]);
+        true
+    } else {
+        false
+    }
+}
+
+/// Adds what else is told of the cause in a shape: of an odd LABS what the board answers, of an end or a box that differs the other
+/// machine.
+fn push_beside_shape(
+    alloc: Global,
+    inputs: &Inputs,
+    why: ShapeWhy,
+    lines: &mut Lines,
+) -> Result<(), AllocError>
+    ensures { OnOk result (Tells lines.old lines.new (TellsBesideShape inputs.now why)) }
 {
     match why {
-        ShapeWhy::Odd => board_line(alloc, inputs),
-        _ => Ok(other_machine_line(inputs.machine, why)),
+        ShapeWhy::Odd => {
+            push_board(lines, board_answer(alloc, inputs)?);
+            Ok(())
+        }
+        _ => {
+            push_other_machine(lines, inputs.machine, why);
+            Ok(())
+        }
     }
 }
 
@@ -151,67 +183,84 @@ fn shape_lines(
     cert: &Cert,
     frame: Option<&FrameImage>,
     finding: &ShapeFinding,
-) -> Result<Vec<Line>, AllocError>
-    ensures { IfOk result (λ lines. ShapeLines inputs.now rom.now (option_copied frame.entry) cert.now.entries finding.now lines.items) }
+) -> Result<Vec<Piece>, AllocError>
+    ensures { IfOk result (λ lines. ShapeLines inputs.now rom.now (option_copied frame.entry) cert.now.entries finding.now
+        (told lines.items)) }
 {
     let entry = finding.entry;
     let at = finding.fault.word;
     let number = finding.fault.number();
-    let chain = chain_line(alloc, rom, cert, frame, &entry)?;
     let callee = callee_of(&finding.found);
     let item = RefusedItem {
         losses: losses_in_shape(rom, cert, &entry, at),
         ..RefusedItem::new(rom, Kind::Shape, entry.addr, at, finding.before, callee)
     };
-    let why = Why::of_shape(finding, rom);
-    let besides = beside_shape(alloc, inputs, finding.fault.why)?;
     let mut lines = Lines::new(alloc);
     lines.push_machine(rom.machine());
-    lines.push_some(zone_line(&inputs.window));
-    lines.push(Line::Rule(number));
-    lines.push(Line::Why(why));
+    lines.push_zone(&inputs.window);
+    lines.add(&[Line("rule"), Rule(number), Line("why")]);
+    push_shape_why(&mut lines, finding, rom);
     item.push_lines(Role::Refused, &mut lines);
-    lines.push(Line::Path(PathLine::EntryClaims(entry)));
-    lines.push_some(chain);
-    lines.push_some(besides);
-    lines.push(Line::WhatToDo(number));
+    lines.add(&[Line("entry claims"), Piece::Entry(entry)]);
+    push_chain(alloc, rom, cert, frame, &entry, &mut lines)?;
+    push_beside_shape(alloc, inputs, finding.fault.why, &mut lines)?;
+    lines.add(&[ToDo, Cure(number)]);
     lines.finish()
 }
 
-/// The line that the certificate may have been made for the other machine, if this fault may come of it.
-fn other_machine_line(machine: Machine, why: ShapeWhy) -> Option<Line>
-    ensures { result ≡ other_machine_line machine why }
-{
-    match why {
-        ShapeWhy::EndDiffers | ShapeWhy::BoxTooSmall => {
-            Some(Line::MadeForOther(match machine {
-                Machine::Profile => Machine::Board,
-                Machine::Board => Machine::Profile,
-            }))
-        }
-        _ => None,
+/// How a certificate was made that is for the other machine than this one.
+fn made_otherwise(machine: Machine) -> &'static str {
+    match machine {
+        Machine::Profile => "for the board",
+        Machine::Board => "without `--board`",
     }
 }
 
-/// The line of how a frame reaches an entry, if there is a frame.
-fn chain_line(
+/// Adds that the certificate may have been made for the other machine, if this fault may come of it.
+fn push_other_machine(lines: &mut Lines, machine: Machine, why: ShapeWhy)
+    ensures { Adds lines.old lines.new (other_machine_lines why) }
+{
+    let (ShapeWhy::EndDiffers | ShapeWhy::BoxTooSmall) = why else {
+        return;
+    };
+    lines.add(&[
+        Line("other machine"),
+        Text("the certificate may have been made "),
+        Text(made_otherwise(machine)),
+        Text(match machine {
+            Machine::Profile => ", by `make --board`; `make` without it makes one for this machine",
+            Machine::Board => "; `make --board` makes one for the board",
+        }),
+    ]);
+}
+
+/// Adds how a frame reaches an entry, if there is a frame.
+fn push_chain(
     alloc: Global,
     rom: &RomImage,
     cert: &Cert,
     frame: Option<&FrameImage>,
     goal: &Entry,
-) -> Result<Option<Line>, AllocError>
-    ensures { IfOk result (TellsChain rom.now (option_copied frame.entry) cert.now.entries goal.now) }
+    lines: &mut Lines,
+) -> Result<(), AllocError>
+    ensures { OnOk result (Tells lines.old lines.new
+        (TellsChain rom.now (option_copied frame.entry) cert.now.entries goal.now)) }
 {
     let Some(frame) = frame else {
-        return Ok(None);
+        return Ok(());
     };
     let entries = HashIndex::new(alloc, cert)?;
-    let line = match find_chain(alloc, rom, cert, &entries, frame, goal)? {
-        Some(calls) => PathLine::Chain(calls),
-        None => PathLine::NoChain(EntryName::of(goal)),
+    let Some(calls) = find_chain(alloc, rom, cert, &entries, frame, goal)? else {
+        let name = Name(goal.addr, goal.key);
+        lines.add(&[
+            Line("chain"),
+            Text("none, the frame does not come to "),
+            name,
+        ]);
+        return Ok(());
     };
-    Ok(Some(Line::Path(line)))
+    push_steps(lines, "chain", None, &calls);
+    Ok(())
 }
 
 /// The items of an entry's shape by which the place and the scale were lost that are not known before a word.

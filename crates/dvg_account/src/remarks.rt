@@ -2,32 +2,15 @@
 
 use crate::beginnings::{Beginning, Beginnings};
 use crate::inputs::Inputs;
-use crate::line::EntryName;
+use crate::piece::Piece::{self, Address, Line, Name, Number, Text};
 use crate::shape_items::from_address;
 use crate::shape_walk::ShapeWalk;
-use dvg_cert::{Cert, Entries};
+use dvg_cert::{Cert, Entries, Key};
 use dvg_words::RomImage;
 use std::alloc::{AllocError, Global};
 
-/// Something that its author may not have meant.
-#[derive(Clone, Copy)]
-pub enum Remark {
-    /// So many lit draws of a shape, or of the frame, have an effective scale of 10 to 15, the first at this word address.
-    Faint {
-        shape: Option<EntryName>,
-        first: u16,
-        draws: usize,
-    },
-    /// A shape runs on into this word address, which is the beginning of something else.
-    RunsOn {
-        shape: EntryName,
-        into: u16,
-        at: Beginning,
-    },
-}
-
-/// The remarks on a frame, whose faint draws stand at these word addresses, and on the shapes of a certificate over a ROM, by the labels
-/// and the other frames of these inputs.
+/// The lines of what is remarked on a frame, whose faint draws stand at these word addresses, and on the shapes of a certificate over a
+/// ROM, by the labels and the other frames of these inputs.
 pub fn remarks_on<E: Entries>(
     alloc: Global,
     inputs: &Inputs,
@@ -35,9 +18,9 @@ pub fn remarks_on<E: Entries>(
     entries: &E,
     rom: Option<&RomImage>,
     faint: &[u16],
-) -> Result<Vec<Remark>, AllocError> {
+) -> Result<Vec<Piece>, AllocError> {
     let mut remarks = Vec::new(alloc);
-    push_some(&mut remarks, faint_in_frame(faint))?;
+    push_faint(&mut remarks, None, faint.len(), faint.first().copied())?;
     if let Some(rom) = rom {
         let beginnings = Beginnings::new(alloc, rom, inputs.others, inputs.labels)?;
         push_shapes(&mut remarks, rom, cert, entries, &beginnings)?;
@@ -45,27 +28,55 @@ pub fn remarks_on<E: Entries>(
     Ok(remarks)
 }
 
-/// The remark on a frame's faint draws, if there are any.
-fn faint_in_frame(faint: &[u16]) -> Option<Remark> {
-    Some(Remark::Faint {
-        shape: None,
-        first: *faint.first()?,
-        draws: faint.len(),
-    })
+/// Adds the line of how many lit draws of a shape, or of the frame, have an effective scale of 10 to 15, and of the first one's word
+/// address, if there are any.
+fn push_faint(
+    remarks: &mut Vec<Piece>,
+    shape: Option<(u16, Key)>,
+    draws: usize,
+    first: Option<u16>,
+) -> Result<(), AllocError> {
+    let Some(first) = first else {
+        return Ok(());
+    };
+    remarks.extend_from_slice(&[
+        Line("scales over 9"),
+        Number(draws as u64),
+        Text(" of the lit draws of "),
+        match shape {
+            Some((addr, key)) => Name(addr, key),
+            None => Text("the frame"),
+        },
+        Text(", the first at "),
+        Address(first),
+        Text(": on the board each is a dot"),
+    ])
 }
 
-/// The remark on the faint draws of a shape, if there are any.
-fn faint_in_shape(shape: EntryName, walk: &ShapeWalk) -> Option<Remark> {
-    Some(Remark::Faint {
-        shape: Some(shape),
-        first: walk.first_faint?,
-        draws: walk.faint,
-    })
+/// Adds the line of the word address into which a shape runs on, if that is the beginning of something else.
+fn push_runs_on(
+    remarks: &mut Vec<Piece>,
+    (addr, key): (u16, Key),
+    into: Option<(u16, Beginning)>,
+) -> Result<(), AllocError> {
+    let Some((into, at)) = into else {
+        return Ok(());
+    };
+    remarks.extend_from_slice(&[
+        Line("runs on"),
+        Name(addr, key),
+        Text(" into "),
+        Address(into),
+        Text(match at {
+            Beginning::Entry => ", where another shape begins",
+            Beginning::Label => ", where a label stands",
+        }),
+    ])
 }
 
 /// Adds the remarks on the shapes. A shape that runs on has this remark at its first scale alone.
 fn push_shapes<E: Entries>(
-    remarks: &mut Vec<Remark>,
+    remarks: &mut Vec<Piece>,
     rom: &RomImage,
     cert: &Cert,
     entries: &E,
@@ -75,25 +86,13 @@ fn push_shapes<E: Entries>(
     let mut later = cert.entries();
     for entry in cert.entries() {
         later = from_address(later, Some(entry.addr));
-        let shape = EntryName::of(entry);
+        let shape = (entry.addr, entry.key);
         let walk = ShapeWalk::over(rom, entries, entry, later, beginnings);
-        push_some(remarks, faint_in_shape(shape, &walk))?;
+        push_faint(remarks, Some(shape), walk.faint, walk.first_faint)?;
         if told != Some(entry.addr) {
-            push_some(
-                remarks,
-                walk.into
-                    .map(|(into, at)| Remark::RunsOn { shape, into, at }),
-            )?;
+            push_runs_on(remarks, shape, walk.into)?;
         }
         told = Some(entry.addr);
-    }
-    Ok(())
-}
-
-/// Adds a remark, if there is one.
-fn push_some(remarks: &mut Vec<Remark>, remark: Option<Remark>) -> Result<(), AllocError> {
-    if let Some(remark) = remark {
-        remarks.push(remark)?;
     }
     Ok(())
 }

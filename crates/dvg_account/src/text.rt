@@ -65,6 +65,25 @@ impl<'a> Text<'a> {
         }
     }
 
+    /// Ends the line before, if there is one, and begins a line with this key, before which this stands.
+    pub fn begin_line(&mut self, before: &str, key: &str) {
+        self.end_line();
+        self.push(before);
+        self.push(key);
+        self.push(": ");
+    }
+
+    /// Ends the line, if one is begun.
+    pub fn end_line(&mut self) {
+        let is_begun = match &self.text {
+            Ok(text) => matches!(text.as_bytes().last(), Some(byte) if *byte != b'\n'),
+            Err(_) => false,
+        };
+        if is_begun {
+            self.push("\n");
+        }
+    }
+
     /// A number in decimal, without leading zeros.
     pub fn push_decimal<N: Integer>(&mut self, number: N) {
         self.push(Buffer::new().format(number));

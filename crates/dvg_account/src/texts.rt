@@ -99,9 +99,7 @@ fn own_text_with(
     let verdict = own_verdict(&judged);
     let mut lines = own_lines(alloc, inputs, rom, frame, judged)?;
     if let (Machine::Board, Some(time)) = (inputs.machine, time) {
-        for line in time_lines(alloc, &time)? {
-            lines.push(line)?;
-        }
+        lines.extend_from_slice(&time_lines(alloc, &time)?)?;
     }
     let swapped = swapped_for_frame(alloc, inputs, &verdict)?;
     text_of(alloc, Telling::of_own(swapped), &lines, inputs.labels)
@@ -151,7 +149,7 @@ pub fn leaving_text(
     could_stand: Vec<u32>,
     labels: Option<&Labels>,
 ) -> Result<String, AllocError> {
-    let lines = leaving_lines(alloc, frame, at, could_stand)?;
+    let lines = leaving_lines(alloc, frame, at, &could_stand)?;
     text_of(alloc, Telling::of_own(None), &lines, labels)
 }
 
@@ -196,6 +194,6 @@ pub fn unmade_text(
     account: MakeAccount,
     labels: Option<&Labels>,
 ) -> Result<String, AllocError> {
-    let lines = unmade_lines(alloc, rom, frames, account)?;
+    let lines = unmade_lines(alloc, rom, frames, &account)?;
     text_of(alloc, Telling::of_own(None), &lines, labels)
 }

@@ -1,184 +1,49 @@
-//! Why an answer is a refusal: the numbers of the sentence.
+//! The sentences that tell why an item is refused.
 
-ghost use Rattle.std.specs.Prelude.{◌≡◌, length};
+ghost use Rattle.std.specs.Prelude.{◌≡◌};
 ghost use Rattle.dvg_account.specs.Items.{words_at};
-ghost use Rattle.dvg_account.specs.Why.{addresses_of_map, addresses_of_frame, words_with, missing_word, odd_field, odd_labs, lost_place, jumps_back, TellsBox, TellsFrame, TellsShape, TellsClaim};
-ghost use Rattle.dvg_account.specs.declared.why.Why.TheVariants.{PastEdge};
-ghost use Rattle.dvg_account.specs.declared.why.ClaimWhy.TheVariants.{TooManyWords};
-ghost use Rattle.dvg_account.specs.declared.why.Corner.{Corner};
+ghost use Rattle.dvg_account.specs.Why.{frame_why, shape_why, claim_why, missing_word, odd_field, odd_fields, odd_labs, no_entry, leaves_box, words_with, words_over, past};
+ghost use Rattle.dvg_account.specs.Building.{Adds};
 
-use crate::item::words_at;
-use crate::line::{EntryName, Words};
+use crate::item::{ItemWords, words_at};
+use crate::lines::Lines;
+use crate::piece::Bounds;
+use crate::piece::Piece::{self, Address, Number, Past, Place, Scale, Text};
 use dvg_cert::{End, Entry, Key};
 use dvg_check::{BoxLeaving, Found, FrameCause, FrameFinding, Leaving, ShapeCause, ShapeFinding};
 use dvg_items::{LitExtent, Seen};
-use dvg_text::EntryCounts;
-use dvg_words::{Fetch, FrameImage, FrameOn, Instr, Machine, Point, RomImage, RomMap};
+use dvg_words::{Fetch, FrameImage, FrameOn, Instr, Machine, Point, RomImage};
 
-/// Why an answer is a refusal, with the numbers of the sentence.
-#[derive(Clone, Copy)]
-pub enum Why {
-    /// This word of the item is outside these words.
-    MissingWord {
-        word: u16,
-        words: Addresses,
-    },
-    /// The item is a LABS, and these of its fields are over 1023: Y in its first word, X in its second.
-    OddLabs {
-        y: Option<u16>,
-        x: Option<u16>,
-    },
-    /// A shape has a HALT.
-    Halt,
-    /// A frame has an RTSL.
-    Return,
-    /// The item jumps to this address, its own.
-    JumpsToItself(u16),
-    /// The item jumps to this address, which is lower than its own.
-    JumpsBack(u16),
-    /// The item draws lit at a lost place.
-    DrawsAtLostPlace,
-    /// The entry that the item names has a box, and the place is lost.
-    BoxAtLostPlace,
-    /// The item draws lit at unknown scale.
-    ScaleUnknown,
-    /// A corner of what the item lights is past an edge.
-    PastEdge {
-        corner: Corner,
-        leaving: Leaving,
-        bounds: Bounds,
-    },
-    /// A corner of what the item lights is here, and the entry claims an empty box.
-    LitOutsideEmptyBox {
-        corner: Corner,
-        at: Point,
-    },
-    /// No entry is named by this address and this scale, `Any` where it is unknown.
-    NoEntry {
-        to: u16,
-        scale: Key,
-    },
-    /// The frame takes so many words up to and with the item, which are over the budget by so many.
-    OverBudget {
-        words: u32,
-        over: u32,
-    },
-    /// With the item the frame may take more than so many clocks.
-    OverTime {
-        limit: u64,
-    },
-    /// The shape breaks a claim of its entry.
-    Claim(ClaimWhy),
-    /// The maker can't make the entry.
-    Maker(MakerWhy),
-    /// An input is refused before any item is judged.
-    Input(InputWhy),
+/// Adds that a word of the item at a word address is missing, in a memory of this owner with words from the first address to the last.
+pub fn push_missing<F: Fetch>(
+    lines: &mut Lines,
+    memory: &F,
+    at: u16,
+    owner: &'static str,
+    first: u16,
+    last: u16,
+)
+    ensures { Adds lines.old lines.new (missing_word (F.words memory.now) at first last) }
+{
+    let word = match memory.fetch(at) {
+        Some(_) => at + 1,
+        None => at,
+    };
+    lines.add(&[
+        Text("word "),
+        Address(word),
+        Text(owner),
+        Address(first),
+        Text(" to "),
+        Address(last),
+    ]);
 }
 
-/// What an entry claims, and what its shape needs.
-#[derive(Clone, Copy)]
-pub enum ClaimWhy {
-    TooDeep(Difference<u8>),
-    TooManyWords { words: u32, claimed: u32, over: u32 },
-    EndDiffers(Difference<End>),
-    ScaleDiffers(Difference<Key>),
-    WordsDiffer(Difference<u32>),
-    DepthDiffers(Difference<u8>),
-}
+/// Before the addresses of the words of a frame.
+const IN_FRAME: &str = " is not in the frame, whose words are ";
 
-/// What a shape does, and what its entry claims.
-#[derive(Clone, Copy)]
-pub struct Difference<T> {
-    pub actual: T,
-    pub claimed: T,
-}
-
-impl<T> Difference<T> {
-    fn new(actual: T, claimed: T) -> Difference<T>
-        ensures { result ≡ record { actual = actual; claimed = claimed } }
-    {
-        Difference { actual, claimed }
-    }
-}
-
-/// Why the maker stops at an item that calls, or that takes words.
-#[derive(Clone, Copy)]
-pub enum MakerWhy {
-    /// It leads to this shape, which needs it.
-    Ring(EntryName),
-    /// It calls this entry, below which calls go as deep as a certificate allows.
-    Deep(EntryName),
-    /// The shape takes so many words up to and with it.
-    TooManyWords(u32),
-    TooManyEntries,
-}
-
-/// Why an input is refused before any item is judged.
-#[derive(Clone, Copy)]
-pub enum InputWhy {
-    /// The ROM has so many bytes, and lies at these addresses.
-    RomLength { bytes: usize, words: Addresses },
-    /// The frame has so many bytes.
-    FrameLength(usize),
-    /// The budget is so many words.
-    Budget(u32),
-    /// The last line of the certificate says another number of entries than there are.
-    EntryCounts(EntryCounts),
-}
-
-/// Whether words belong to the frame or to the ROM.
-#[derive(Clone, Copy)]
-pub enum Owner {
-    Frame,
-    Rom,
-}
-
-/// The addresses of the first and the last word of a frame or a ROM.
-#[derive(Clone, Copy)]
-pub struct Addresses {
-    pub owner: Owner,
-    pub first: u16,
-    pub last: u16,
-}
-
-impl Addresses {
-    /// The addresses of a frame's words.
-    pub fn of_frame(frame: &FrameImage) -> Addresses
-        ensures { result ≡ addresses_of_frame frame.now }
-    {
-        Addresses {
-            owner: Owner::Frame,
-            first: 0,
-            last: frame.words().saturating_sub(1),
-        }
-    }
-
-    /// The addresses of the words of a ROM at this map.
-    pub fn of_map(map: RomMap) -> Addresses
-        ensures { result ≡ addresses_of_map map }
-    {
-        Addresses {
-            owner: Owner::Rom,
-            first: map.first(),
-            last: map.last(),
-        }
-    }
-
-    /// The addresses of fewer words from the first one on, which are so many bytes.
-    pub fn of_bytes(&self, bytes: usize) -> Option<Addresses> {
-        let words = u16::try_from(bytes / 2).ok()?;
-        let last = self.first.checked_add(words)?.checked_sub(1)?;
-        if bytes % 2 == 1 || words == 0 || self.last <= last {
-            return None;
-        }
-        Some(Addresses { last, ..*self })
-    }
-
-    /// How many bytes these words are.
-    pub fn bytes(&self) -> u32 {
-        2 * (u32::from(self.last).saturating_sub(u32::from(self.first)) + 1)
-    }
-}
+/// Before the addresses of the words of a ROM.
+pub const IN_ROM: &str = " is not in the ROM, whose words are ";
 
 /// The twelve bits of a word of a LABS, if they are over 1023: bit 11 or bit 10 is set.
 fn odd_field(word: u16) -> Option<u16>
@@ -188,39 +53,68 @@ fn odd_field(word: u16) -> Option<u16>
     if field > 1023 { Some(field) } else { None }
 }
 
-/// What has edges.
-#[derive(Clone, Copy)]
-pub enum Bounds {
-    Window,
-    ClaimedBox,
+/// Adds which fields of the LABS at a word address are over 1023: Y in its first word, X in its second.
+pub fn push_odd<F: Fetch>(lines: &mut Lines, memory: &F, at: u16)
+    ensures { Adds lines.old lines.new (odd_labs (words_at (F.words memory.now) at)) }
+{
+    let (y, x) = match words_at(memory, at) {
+        ItemWords::Nothing => (None, None),
+        ItemWords::One(first) => (odd_field(first), None),
+        ItemWords::Two(first, second) => (odd_field(first), odd_field(second)),
+    };
+    push_odd_fields(lines, y, x);
 }
 
-/// Which corner of what an item lights: an end of a draw, or a corner of the box of the entry that it calls.
-#[derive(Clone, Copy)]
-pub enum Corner {
-    Start,
-    End,
-    LowerLeft,
-    UpperRight,
-}
-
-impl Corner {
-    /// Which corner stands at a point.
-    fn of(found: &Found, point: &Point) -> Corner {
-        match found {
-            Found::Seen(seen) => Corner::of_seen(seen, point),
-            _ => Corner::End,
-        }
+/// Adds these fields of a LABS, which are over 1023.
+fn push_odd_fields(lines: &mut Lines, y: Option<u16>, x: Option<u16>)
+    ensures { Adds lines.old lines.new (odd_fields y x) }
+{
+    let most = Text(", at most 1023");
+    match (y, x) {
+        (Some(y), Some(x)) => lines.add(&[
+            Text("bit 11 or bit 10 is set in both its words: "),
+            Text("Y "),
+            Number(y as u64),
+            Text(", "),
+            Text("X "),
+            Number(x as u64),
+            most,
+        ]),
+        (Some(y), None) => lines.add(&[
+            Text("bit 11 or bit 10 is set in its first word: "),
+            Text("Y "),
+            Number(y as u64),
+            most,
+        ]),
+        (None, Some(x)) => lines.add(&[
+            Text("bit 11 or bit 10 is set in its second word: "),
+            Text("X "),
+            Number(x as u64),
+            most,
+        ]),
+        (None, None) => {}
     }
+}
 
-    fn of_seen(seen: &Seen, point: &Point) -> Corner {
-        let is_first = first_corner(seen) == Some(*point);
-        match (seen.item.instr, is_first) {
-            (Instr::Draw(_), true) => Corner::Start,
-            (Instr::Draw(_), false) => Corner::End,
-            (_, true) => Corner::LowerLeft,
-            (_, false) => Corner::UpperRight,
-        }
+/// That an item is a HALT in a shape.
+pub const HALT_IN_SHAPE: &str = "HALT stands in a shape";
+
+/// That an item draws lit at a lost place.
+pub const AT_LOST_PLACE: &str = "it draws lit at a lost place";
+
+/// That an item draws lit at unknown scale.
+pub const AT_UNKNOWN_SCALE: &str = "it draws lit at unknown scale";
+
+/// What lights at a lost place: the box of the entry that the item names, or a draw.
+fn lost_place(found: &Found) -> &'static str {
+    match found {
+        Found::Seen(
+            Seen {
+                callee: Some(_),
+                ..
+            },
+        ) => "the entry that it names has a box, and the place is lost",
+        _ => AT_LOST_PLACE,
     }
 }
 
@@ -245,6 +139,67 @@ fn first_corner(seen: &Seen) -> Option<Point> {
     }
 }
 
+/// Which corner of what an item lights stands at a point: an end of a draw, or a corner of the box of the entry that it calls.
+fn corner(found: &Found, point: Point) -> &'static str {
+    match found {
+        Found::Seen(seen) => corner_of(seen, point),
+        _ => "its end at ",
+    }
+}
+
+fn corner_of(seen: &Seen, point: Point) -> &'static str {
+    let is_first = first_corner(seen) == Some(point);
+    match (seen.item.instr, is_first) {
+        (Instr::Draw(_), true) => "its start at ",
+        (Instr::Draw(_), false) => "its end at ",
+        (_, true) => "the lower left corner of its entry's box at ",
+        (_, false) => "the upper right corner of its entry's box at ",
+    }
+}
+
+/// Adds which corner of what an item lights is past an edge.
+fn push_past(lines: &mut Lines, found: &Found, leaving: Leaving, bounds: Bounds)
+    ensures { Adds lines.old lines.new (past leaving bounds) }
+{
+    lines.add(&[Text(corner(found, leaving.corner)), Past(leaving, bounds)]);
+}
+
+/// Adds how the claimed box is left.
+fn push_leaves_box(lines: &mut Lines, found: &Found, leaving: BoxLeaving)
+    ensures { Adds lines.old lines.new (leaves_box leaving) }
+{
+    match leaving {
+        BoxLeaving::Empty(at) => lines.add(&[
+            Text(corner(found, at)),
+            Piece::Point(at),
+            Text(" is lit, and the entry claims box none"),
+        ]),
+        BoxLeaving::Past(leaving) => push_past(lines, found, leaving, Bounds::ClaimedBox),
+    }
+}
+
+/// Adds that no entry is named by this address and this scale, `Any` where it is unknown.
+fn push_no_entry(lines: &mut Lines, to: u16, scale: Key)
+    ensures { Adds lines.old lines.new (no_entry to scale) }
+{
+    match scale {
+        Key::At(scale) => lines.add(&[
+            Text("no entry is for "),
+            Address(to),
+            Text(" at scale "),
+            Number(scale as u64),
+            Text(", and none for "),
+            Address(to),
+            Text(" at any"),
+        ]),
+        Key::Any => lines.add(&[
+            Text("the scale is unknown, and no entry is for "),
+            Address(to),
+            Text(" at any"),
+        ]),
+    }
+}
+
 /// How many words there are up to and with an item that is there.
 fn words_with(found: &Found) -> u32
     ensures { result ≡ words_with found.now }
@@ -255,154 +210,132 @@ fn words_with(found: &Found) -> u32
     }
 }
 
-/// What lights at a lost place: a draw, or the box of the entry that the item names.
-fn lost_place(found: &Found) -> Why
-    ensures { result ≡ lost_place found.now }
+/// Adds that there are so many words up to and with an item, what allows fewer, and by how many they are over.
+pub fn push_words_over(lines: &mut Lines, words: u32, allows: &'static str, most: u32, over: u32)
+    ensures { Adds lines.old lines.new (words_over words most over) }
 {
-    match found {
-        Found::Seen(
-            Seen {
-                callee: Some(_),
-                ..
-            },
-        ) => Why::BoxAtLostPlace,
-        _ => Why::DrawsAtLostPlace,
-    }
+    lines.add(&[
+        Number(words as u64),
+        Text(" words with it, and "),
+        Text(allows),
+        Number(most as u64),
+        Text(": over by "),
+        Number(over as u64),
+    ]);
 }
 
-/// A jump of the item at a word address to its own address or a lower one.
-fn jumps_back(at: u16, to: u16) -> Why
-    ensures { result ≡ jumps_back at to }
-{
+/// Where an item at a word address lands that jumps back: at its own address, or at a lower one.
+fn landing(at: u16, to: u16) -> &'static str {
     if to == at {
-        Why::JumpsToItself(to)
+        ", its own address"
     } else {
-        Why::JumpsBack(to)
+        ", a lower address"
     }
 }
 
-impl Why {
-    /// The missing word of the item at a word address, in a memory with these words.
-    pub fn missing<F: Fetch>(memory: &F, at: u16, words: Addresses) -> Why
-        ensures { result ≡ missing_word (F.words memory.now) words at }
-    {
-        let word = match memory.fetch(at) {
-            Some(_) => at + 1,
-            None => at,
-        };
-        Why::MissingWord { word, words }
-    }
-
-    /// The fields of the LABS at a word address that are over 1023.
-    pub fn odd<F: Fetch>(memory: &F, at: u16) -> Why
-        ensures { result ≡ odd_labs (words_at (F.words memory.now) at) }
-    {
-        let (y, x) = match words_at(memory, at) {
-            Words::Nothing => (None, None),
-            Words::One(first) => (odd_field(first), None),
-            Words::Two(first, second) => (odd_field(first), odd_field(second)),
-        };
-        Why::OddLabs { y, x }
-    }
-
-    /// The corner that is past an edge.
-    fn past_edge(found: &Found, leaving: Leaving, bounds: Bounds) -> Why
-        ensures { (corner : Corner) × (result ≡ PastEdge corner leaving bounds) }
-    {
-        Why::PastEdge {
-            corner: Corner::of(found, &leaving.corner),
-            leaving,
-            bounds,
+/// Adds why an item of a frame is refused on a machine.
+pub fn push_frame_why(
+    lines: &mut Lines,
+    machine: Machine,
+    finding: &FrameFinding,
+    frame: &FrameImage,
+)
+    ensures { Adds lines.old lines.new (frame_why machine frame.now finding.now finding.now.cause) }
+{
+    let found = &finding.found;
+    let at = finding.fault.word;
+    let framed = FrameOn::new(machine, frame);
+    match finding.cause {
+        FrameCause::Unmapped => {
+            let last = frame.words().saturating_sub(1);
+            push_missing(lines, &framed, at, IN_FRAME, 0, last)
         }
-    }
-
-    /// How the claimed box is left.
-    fn leaves_box(found: &Found, leaving: BoxLeaving) -> Why
-        ensures { TellsBox leaving result }
-    {
-        match leaving {
-            BoxLeaving::Empty(at) => Why::LitOutsideEmptyBox {
-                corner: Corner::of(found, &at),
-                at,
-            },
-            BoxLeaving::Past(leaving) => Why::past_edge(found, leaving, Bounds::ClaimedBox),
-        }
-    }
-
-    /// Why an item of a frame is refused on a machine.
-    pub fn of_frame(machine: Machine, finding: &FrameFinding, frame: &FrameImage) -> Why
-        ensures { TellsFrame machine frame.now finding.now finding.now.cause result }
-    {
-        let found = &finding.found;
-        let at = finding.fault.word;
-        let framed = FrameOn::new(machine, frame);
-        match finding.cause {
-            FrameCause::Unmapped => Why::missing(&framed, at, Addresses::of_frame(frame)),
-            FrameCause::Odd => Why::odd(&framed, at),
-            FrameCause::ReturnInFrame => Why::Return,
-            FrameCause::BackJump(to) => jumps_back(at, to),
-            FrameCause::BeamUnknown => lost_place(found),
-            FrameCause::ScaleUnknown => Why::ScaleUnknown,
-            FrameCause::OffScreen(leaving) => Why::past_edge(found, leaving, Bounds::Window),
-            FrameCause::NoEntry { to, scale } => Why::NoEntry { to, scale },
-            FrameCause::Budget(over) => Why::OverBudget {
-                words: words_with(found),
+        FrameCause::Odd => push_odd(lines, &framed, at),
+        FrameCause::ReturnInFrame => lines.add(&[
+            Text("RTSL stands in a frame"),
+            Text(", and there is no call to return from"),
+        ]),
+        FrameCause::BackJump(to) => lines.add(&[
+            Text("it jumps to "),
+            Address(to),
+            Text(landing(at, to)),
+        ]),
+        FrameCause::BeamUnknown => lines.add(&[Text(lost_place(found))]),
+        FrameCause::ScaleUnknown => lines.add(&[Text(AT_UNKNOWN_SCALE)]),
+        FrameCause::OffScreen(leaving) => push_past(lines, found, leaving, Bounds::Window),
+        FrameCause::NoEntry { to, scale } => push_no_entry(lines, to, scale),
+        FrameCause::Budget(over) => {
+            let words = words_with(found);
+            push_words_over(
+                lines,
+                words,
+                "the budget is ",
+                words.saturating_sub(over),
                 over,
-            },
-        }
-    }
-
-    /// Why an item of a shape is refused.
-    pub fn of_shape(finding: &ShapeFinding, rom: &RomImage) -> Why
-        ensures { TellsShape rom.now finding.now finding.now.cause result }
-    {
-        let found = &finding.found;
-        let at = finding.fault.word;
-        match finding.cause {
-            ShapeCause::Unmapped => Why::missing(rom, at, Addresses::of_map(rom.map())),
-            ShapeCause::Odd => Why::odd(rom, at),
-            ShapeCause::HaltInShape => Why::Halt,
-            ShapeCause::BeamUnknown => lost_place(found),
-            ShapeCause::ScaleUnknown => Why::ScaleUnknown,
-            ShapeCause::OffScreen(leaving) => Why::past_edge(found, leaving, Bounds::Window),
-            ShapeCause::NoEntry { to, scale } => Why::NoEntry { to, scale },
-            ShapeCause::BoxTooSmall(leaving) => Why::leaves_box(found, leaving),
-            claim => Why::Claim(ClaimWhy::of(claim, &finding.entry, words_with(found))),
+            )
         }
     }
 }
 
-impl ClaimWhy {
-    /// Which claim of an entry is broken, where so many words are taken up to and with the item.
-    fn of(cause: ShapeCause, entry: &Entry, words: u32) -> ClaimWhy
-        ensures { TellsClaim entry.now words cause result }
-    {
-        match cause {
-            ShapeCause::TooDeep(needed) => {
-                ClaimWhy::TooDeep(Difference::new(needed, entry.depth))
-            }
-            ShapeCause::EndDiffers(end) => ClaimWhy::EndDiffers(Difference::new(end, entry.stop)),
-            ShapeCause::ScaleDiffers(scale) => {
-                ClaimWhy::ScaleDiffers(Difference::new(scale, entry.scale))
-            }
-            ShapeCause::WordsDiffer(words) => {
-                ClaimWhy::WordsDiffer(Difference::new(words, entry.words))
-            }
-            ShapeCause::DepthDiffers(depth) => {
-                ClaimWhy::DepthDiffers(Difference::new(depth, entry.depth))
-            }
-            ShapeCause::TooManyWords(over) => ClaimWhy::too_many_words(entry, words, over),
-            _ => ClaimWhy::too_many_words(entry, words, 0),
+/// Adds why an item of a shape is refused.
+pub fn push_shape_why(lines: &mut Lines, finding: &ShapeFinding, rom: &RomImage)
+    ensures { Adds lines.old lines.new (shape_why rom.now finding.now finding.now.cause) }
+{
+    let found = &finding.found;
+    let at = finding.fault.word;
+    match finding.cause {
+        ShapeCause::Unmapped => {
+            push_missing(lines, rom, at, IN_ROM, rom.map().first(), rom.map().last())
         }
+        ShapeCause::Odd => push_odd(lines, rom, at),
+        ShapeCause::HaltInShape => lines.add(&[Text(HALT_IN_SHAPE)]),
+        ShapeCause::BeamUnknown => lines.add(&[Text(lost_place(found))]),
+        ShapeCause::ScaleUnknown => lines.add(&[Text(AT_UNKNOWN_SCALE)]),
+        ShapeCause::OffScreen(leaving) => push_past(lines, found, leaving, Bounds::Window),
+        ShapeCause::NoEntry { to, scale } => push_no_entry(lines, to, scale),
+        ShapeCause::BoxTooSmall(leaving) => push_leaves_box(lines, found, leaving),
+        claim => push_claim(lines, claim, &finding.entry, words_with(found)),
     }
+}
 
-    fn too_many_words(entry: &Entry, words: u32, over: u32) -> ClaimWhy
-        ensures { result ≡ TooManyWords words entry.now.words over }
-    {
-        ClaimWhy::TooManyWords {
-            words,
-            claimed: entry.words,
-            over,
+/// Adds which claim of an entry is broken, where so many words are taken up to and with the item.
+fn push_claim(lines: &mut Lines, cause: ShapeCause, entry: &Entry, words: u32)
+    ensures { Adds lines.old lines.new (claim_why entry.now words cause) }
+{
+    match cause {
+        ShapeCause::TooDeep(depth) => lines.add(&[
+            Text("it needs depth "),
+            Number(depth as u64),
+            Text(", and the entry claims "),
+            Number(entry.depth as u64),
+        ]),
+        ShapeCause::EndDiffers(end) => lines.add(&[
+            Text("the shape ends at "),
+            Place(end),
+            Text(", and the entry claims end "),
+            Piece::End(entry.stop),
+        ]),
+        ShapeCause::ScaleDiffers(scale) => lines.add(&[
+            Text("the shape ends at scale "),
+            Scale(scale),
+            Text(", and the entry claims scale "),
+            Piece::Key(entry.scale),
+        ]),
+        ShapeCause::WordsDiffer(words) => lines.add(&[
+            Text("the entry claims "),
+            Number(entry.words as u64),
+            Text(" words, and the shape takes "),
+            Number(words as u64),
+        ]),
+        ShapeCause::DepthDiffers(depth) => lines.add(&[
+            Text("the shape needs depth "),
+            Number(depth as u64),
+            Text(", and the entry claims "),
+            Number(entry.depth as u64),
+        ]),
+        ShapeCause::TooManyWords(over) => {
+            push_words_over(lines, words, "the entry claims ", entry.words, over)
         }
+        _ => push_words_over(lines, words, "the entry claims ", entry.words, 0),
     }
 }

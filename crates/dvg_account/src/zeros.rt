@@ -1,9 +1,16 @@
 //! The items that lead to an item: the one right before it, and zeros.
 
-use crate::item::words_at;
-use crate::line::{Words, Zeros};
+use crate::item::{ItemWords, words_at};
 use dvg_items::{Item, Items, Kind};
 use dvg_words::Fetch;
+
+/// Words 0000 that lead to an item: the addresses of the first and the last, and the last item before them.
+#[derive(Clone, Copy)]
+pub struct Zeros {
+    pub first: u16,
+    pub last: u16,
+    pub before: Option<Item>,
+}
 
 /// What leads to an item: the item right before it, and the zeros, if there are any.
 #[derive(Clone, Copy)]
@@ -77,14 +84,17 @@ impl Passed {
 
 /// Whether a VCTR of zeros stands at an address, or its first word alone where there is no second.
 fn are_zeros<F: Fetch>(words: &F, at: u16) -> bool {
-    matches!(words_at(words, at), Words::One(0) | Words::Two(0, 0))
+    matches!(
+        words_at(words, at),
+        ItemWords::One(0) | ItemWords::Two(0, 0)
+    )
 }
 
 /// The last of the zeros that lead to the item at a word address: its own last word if it is of zeros, or the word before it.
 fn last_zero<F: Fetch>(words: &F, at: u16) -> u16 {
     match words_at(words, at) {
-        Words::One(0) => at,
-        Words::Two(0, 0) => at.saturating_add(1),
+        ItemWords::One(0) => at,
+        ItemWords::Two(0, 0) => at.saturating_add(1),
         _ => at.saturating_sub(1),
     }
 }

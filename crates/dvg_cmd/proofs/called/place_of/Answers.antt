@@ -1,4 +1,4 @@
-use Rattle.dvg_cmd.proofs.Common.{arith, common_steps, drop-cons, drop_all}
+use Rattle.dvg_cmd.proofs.Common.{arith, common_steps, drop-cons}
 use Rattle.dvg_cmd.specs.Called.{place_in}
 use Rattle.dvg_cmd.proofs.called.place_of.Goals as goal
 

@@ -1,4 +1,4 @@
-use Rattle.dvg_cmd.proofs.Common.{List, [], ◌∷◌, ◌++◌, ℕ}
+use Rattle.dvg_cmd.proofs.Common.{[], ◌∷◌, ◌++◌}
 use Rattle.dvg_spelling.specs.Tally.{summary_text}
 use Rattle.dvg_cmd.proofs.LineByLine.{both_cut, both_sent, first_cut, on_err}
 use Rattle.dvg_cmd.proofs.Writing.{on_fail, on_ok}

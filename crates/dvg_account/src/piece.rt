@@ -1,0 +1,99 @@
+//! The pieces of which an account is made: the keys of its lines, what they tell, and the words between.
+
+ghost use Rattle.std.specs.Prelude.{◌≡◌, [], ◌∷◌};
+ghost use Rattle.dvg_account.specs.Told.{told, keyed};
+
+use dvg_cert::{End, Entry, Key, LitBox};
+use dvg_check::{Leaving, Yes};
+use dvg_items::Item;
+use dvg_make::FrameRefusal;
+use dvg_words::{Format, Instr, Point, RomMap};
+
+/// A piece of an account. A key begins a line, and what follows it up to the next key is the line's value.
+#[derive(Clone, Copy)]
+pub enum Piece {
+    /// The key of a line.
+    Line(&'static str),
+    /// The key of a line about the item at which the making of an entry stops, which a frame's call needs.
+    There(&'static str),
+    /// The key of the line of what to do, behind which the bytes stand that are to be swapped first, if some are.
+    ToDo,
+    /// Words between values.
+    Text(&'static str),
+    Number(u64),
+    /// How many bytes an input has, which may have so many at most.
+    Bytes(usize, usize),
+    /// A word address, by the label that names it, if one does.
+    Address(u16),
+    /// A word address alone, whatever label names it.
+    BareAddress(u16),
+    /// A word address, and the processor's address of its first byte.
+    At(u16),
+    /// What a word holds.
+    Word(u16),
+    Instruction(Instruction),
+    /// The word address of an item, and its instruction.
+    Item(Item),
+    /// The name of an entry: its address and its key.
+    Name(u16, Key),
+    /// An entry as a certificate spells it, and so its end and its key.
+    Entry(Entry),
+    End(End),
+    Key(Key),
+    /// A place that is known, or that it is lost.
+    Place(End),
+    /// A scale that is known, or that it is not.
+    Scale(Key),
+    Point(Point),
+    /// The corner that is past an edge of this, where the edge is, and by how much.
+    Past(Leaving, Bounds),
+    /// The coordinates between which a box lies.
+    Within(LitBox),
+    Distance(u64),
+    /// What a number means.
+    Rule(u8),
+    /// What to do about a number.
+    Cure(u8),
+    /// What else to do where a list is to end.
+    OrHalt,
+    /// The words of a ROM that is said to lie here, and what else so many bytes may be.
+    Fitting(RomMap, usize),
+    /// The answer to a frame by its own certificate.
+    Answer(Result<Yes, FrameRefusal>),
+    /// What was expected at a column of a certificate's line.
+    Expected(&'static str),
+}
+
+/// Which item a line is about: the one by which something is refused, or the one at which the making of an entry stops, which
+/// a frame's call needs.
+#[derive(Clone, Copy)]
+pub enum Role {
+    Refused,
+    Stop,
+}
+
+impl Role {
+    /// The key of a line about the item in this role.
+    pub fn key(self, key: &'static str) -> Piece
+        ensures { told (result ∷ []) ≡ keyed self key.now }
+    {
+        match self {
+            Role::Refused => Piece::Line(key),
+            Role::Stop => Piece::There(key),
+        }
+    }
+}
+
+/// What has edges.
+#[derive(Clone, Copy)]
+pub enum Bounds {
+    Window,
+    ClaimedBox,
+}
+
+/// An instruction, and whether it has one word or two.
+#[derive(Clone, Copy)]
+pub struct Instruction {
+    pub format: Format,
+    pub instr: Instr,
+}
