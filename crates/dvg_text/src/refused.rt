@@ -1,13 +1,13 @@
 //! A text that is refused, and what is told of the refused line beside its number.
 
-ghost use Rattle.std.specs.Prelude.{◌≡◌, ◌≤◌, ℕ, IfNone, IfSome};
+ghost use Rattle.std.specs.Prelude.{◌≡◌, ◌-◌, ◌≤◌, ℕ, IfNone, IfSome};
 ghost use Rattle.dvg_cert.specs.declared.limits.TheConstants.{MOST_ENTRIES};
 ghost use Rattle.dvg_text.specs.Grammar.{done_line};
 
 use crate::leaving::{FormLeaving, first_leaving, later_leaving, rom_leaving};
 use crate::line::count_of;
 use crate::line_buffer::LineBuffer;
-use crate::taken::{Stage, TakenLines};
+use crate::taken::{Stage, TakenLines, heading};
 use dvg_cert::{CertFault, CertWhy};
 use dvg_words::{ASTEROIDS, RomMap};
 use std::marker::Model;
@@ -28,14 +28,15 @@ pub struct EntryCounts {
     pub found: u32,
 }
 
-/// The counts of a last line, which comes without its end, behind so many entries. `None` if it is no such line: one that says at
-/// most 4,096 entries.
-pub fn counts_of(line: &[u8], found: u32) -> Option<EntryCounts>
+/// The counts of a last line with this number, which comes without its end, and before whose entries so many lines stand. `None` if
+/// it is no such line: one that says at most 4,096 entries.
+pub fn counts_of(line: &[u8], number: u32, before: u32) -> Option<EntryCounts>
     ensures claimed { IfSome result (λ counts. (counts.claimed ≤ MOST_ENTRIES) × (line.now ≡ done_line counts.claimed)) }
     ensures none { IfNone result ((n : ℕ) → n ≤ MOST_ENTRIES → line.now ≡ done_line n → ⊥) }
-    ensures found { IfSome result (λ counts. counts.found ≡ found) }
+    ensures found { IfSome result (λ counts. counts.found ≡ number - before - 1) }
 {
     let claimed = count_of(line)?;
+    let found = number.saturating_sub(before).saturating_sub(1);
     Some(EntryCounts { claimed, found })
 }
 
@@ -50,8 +51,6 @@ pub struct RefusedText {
     /// Which line came next, and over which map.
     stage: Stage,
     map: RomMap,
-    /// How many entries came before it.
-    found: u32,
 }
 
 impl Model for RefusedText {
@@ -72,7 +71,6 @@ impl RefusedText {
             line,
             stage: lines.stage(),
             map: lines.map(),
-            found: lines.entry_count(),
         }
     }
 
@@ -85,7 +83,6 @@ impl RefusedText {
             line: LineBuffer::new(),
             stage: Stage::Ended,
             map: ASTEROIDS,
-            found: 0,
         }
     }
 
@@ -100,7 +97,9 @@ impl RefusedText {
     pub fn why(&self) -> Option<LineWhy> {
         let line = self.line.as_slice();
         let leaving = match (self.fault.why, self.stage) {
-            (CertWhy::Count, _) => return counts_of(line, self.found).map(LineWhy::Count),
+            (CertWhy::Count, _) => {
+                return counts_of(line, self.fault.line, heading(self.map)).map(LineWhy::Count);
+            }
             (CertWhy::Form, Stage::First) => first_leaving(line),
             (CertWhy::Form, Stage::Rom) => rom_leaving(line),
             (CertWhy::Form, Stage::Later) => later_leaving(self.map, line),

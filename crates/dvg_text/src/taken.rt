@@ -78,14 +78,6 @@ impl TakenLines {
         self.map
     }
 
-    /// How many entries were taken.
-    pub fn entry_count(&self) -> u32 {
-        match self.stage {
-            Stage::First | Stage::Rom => 0,
-            Stage::Later | Stage::Ended => self.entries.len() as u32,
-        }
-    }
-
     /// The number of the next line.
     pub fn line_number(&self) -> u32
         ensures { result ≡ line_number self.now }
@@ -184,7 +176,7 @@ fn after_first(line: &[u8]) -> Result<Stage, CertWhy>
 }
 
 /// The number of lines before the entries.
-fn heading(map: RomMap) -> u32
+pub fn heading(map: RomMap) -> u32
     ensures { result ≡ length (heading map) }
 {
     if map.is_asteroids() { 1 } else { 2 }
