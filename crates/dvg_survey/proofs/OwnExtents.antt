@@ -1,13 +1,17 @@
 -- What the shapes of a list light at absolute places: where one leads to another, the other lights the same from there on.
-use Rattle.dvg_survey.proofs.Common.{◌≡◌, ℕ, ◌+◌, ◌<◌, ◌≤◌, List, [], ◌∷◌, ◌++◌, length, get_or, ◌∙◌, refl, sym, ap, subst, arith, inl, inr, ⊎_elim, cases_lt, Contains, Rom, rom_word, Entry, Key, End, Rel, Abs, Lost, LitBox, Empty, LitExtent, Shape, Item, Stand, AreAll, LeadsTo, Context, Known, shape_context, target, callee_at, scale_set, unwrap_or, place_before, scale_before, HoldsAll, absolute_corners, absolute_points, get_or_default, IsInside, InBox, Point, all_append, all_right, all_map, in_wider, IsJoined, HoldsShape, HoldsShapes, same_lead, ADDRESS_END, IsSomeCertificate, listed_claim, append_assoc, pos, suc, zero, next_further, ℤ, ◌+ℤ◌, Cursor, Seen, Step, Onward, step_past, leads_on, IsSeenAt}
+use Rattle.dvg_survey.proofs.Common.{◌≡◌, ℕ, ◌+◌, ◌<◌, ◌≤◌, List, [], ◌∷◌, ◌++◌, length, get_or, ◌∙◌, refl, sym, ap, subst, arith, inl, inr, ⊎_elim, cases_lt, Contains, Option, Some, None, Rom, rom_word, cell_at, Holds, Format, Instr, Machine, Entry, Key, End, Rel, Abs, Lost, LitBox, Empty, LitExtent, Shape, Item, AreAll, Stand, LeadsTo, Context, Known, shape_context, target, callee_at, scale_set, unwrap_or, known_before, place_before, scale_before, HoldsAll, absolute_corners, absolute_points, IsLeast, get_or_default, IsInside, InBox, Point, all_append, all_right, all_map, in_wider, IsJoined, HoldsShape, HoldsShapes, same_lead, ADDRESS_END, IsSomeCertificate, listed_claim, append_assoc, pos, suc, zero, next_further, next_near, next_address, ITEM_REACH, IsSoundCursor, ℤ, ◌+ℤ◌, Cursor, first_cursor, Seen, seen_with}
 use Rattle.dvg_items.specs.declared.known.Effect.{Effect}
 use Rattle.dvg_items.specs.declared.known.Effect.TheVariants.{Sets, Loses, Moves}
-use Rattle.dvg_items.specs.Known.{place_past, effect_of}
+use Rattle.dvg_words.specs.Values.{DrawFields}
+use Rattle.dvg_words.specs.Decoding.{InstrFits}
+use Rattle.dvg_words.specs.declared.instruction.Instr.TheVariants.{Draw as Draws}
+use Rattle.dvg_cert.specs.declared.entry.Key.TheVariants.{At, Any}
+use Rattle.dvg_items.specs.Known.{draw_effect, effect_of, known_past, place_past}
+use Rattle.dvg_items.proofs.Reached.{place_more}
 use Rattle.dvg_items.specs.Lit.{extent_of}
 use Rattle.dvg_survey.specs.Calls.{IsShapesExtent}
-use Rattle.dvg_survey.specs.Private.Extents.{IsNotAbsolute, GoesOn, IsOwnExtent}
+use Rattle.dvg_survey.specs.Private.Extents.{ArePlacesAlike, GoesOn, IsAlike, IsNotAbsolute, IsOwnExtent, IsPassed, IsSoundKnown}
 use Rattle.dvg_survey.proofs.AllItems.{stand_before, one_all}
-use Rattle.dvg_survey.proofs.Walking.{Walked, HoldsOfAll, Lights}
 
 -- what one box has, a wider one has
 wider : (a b : LitBox) (ps : List Point) → IsInside a b → HoldsAll a ps → HoldsAll b ps
@@ -15,15 +19,7 @@ wider a b ps inside h = all_map (InBox a) (InBox b) ps (λ p. in_wider a b p ins
 
 -- ---- places that are alike for what is lit at absolute ones
 
--- both are the same absolute place, or neither is absolute
-abbrev Alike : End → End → Type 0
-Alike (Abs x y) (Abs u v) = (x ≡ u) × (y ≡ v)
-Alike (Abs x y) (Rel u v) = ⊥
-Alike (Abs x y) Lost = ⊥
-Alike (Rel x y) place = IsNotAbsolute place
-Alike Lost place = IsNotAbsolute place
-
-alike_past : (effect : Effect) (a b : End) → Alike a b → Alike (place_past effect a) (place_past effect b)
+alike_past : (effect : Effect) (a b : End) → ArePlacesAlike a b → ArePlacesAlike (place_past effect a) (place_past effect b)
 alike_past (Sets p) a b h = (refl, refl)
 alike_past Loses a b h = tt
 alike_past (Moves d) (Abs x y) (Abs u v) h = (ap (λ (n : ℤ). n +ℤ d.x) h.0, ap (λ (n : ℤ). n +ℤ d.y) h.1)
@@ -36,7 +32,7 @@ alike_past (Moves d) (Rel x y) Lost h = tt
 alike_past (Moves d) Lost (Rel u v) h = tt
 alike_past (Moves d) Lost Lost h = tt
 
-alike_corners : (lit : LitExtent) (a b : End) → Alike a b → absolute_corners lit a ≡ absolute_corners lit b
+alike_corners : (lit : LitExtent) (a b : End) → ArePlacesAlike a b → absolute_corners lit a ≡ absolute_corners lit b
 alike_corners lit (Abs x y) (Abs u v) h = grind (arith)
 alike_corners lit (Rel x y) (Rel u v) h = refl
 alike_corners lit (Rel x y) Lost h = refl
@@ -47,10 +43,111 @@ alike_corners lit (Abs x y) Lost h = elim h [ ]
 alike_corners lit (Rel x y) (Abs u v) h = elim h [ ]
 alike_corners lit Lost (Abs u v) h = elim h [ ]
 
-alike_start : (place : End) → IsNotAbsolute place → Alike place (Rel (pos 0) (pos 0))
+alike_start : (place : End) → IsNotAbsolute place → ArePlacesAlike place (Rel (pos 0) (pos 0))
 alike_start (Rel x y) h = tt
 alike_start (Abs x y) h = elim h [ ]
 alike_start Lost h = tt
+
+both_elsewhere : (a b : End) → IsNotAbsolute a → IsNotAbsolute b → ArePlacesAlike a b
+both_elsewhere (Rel x y) b h k = k
+both_elsewhere (Abs x y) b h k = elim h [ ]
+both_elsewhere Lost b h k = k
+
+elsewhere_too : (a b : End) → ArePlacesAlike a b → IsNotAbsolute b → IsNotAbsolute a
+elsewhere_too (Rel x y) b h k = tt
+elsewhere_too (Abs x y) (Rel u v) h k = elim h [ ]
+elsewhere_too (Abs x y) (Abs u v) h k = elim k [ ]
+elsewhere_too (Abs x y) Lost h k = elim h [ ]
+elsewhere_too Lost b h k = tt
+
+-- a draw leads to no absolute place from another one, and lights nothing at one
+drawn_elsewhere : (machine : Machine) (d : DrawFields) (scale : Key) (place : End) → IsNotAbsolute place
+    → IsNotAbsolute (place_past (draw_effect machine d scale) place)
+drawn_elsewhere machine d (At gscale) (Rel x y) h = tt
+drawn_elsewhere machine d (At gscale) (Abs x y) h = elim h [ ]
+drawn_elsewhere machine d (At gscale) Lost h = tt
+drawn_elsewhere machine d Any place h = tt
+
+no_corners : (lit : LitExtent) (place : End) → IsNotAbsolute place → absolute_corners lit place ≡ []
+no_corners lit (Rel x y) h = refl
+no_corners lit (Abs x y) h = elim h [ ]
+no_corners lit Lost h = refl
+
+-- ---- past an item
+
+-- numbers within the limits stay so
+pub sound_later : (here : Cursor) → IsSoundCursor here → IsSoundKnown (here.at + 1) here.known
+sound_later here s =
+    record {
+      place = place_more ITEM_REACH here.at (here.at + 1) here.known.place (omega arith) s.place;
+      scale = s.scale;
+      words = omega (arith, s.words);
+      depth = s.depth;
+    }
+
+sound_on : (i : Item) (next : ℕ) (after : Known) → i.at < ADDRESS_END → InstrFits i.instr → next_address Shape i ≡ Some next
+    → IsSoundKnown (i.at + 1) after → IsSoundCursor (record { at = next; known = after })
+sound_on i next after lt fits goes s =
+    let further = next_further Shape i next goes in
+    record {
+      at = next_near Shape i.at i.format i.instr next lt fits goes;
+      place = place_more ITEM_REACH (i.at + 1) next after.place further s.place;
+      scale = s.scale;
+      words = omega (arith, s.words, further);
+      depth = s.depth;
+    }
+
+module _ (machine : Machine) (list : List Entry) where
+  abbrev named : Item → Key → Option Entry
+  named i scale = callee_at list (target Shape i.instr) scale
+
+  abbrev seen_past : Item → Known → Seen
+  seen_past i known = seen_with machine (named i known.scale) known i
+
+  abbrev past : Item → Known → Known
+  past i known = known_past machine i (named i known.scale) known
+
+  abbrev lit_by : Item → Known → List Point
+  lit_by i known = absolute_corners (extent_of machine i.instr known.scale (named i known.scale)) known.place
+
+  module _ (i : Item) (known other : Known) (h : IsAlike known other) where
+    alike_on : IsAlike (past i known) (past i other)
+    alike_on =
+        record {
+          scale = ap (λ (k : Key). unwrap_or (scale_set i.instr (named i k)) k) h.scale;
+          place = subst (λ (k : Key). ArePlacesAlike (past i known).place (place_past (effect_of machine i.instr k (named i k)) other.place))
+              h.scale (alike_past (effect_of machine i.instr known.scale (named i known.scale)) known.place other.place h.place);
+        }
+
+    lit_alike : lit_by i known ≡ lit_by i other
+    lit_alike =
+        alike_corners (extent_of machine i.instr known.scale (named i known.scale)) known.place other.place h.place
+        ∙ ap (λ (k : Key). absolute_corners (extent_of machine i.instr k (named i k)) other.place) h.scale
+
+  -- past an item that is seen, or past a draw that is passed over
+  module _ (i : Item) (old new : LitBox) (known here : Known) (alike : IsAlike known here) where
+    pub passed_seen : (v : Seen) → v ≡ seen_past i here
+        → ((ps : List Point) → IsLeast ps old → IsLeast (absolute_corners v.extent v.place ++ ps) new)
+        → IsPassed (seen_past i known) old new v.after
+    passed_seen v is grows =
+        record {
+          alike = subst (λ (x : Seen). IsAlike (past i known) x.after) (sym is) (alike_on i known here alike);
+          lit = λ ps h. subst (λ (x : List Point). IsLeast (x ++ ps) new)
+              (ap (λ (x : Seen). absolute_corners x.extent x.place) is ∙ sym (lit_alike i known here alike)) (grows ps h);
+        }
+
+    pub passed_over : (d : DrawFields) → i.instr ≡ Draws d → IsNotAbsolute here.place → IsPassed (seen_past i known) old old here
+    passed_over d draws other =
+        let elsewhere = elsewhere_too known.place here.place alike.place other in
+        record {
+          alike = record {
+            scale = ap (λ (x : Instr). unwrap_or (scale_set x (named i known.scale)) known.scale) draws ∙ alike.scale;
+            place = both_elsewhere (past i known).place here.place
+                (subst (λ (x : Instr). IsNotAbsolute (place_past (effect_of machine x known.scale (named i known.scale)) known.place))
+                (sym draws) (drawn_elsewhere machine d known.scale known.place elsewhere)) other;
+          };
+          lit = λ ps h. subst (λ (x : List Point). IsLeast (x ++ ps) old) (sym (no_corners (seen_past i known).extent known.place elsewhere)) h;
+        }
 
 module _ (rom : Rom) (list : List Entry) where
   abbrev of : Entry → Context
@@ -78,48 +175,20 @@ module _ (rom : Rom) (list : List Entry) where
     all_too items all =
         record { stand = stand_too items all.stand; last = λ next h. all.last next (leads_back items next.at h.0, h.1) }
 
-    -- the scale is the same after any items behind, and the place is alike
-    record Same (items : List Item) : Type 0 where
-      scale : scale_before (of e) (items ++ before) ≡ scale_before (of other) items
-      place : Alike (place_before (of e) (items ++ before)) (place_before (of other) items)
-
-    same : (items : List Item) → Same items
+    -- what is known after any items behind is alike
+    same : (items : List Item) → IsAlike (known_before (of e) (items ++ before)) (known_before (of other) items)
     same [] = record { scale = g.scale; place = alike_start (place_before (of e) before) g.place }
-    same (i ∷ items) =
-        let s = same items in
-        record {
-          scale = ap (λ (k : Key). unwrap_or (scale_set i.instr (callee_at list (target Shape i.instr) k)) k) s.scale;
-          place = subst (λ (k : Key). Alike
-              (place_past (effect_of rom.machine i.instr (scale_before (of e) (items ++ before))
-              (callee_at list (target Shape i.instr) (scale_before (of e) (items ++ before)))) (place_before (of e) (items ++ before)))
-              (place_past (effect_of rom.machine i.instr k (callee_at list (target Shape i.instr) k)) (place_before (of other) items)))
-              s.scale
-              (alike_past (effect_of rom.machine i.instr (scale_before (of e) (items ++ before))
-              (callee_at list (target Shape i.instr) (scale_before (of e) (items ++ before))))
-              (place_before (of e) (items ++ before)) (place_before (of other) items) s.place);
-        }
+    same (i ∷ items) = alike_on rom.machine list i (known_before (of e) (items ++ before)) (known_before (of other) items) (same items)
 
     -- so they light the same
     lit_too : (items : List Item)
         → absolute_points (of e) (items ++ before) ≡ absolute_points (of other) items ++ absolute_points (of e) before
     lit_too [] = refl
     lit_too (i ∷ items) =
-        let s = same items in
-        let here : absolute_corners (extent_of rom.machine i.instr (scale_before (of e) (items ++ before))
-        (callee_at list (target Shape i.instr) (scale_before (of e) (items ++ before)))) (place_before (of e) (items ++ before))
-        ≡ absolute_corners (extent_of rom.machine i.instr (scale_before (of other) items)
-        (callee_at list (target Shape i.instr) (scale_before (of other) items))) (place_before (of other) items) =
-        alike_corners (extent_of rom.machine i.instr (scale_before (of e) (items ++ before))
-        (callee_at list (target Shape i.instr) (scale_before (of e) (items ++ before)))) (place_before (of e) (items ++ before))
-        (place_before (of other) items) s.place
-        ∙ ap (λ (k : Key). absolute_corners (extent_of rom.machine i.instr k (callee_at list (target Shape i.instr) k))
-        (place_before (of other) items)) s.scale in
-        ap (λ (ps : List Point). ps ++ absolute_points (of e) (items ++ before)) here
-        ∙ ap (λ (ps : List Point). absolute_corners (extent_of rom.machine i.instr (scale_before (of other) items)
-        (callee_at list (target Shape i.instr) (scale_before (of other) items))) (place_before (of other) items) ++ ps) (lit_too items)
-        ∙ sym (append_assoc (absolute_corners (extent_of rom.machine i.instr (scale_before (of other) items)
-        (callee_at list (target Shape i.instr) (scale_before (of other) items))) (place_before (of other) items))
-        (absolute_points (of other) items) (absolute_points (of e) before))
+        ap (λ (ps : List Point). ps ++ absolute_points (of e) (items ++ before))
+        (lit_alike rom.machine list i (known_before (of e) (items ++ before)) (known_before (of other) items) (same items))
+        ∙ ap (λ (ps : List Point). lit_by rom.machine list i (known_before (of other) items) ++ ps) (lit_too items)
+        ∙ sym (append_assoc (lit_by rom.machine list i (known_before (of other) items)) (absolute_points (of other) items) (absolute_points (of e) before))
 
   -- ---- the walk over an entry's shape
 
@@ -127,37 +196,91 @@ module _ (rom : Rom) (list : List Entry) where
   leads_from first [] p h = omega (arith, h)
   leads_from first (i ∷ items) p h = omega (arith, leads_from first items i.at h.0, next_further Shape i p h.2)
 
-  module _ (e : Entry) (box : LitBox) where
-    -- to its end
-    pub own_to_end : HoldsOfAll (of e) (rom_word rom) e.addr (Lights (of e) box) → IsOwnExtent rom list e box
-    own_to_end h = record { items = h.0; least = h.2; end = inl h.1 }
+  module _ (e : Entry) where
+    -- items of the shape that lead to where the walk stands, what is known there as far as it counts, and the least box of what they light
+    pub record Came (box : LitBox) (here : Cursor) : Type 0 where
+      pub items : List Item
+      pub leads : LeadsTo Shape (rom_word rom) e.addr items here.at
+      pub alike : IsAlike (known_before (of e) items) here.known
+      pub sound : IsSoundCursor here
+      pub least : IsLeast (absolute_points (of e) items) box
 
-    -- past an item, to where another one goes on
-    pub own_to_other : (here : Cursor) (v : Seen) (old : LitBox) → Walked (of e) (rom_word rom) e.addr (Lights (of e) old) here
-        → IsSeenAt rom.machine list Shape (rom_word rom) here v → (step : Step) (next : Cursor) → step ≡ Onward next → step ≡ step_past Shape v
-        → Walked (of e) (rom_word rom) e.addr (Lights (of e) box) next → (other : Entry) → Contains list other → other.addr ≡ next.at
-        → other.key ≡ next.known.scale → IsNotAbsolute next.known.place → IsOwnExtent rom list e box
-    own_to_other here v old before s step next is goes w other listed there key place =
+    pub none_came : (here : Cursor) → here ≡ first_cursor Shape e.addr e.key → IsSoundCursor here → Came Empty here
+    none_came here is sound =
         record {
-          items = w.items;
-          least = w.holds;
-          end = inr (
-            other,
-            record {
-              listed = listed;
-              leads = subst (λ p. LeadsTo Shape (rom_word rom) e.addr w.items p) (sym there) w.leads;
-              further = omega (
-                arith,
-                leads_from e.addr before.items here.at before.leads,
-                s.at,
-                next_further Shape v.item next.at (leads_on Shape v step next is goes).0,
-                there,
-              );
-              scale = ap (λ (k : Known). k.scale) (sym w.knows) ∙ sym key;
-              place = subst (λ (k : Known). IsNotAbsolute k.place) w.knows place;
-            },
-          );
+          items = [];
+          leads = ap (λ (x : Cursor). x.at) is;
+          alike = subst (λ (x : Cursor). IsAlike (known_before (of e) []) x.known) (sym is) (record { scale = refl; place = tt });
+          sound = sound;
+          least = record { holds = tt; least = λ other h. tt };
         }
+
+    -- where no item stands
+    pub own_here : (box : LitBox) (here : Cursor) → Came box here
+        → ((format : Format) (instr : Instr) → cell_at (rom_word rom) here.at ≡ Holds format instr → ⊥) → IsOwnExtent rom list e box
+    own_here box here came none =
+        let all : AreAll Shape (rom_word rom) e.addr came.items =
+        record {
+          stand = stand_before Shape (rom_word rom) e.addr came.items here.at came.leads;
+          last = λ j k. none j.format j.instr (subst (λ p. cell_at (rom_word rom) p ≡ Holds j.format j.instr)
+              (same_lead Shape (rom_word rom) e.addr came.items came.items j.at here.at k.0 came.leads refl).place k.1);
+        } in
+        record { items = came.items; least = came.least; end = inl all }
+
+    -- past an item
+    module _ (old new : LitBox) (here : Cursor) (came : Came old here) (i : Item) (at : i.at ≡ here.at)
+        (stands : cell_at (rom_word rom) here.at ≡ Holds i.format i.instr) (after : Known)
+        (passed : (known : Known) → IsAlike known here.known → IsPassed (seen_past rom.machine list i known) old new after) where
+      here_leads : LeadsTo Shape (rom_word rom) e.addr came.items i.at
+      here_leads = subst (LeadsTo Shape (rom_word rom) e.addr came.items) (sym at) came.leads
+
+      here_stands : cell_at (rom_word rom) i.at ≡ Holds i.format i.instr
+      here_stands = ap (cell_at (rom_word rom)) at ∙ stands
+
+      least : IsLeast (absolute_points (of e) (i ∷ came.items)) new
+      least = (passed (known_before (of e) came.items) came.alike).lit (absolute_points (of e) came.items) came.least
+
+      pub own_last : next_address Shape i ≡ None → IsOwnExtent rom list e new
+      own_last ends =
+          let all : AreAll Shape (rom_word rom) e.addr (i ∷ came.items) =
+          record {
+            stand = (here_leads, here_stands);
+            last = λ j k. let no : None ≡ Some j.at = sym ends ∙ k.0.2 in cc no;
+          } in
+          record { items = i ∷ came.items; least = least; end = inl all }
+
+      module _ (next : ℕ) (goes : next_address Shape i ≡ Some next) where
+        pub came_on : i.at < ADDRESS_END → InstrFits i.instr → IsSoundKnown (i.at + 1) after
+            → Came new (record { at = next; known = after })
+        came_on lt fits s =
+            record {
+              items = i ∷ came.items;
+              leads = (here_leads, here_stands, goes);
+              alike = (passed (known_before (of e) came.items) came.alike).alike;
+              sound = sound_on i next after lt fits goes s;
+              least = least;
+            }
+
+        -- to where another one goes on
+        pub own_to_other : (other : Entry) → Contains list other → other.addr ≡ next → other.key ≡ after.scale → IsNotAbsolute after.place
+            → IsOwnExtent rom list e new
+        own_to_other other listed there key place =
+            let alike = (passed (known_before (of e) came.items) came.alike).alike in
+            record {
+              items = i ∷ came.items;
+              least = least;
+              end = inr (
+                other,
+                record {
+                  listed = listed;
+                  leads = subst (λ p. LeadsTo Shape (rom_word rom) e.addr (i ∷ came.items) p) (sym there)
+                      (here_leads, here_stands, goes);
+                  further = omega (arith, leads_from e.addr came.items here.at came.leads, at, next_further Shape i next goes, there);
+                  scale = alike.scale ∙ sym key;
+                  place = elsewhere_too (past rom.machine list i (known_before (of e) came.items)).place after.place alike.place place;
+                },
+              );
+            }
 
   -- ---- entry after entry
 

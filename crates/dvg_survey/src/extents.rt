@@ -1,15 +1,21 @@
 //! Where shapes light at absolute places.
 
-ghost use Rattle.std.specs.Prelude.{◌≡◌, IsTrue, Contains};
+ghost use Rattle.std.specs.Prelude.{◌≡◌, ◌+◌, ◌<◌, IsTrue, Contains};
+ghost use Rattle.dvg_words.specs.Decoding.{InstrFits};
+ghost use Rattle.dvg_words.specs.declared.map.TheConstants.{ADDRESS_END};
 ghost use Rattle.dvg_cert.specs.declared.entry.Entry.{Entry as EntryValue};
-ghost use Rattle.dvg_items.specs.Bounds.{IsClaim, IsSomeCertificate};
+ghost use Rattle.dvg_items.specs.Bounds.{IsClaim, IsSomeCertificate, IsSoundCursor};
+ghost use Rattle.dvg_items.specs.Known.{callee_at, target};
+ghost use Rattle.dvg_items.specs.declared.known.Known.{Known as KnownValue};
+ghost use Rattle.dvg_items.specs.Seen.{seen_with};
+ghost use Rattle.dvg_items.specs.declared.item.Kind.TheVariants.{Shape};
 ghost use Rattle.dvg_survey.specs.Calls.{IsShapesExtent};
-ghost use Rattle.dvg_survey.specs.Private.Extents.{IsNotAbsolute, IsOwnExtent};
+ghost use Rattle.dvg_survey.specs.Private.Extents.{IsAlike, IsNotAbsolute, IsOwnExtent, IsPassed, IsSoundKnown};
 
-use crate::items::{lit_with, see};
+use crate::items::lit_with;
 use dvg_cert::{Cert, End, Entries, Entry, LitBox};
-use dvg_items::{Cursor, Kind, Step, joined};
-use dvg_words::RomImage;
+use dvg_items::{Cursor, Item, Kind, Known, joined};
+use dvg_words::{Cell, Instr, Machine, RomImage, read_cell};
 
 /// Whether an entry's shape begins here, from where on it lights the same: what is lit at absolute places depends on the word address and
 /// the scale alone, as long as the place is not absolute.
@@ -24,25 +30,55 @@ fn begins_shape<E: Entries>(entries: &E, here: &Cursor) -> bool
     }
 }
 
+/// What is known past the item at a cursor, as far as what is lit at absolute places goes by it, and the least box with what the item
+/// lights at one. A draw at a place that is not absolute lights nothing at an absolute one and leads to none, so it is passed over.
+#[inline(always)]
+fn known_past<E: Entries>(
+    machine: Machine,
+    entries: &E,
+    here: &Cursor,
+    item: &Item,
+    lit: &mut LitBox,
+) -> Known
+    requires entries { IsSomeCertificate (E.list entries.now) }
+    requires here { IsSoundCursor here.now }
+    requires item { (item.now.at ≡ here.now.at) × (here.now.at < ADDRESS_END) × InstrFits item.now.instr }
+    ensures passed { (known : KnownValue) → IsAlike known here.now.known
+        → IsPassed (seen_with machine (callee_at (E.list entries.now) (target Shape item.now.instr) known.scale) known item.now)
+        lit.old lit.new result }
+    ensures sound { IsSoundKnown (here.now.at + 1) result }
+{
+    match (&item.instr, &here.known.place) {
+        (Instr::Draw(_), End::Rel { .. } | End::Lost) => here.known,
+        _ => {
+            let seen = here.see_by(machine, entries, Kind::Shape, item.format, item.instr);
+            *lit = lit_with(lit, &seen);
+            seen.after
+        }
+    }
+}
+
 /// The least box of what an entry's shape lights at absolute places, up to its end or to where another entry's shape goes on.
-#[tactic(auto, using(crate::proofs::Walking::begins, crate::proofs::Walking::least_none))]
 fn own_extent<E: Entries>(rom: &RomImage, entries: &E, entry: &Entry) -> LitBox
     requires entries { IsSomeCertificate (E.list entries.now) }
     requires entry { IsClaim entry.now }
     ensures { IsOwnExtent rom.now (E.list entries.now) entry.now result }
 {
     let mut lit = LitBox::Empty;
-    let mut cursor = Cursor::start(Kind::Shape, entry.addr, entry.key);
-    while let Some(seen) = see(rom, entries, Kind::Shape, &cursor) {
-        lit = lit_with(&lit, &seen);
-        match seen.step(Kind::Shape) {
-            Step::Onward(next) => {
-                if begins_shape(entries, &next) {
-                    return lit;
-                }
-                cursor = next;
-            }
-            Step::Last(_) => return lit,
+    let mut here = Cursor::start(Kind::Shape, entry.addr, entry.key);
+    while let Cell::Holds { format, instr } = read_cell(rom, here.at) {
+        let item = Item {
+            at: here.at,
+            format,
+            instr,
+        };
+        let known = known_past(rom.machine(), entries, &here, &item, &mut lit);
+        match item.next_address(Kind::Shape) {
+            Some(at) => here = Cursor { at, known },
+            None => return lit,
+        }
+        if begins_shape(entries, &here) {
+            return lit;
         }
     }
     lit
