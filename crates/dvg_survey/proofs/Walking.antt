@@ -50,10 +50,6 @@ module _ (kind : Kind) (word : Source) (first at : ℕ) (items : List Item) wher
 
 -- ---- what holds of them
 
--- the box is the least one of what they light
-abbrev pub Lights : Context → LitBox → List Item → Type 0
-Lights c box items = IsLeast (absolute_points c items) box
-
 abbrev pub Surveys : Context → FrameSurvey → List Item → Type 0
 Surveys c survey items = IsSurveyAmong c items survey
 
@@ -112,16 +108,9 @@ module _ (c : Context) (word : Source) (first : ℕ) (P : List Item → Type 0) 
             );
           }
 
--- past an item, what all items so far light and come to
+-- past an item, what all items so far come to
 module _ (c : Context) (word : Source) (first : ℕ) (here : Cursor) (v : Seen) (s : IsSeenAt c.machine c.list c.kind word here v)
     (step : Step) (goes : step ≡ step_past c.kind v) (sound : IsSoundStep step) where
-  pub lit_past : (old new : LitBox) → Walked c word first (Lights c old) here
-      → ((ps : List Point) → IsLeast ps old → IsLeast (absolute_corners v.extent v.place ++ ps) new) → Past c word first (Lights c new) step
-  lit_past old new w grows =
-      past c word first (Lights c old) here w v s (Lights c new) step goes sound
-      (subst (λ (x : Seen). IsLeast (absolute_corners x.extent x.place ++ absolute_points c w.items) new)
-      (seen_is c word first (Lights c old) here w v s) (grows (absolute_points c w.items) w.holds))
-
   pub survey_past : (old new : FrameSurvey) → Walked c word first (Surveys c old) here → IsSurveyPast old v here.known.scale new
       → Past c word first (Surveys c new) step
   survey_past old new w more =
@@ -143,10 +132,6 @@ module _ (c : Context) (word : Source) (first : ℕ) (here : Cursor) (v : Seen) 
       none_after c.kind word first at w.items v.item (here_leads c word first (Loses c at old) here w v s)
       (here_stands c word first (Loses c at old) here w v s) (ends_at c.kind v step known is goes).0
       (w.holds.2, λ e. other (sym s.at ∙ e))
-
--- nothing needs no box
-pub least_none : IsLeast [] Empty
-least_none = record { holds = tt; least = λ other h. tt }
 
 -- what is said of none
 pub where_none : {A : Type 0} {P : Type 0} (o : Option A) → ((x : A) → o ≡ Some x → ⊥) → IfNone o P → P
