@@ -37,8 +37,8 @@ use dvg_recipe_cmd::{Explained, Wanted, judge_text};
 use dvg_verdict::check_on;
 use std::alloc::Global;
 
-/// The version of the program and of this library, 2.0.2: its first number times 10,000, its second times 100, and its third.
-pub const VERSION: u32 = 20_002;
+/// The version of the program and of this library, 2.0.3: its first number times 10,000, its second times 100, and its third.
+pub const VERSION: u32 = 20_003;
 
 /// The version with which the library was built. The header's `DVGCHECK_VERSION` is the version of the header.
 #[unsafe(no_mangle)]

@@ -1,16 +1,13 @@
 -- What the shapes of a list light at absolute places: where one leads to another, the other lights the same from there on.
-use Rattle.dvg_survey.proofs.Common.{◌≡◌, ℕ, ◌+◌, ◌<◌, ◌≤◌, List, [], ◌∷◌, ◌++◌, length, get_or, ◌∙◌, refl, sym, ap, subst, arith, inl, inr, ⊎_elim, cases_lt, Contains, Option, Some, None, Rom, rom_word, cell_at, Holds, Format, Instr, Machine, Entry, Key, End, Rel, Abs, Lost, LitBox, Empty, LitExtent, Shape, Item, AreAll, Stand, LeadsTo, Context, Known, shape_context, target, callee_at, scale_set, unwrap_or, known_before, place_before, scale_before, HoldsAll, absolute_corners, absolute_points, IsLeast, get_or_default, IsInside, InBox, Point, all_append, all_right, all_map, in_wider, IsJoined, HoldsShape, HoldsShapes, same_lead, ADDRESS_END, IsSomeCertificate, listed_claim, append_assoc, pos, suc, zero, next_further, next_near, next_address, ITEM_REACH, IsSoundCursor, ℤ, ◌+ℤ◌, Cursor, first_cursor, Seen, seen_with}
+use Rattle.dvg_survey.proofs.Common.{◌≡◌, ℕ, ◌+◌, ◌<◌, ◌≤◌, List, [], ◌∷◌, ◌++◌, length, get_or, ◌∙◌, refl, sym, ap, subst, arith, inl, inr, ⊎_elim, cases_lt, Contains, Option, Some, None, IfSome, IsNearPlace, Rom, rom_word, cell_at, Holds, Format, Instr, Machine, Entry, Key, End, Rel, Abs, Lost, LitBox, Empty, LitExtent, Shape, Item, AreAll, Stand, LeadsTo, Context, Known, shape_context, target, callee_at, scale_set, unwrap_or, known_before, place_before, HoldsAll, absolute_corners, absolute_points, IsLeast, get_or_default, IsInside, InBox, Point, all_append, all_right, all_map, in_wider, IsJoined, HoldsShape, HoldsShapes, same_lead, ADDRESS_END, IsSomeCertificate, listed_claim, append_assoc, pos, suc, zero, next_further, next_near, next_address, ITEM_REACH, IsSoundCursor, ℤ, ◌+ℤ◌, Cursor, first_cursor, Seen, seen_with}
 use Rattle.dvg_items.specs.declared.known.Effect.{Effect}
 use Rattle.dvg_items.specs.declared.known.Effect.TheVariants.{Sets, Loses, Moves}
-use Rattle.dvg_words.specs.Values.{DrawFields}
 use Rattle.dvg_words.specs.Decoding.{InstrFits}
-use Rattle.dvg_words.specs.declared.instruction.Instr.TheVariants.{Draw as Draws}
-use Rattle.dvg_cert.specs.declared.entry.Key.TheVariants.{At, Any}
-use Rattle.dvg_items.specs.Known.{draw_effect, effect_of, known_past, place_past}
+use Rattle.dvg_items.specs.Known.{effect_of, known_past, place_past}
 use Rattle.dvg_items.proofs.Reached.{place_more}
 use Rattle.dvg_items.specs.Lit.{extent_of}
 use Rattle.dvg_survey.specs.Calls.{IsShapesExtent}
-use Rattle.dvg_survey.specs.Private.Extents.{ArePlacesAlike, GoesOn, IsAlike, IsNotAbsolute, IsOwnExtent, IsPassed, IsSoundKnown}
+use Rattle.dvg_survey.specs.Private.Extents.{ArePlacesAlike, GoesOn, IsAlike, IsNotAbsolute, IsOwnExtent, IsPassed, IsPlaceSet, IsSoundKnown}
 use Rattle.dvg_survey.proofs.AllItems.{stand_before, one_all}
 
 -- what one box has, a wider one has
@@ -48,11 +45,6 @@ alike_start (Rel x y) h = tt
 alike_start (Abs x y) h = elim h [ ]
 alike_start Lost h = tt
 
-both_elsewhere : (a b : End) → IsNotAbsolute a → IsNotAbsolute b → ArePlacesAlike a b
-both_elsewhere (Rel x y) b h k = k
-both_elsewhere (Abs x y) b h k = elim h [ ]
-both_elsewhere Lost b h k = k
-
 elsewhere_too : (a b : End) → ArePlacesAlike a b → IsNotAbsolute b → IsNotAbsolute a
 elsewhere_too (Rel x y) b h k = tt
 elsewhere_too (Abs x y) (Rel u v) h k = elim h [ ]
@@ -60,13 +52,20 @@ elsewhere_too (Abs x y) (Abs u v) h k = elim k [ ]
 elsewhere_too (Abs x y) Lost h k = elim h [ ]
 elsewhere_too Lost b h k = tt
 
--- a draw leads to no absolute place from another one, and lights nothing at one
-drawn_elsewhere : (machine : Machine) (d : DrawFields) (scale : Key) (place : End) → IsNotAbsolute place
-    → IsNotAbsolute (place_past (draw_effect machine d scale) place)
-drawn_elsewhere machine d (At gscale) (Rel x y) h = tt
-drawn_elsewhere machine d (At gscale) (Abs x y) h = elim h [ ]
-drawn_elsewhere machine d (At gscale) Lost h = tt
-drawn_elsewhere machine d Any place h = tt
+-- past a place that is not absolute is the one that is set, or none that is absolute
+set_past : (effect : Effect) (place here : End) (set : Option End) → IsPlaceSet effect set → IsNotAbsolute place → IsNotAbsolute here
+    → ArePlacesAlike (place_past effect place) (unwrap_or set here)
+set_past (Sets p) place here set h k l =
+    subst (λ (o : Option End). ArePlacesAlike (Abs p.x p.y) (unwrap_or o here)) (sym h) (refl, refl)
+set_past Loses place here set h k l = subst (λ (o : Option End). ArePlacesAlike Lost (unwrap_or o here)) (sym h) l
+set_past (Moves d) (Rel x y) here set h k l =
+    subst (λ (o : Option End). ArePlacesAlike (place_past (Moves d) (Rel x y)) (unwrap_or o here)) (sym h) l
+set_past (Moves d) (Abs x y) here set h k l = elim k [ ]
+set_past (Moves d) Lost here set h k l = subst (λ (o : Option End). ArePlacesAlike Lost (unwrap_or o here)) (sym h) l
+
+pub near_set : (n : ℕ) (place : End) (set : Option End) → IfSome set (IsNearPlace 1) → IsNearPlace n place → IsNearPlace (n + 1) (unwrap_or set place)
+near_set n place None h k = place_more ITEM_REACH n (n + 1) place (omega arith) k
+near_set n place (Some set) h k = place_more ITEM_REACH 1 (n + 1) set (omega arith) h
 
 no_corners : (lit : LitExtent) (place : End) → IsNotAbsolute place → absolute_corners lit place ≡ []
 no_corners lit (Rel x y) h = refl
@@ -124,30 +123,39 @@ module _ (machine : Machine) (list : List Entry) where
         alike_corners (extent_of machine i.instr known.scale (named i known.scale)) known.place other.place h.place
         ∙ ap (λ (k : Key). absolute_corners (extent_of machine i.instr k (named i k)) other.place) h.scale
 
-  -- past an item that is seen, or past a draw that is passed over
-  module _ (i : Item) (old new : LitBox) (known here : Known) (alike : IsAlike known here) where
-    pub passed_seen : (v : Seen) → v ≡ seen_past i here
+  -- past an item that is seen, or that is passed at a place that is not absolute
+  module _ (i : Item) (known here : Known) (alike : IsAlike known here) where
+    pub passed_seen : (old new : LitBox) (v : Seen) → v ≡ seen_past i here
         → ((ps : List Point) → IsLeast ps old → IsLeast (absolute_corners v.extent v.place ++ ps) new)
         → IsPassed (seen_past i known) old new v.after
-    passed_seen v is grows =
+    passed_seen old new v is grows =
         record {
           alike = subst (λ (x : Seen). IsAlike (past i known) x.after) (sym is) (alike_on i known here alike);
           lit = λ ps h. subst (λ (x : List Point). IsLeast (x ++ ps) new)
               (ap (λ (x : Seen). absolute_corners x.extent x.place) is ∙ sym (lit_alike i known here alike)) (grows ps h);
         }
 
-    pub passed_over : (d : DrawFields) → i.instr ≡ Draws d → IsNotAbsolute here.place → IsPassed (seen_past i known) old old here
-    passed_over d draws other =
-        let elsewhere = elsewhere_too known.place here.place alike.place other in
-        record {
-          alike = record {
-            scale = ap (λ (x : Instr). unwrap_or (scale_set x (named i known.scale)) known.scale) draws ∙ alike.scale;
-            place = both_elsewhere (past i known).place here.place
-                (subst (λ (x : Instr). IsNotAbsolute (place_past (effect_of machine x known.scale (named i known.scale)) known.place))
-                (sym draws) (drawn_elsewhere machine d known.scale known.place elsewhere)) other;
-          };
-          lit = λ ps h. subst (λ (x : List Point). IsLeast (x ++ ps) old) (sym (no_corners (seen_past i known).extent known.place elsewhere)) h;
-        }
+    module _ (other : IsNotAbsolute here.place) where
+      elsewhere : IsNotAbsolute known.place
+      elsewhere = elsewhere_too known.place here.place alike.place other
+
+      pub passed_dark : (lit : LitBox) (after : Known) → IsAlike (past i known) after → IsPassed (seen_past i known) lit lit after
+      passed_dark lit after h =
+          record {
+            alike = h;
+            lit = λ ps k. subst (λ (x : List Point). IsLeast (x ++ ps) lit)
+                (sym (no_corners (seen_past i known).extent known.place elsewhere)) k;
+          }
+
+      pub set_alike : (set : Option End) → IsPlaceSet (effect_of machine i.instr here.scale (named i here.scale)) set
+          → (after : Known) → after.place ≡ unwrap_or set here.place → after.scale ≡ (past i here).scale → IsAlike (past i known) after
+      set_alike set is after place scale =
+          record {
+            scale = (alike_on i known here alike).scale ∙ sym scale;
+            place = subst (ArePlacesAlike (past i known).place) (sym place)
+                (set_past (effect_of machine i.instr known.scale (named i known.scale)) known.place here.place set
+                (subst (λ (k : Key). IsPlaceSet (effect_of machine i.instr k (named i k)) set) (sym alike.scale) is) elsewhere other);
+          }
 
 module _ (rom : Rom) (list : List Entry) where
   abbrev of : Entry → Context

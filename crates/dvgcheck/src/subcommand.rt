@@ -13,7 +13,7 @@ use clap::{Arg, Command, value_parser};
 use std::alloc::{AllocError, Global};
 
 /// What `--version` says behind the program's name: its version, and the logic with which it is proved.
-const VERSION: &str = "2.0.2\nproved with logic dac8208d650f15bf";
+const VERSION: &str = "2.0.3\nproved with logic dac8208d650f15bf";
 
 /// What is asked for.
 #[derive(Clone, Copy)]

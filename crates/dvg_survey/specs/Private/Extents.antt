@@ -1,5 +1,5 @@
 -- What an entry's shape lights at absolute places, up to where another entry's shape goes on.
-use Rattle.std.specs.Prelude.{◌≡◌, ◌<◌, ◌≤◌, ◌⊎◌, ◌++◌, ℕ, List, Contains}
+use Rattle.std.specs.Prelude.{◌≡◌, ◌<◌, ◌≤◌, ◌⊎◌, ◌++◌, ℕ, List, Contains, Option, None, Some}
 use Rattle.dvg_words.specs.Memory.{Rom, rom_word}
 use Rattle.dvg_words.specs.declared.beam.Point.{Point}
 use Rattle.dvg_cert.specs.Entry.{IsKey}
@@ -13,6 +13,8 @@ use Rattle.dvg_items.specs.Items.{LeadsTo}
 use Rattle.dvg_items.specs.Bounds.{IsFewWords, IsNearPlace}
 use Rattle.dvg_items.specs.Known.{place_before, scale_before, shape_context}
 use Rattle.dvg_items.specs.declared.known.Known.{Known}
+use Rattle.dvg_items.specs.declared.known.Effect.{Effect}
+use Rattle.dvg_items.specs.declared.known.Effect.TheVariants.{Sets}
 use Rattle.dvg_items.specs.Least.{IsLeast, absolute_points}
 use Rattle.dvg_items.specs.Lit.{absolute_corners}
 use Rattle.dvg_items.specs.declared.seen.Seen.{Seen}
@@ -47,6 +49,11 @@ ArePlacesAlike (Abs x y) (Rel u v) = ⊥
 ArePlacesAlike (Abs x y) Lost = ⊥
 ArePlacesAlike (Rel x y) place = IsNotAbsolute place
 ArePlacesAlike Lost place = IsNotAbsolute place
+
+-- the absolute place that an effect sets; none if it sets none
+abbrev pub IsPlaceSet : Effect → Option End → Type 0
+IsPlaceSet (Sets p) place = place ≡ Some (Abs p.x p.y)
+IsPlaceSet effect place = place ≡ None
 
 -- the scale is the same, and the place is alike
 pub record IsAlike (known other : Known) : Type 0 where

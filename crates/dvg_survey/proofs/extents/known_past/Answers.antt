@@ -1,15 +1,26 @@
-use Rattle.dvg_survey.proofs.Common.{ℕ, ap, sym, ◌∙◌, Shape, callee_at, seen_with, target}
-use Rattle.dvg_survey.proofs.OwnExtents.{passed_seen, sound_later}
+use Rattle.dvg_survey.proofs.Common.{◌+◌, sym, subst, IsNearPlace}
+use Rattle.dvg_survey.proofs.OwnExtents.{near_set, set_alike, sound_later}
 use Rattle.dvg_survey.proofs.extents.known_past.Goals as goal
 
-pub returns-in-Draw-Rel-clause-sound : goal.returns-in-Draw-Rel-clause-sound
-returns-in-Draw-Rel-clause-sound g c = sound_later c.args.here.now c.requires.here
+pub returns-clause-alike : goal.returns-clause-alike
+returns-clause-alike g c known alike =
+    set_alike c.args.machine (g.E.Entries.list c.args.entries.now) c.args.item.now known c.args.here.now.known alike c.requires.place
+    c.place_set.result
+    (rw (c.callee-called.ensures.value, c.target.ensures) at (c.place_set.ensures.place c.args.here.now.known.scale)) (record {
+      place = c.unwrap_or.result;
+      scale = c.scale_past.result;
+      words = c.args.here.now.known.words;
+      depth = c.args.here.now.known.depth;
+    }) c.unwrap_or.ensures (rw (c.callee-called.ensures.value, c.target.ensures) at c.scale_past.ensures.value)
 
-pub returns-in_default-clause-passed : goal.returns-in_default-clause-passed
-returns-in_default-clause-passed g c known alike =
-    let list = g.E.Entries.list c.args.entries.now in
+pub returns-clause-sound : goal.returns-clause-sound
+returns-clause-sound g c =
     let here = c.args.here.now in
-    let i = c.args.item.now in
-    passed_seen c.args.machine list i c.args.lit.now _ known here.known alike c.see_by-seen.result
-    (c.see_by-seen.ensures.value ∙ ap (λ (p : ℕ). seen_with c.args.machine (callee_at list (target Shape i.instr) here.known.scale) here.known
-    (record { at = p; format = i.format; instr = i.instr })) (sym c.requires.item.0)) c.lit_with.ensures
+    let later = sound_later here c.requires.here in
+    record {
+      place = subst (IsNearPlace (here.at + 1)) (sym c.unwrap_or.ensures)
+          (near_set here.at here.known.place c.place_set.result c.place_set.ensures.near c.requires.here.place);
+      scale = c.scale_past.ensures.key;
+      words = later.words;
+      depth = later.depth;
+    }
