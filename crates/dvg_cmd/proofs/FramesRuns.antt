@@ -1,5 +1,5 @@
 -- What a run of the maker for frames answers, over plain values.
-use Rattle.dvg_cmd.proofs.Common.{true, ◌++◌, count_after, FailedAfter, blames_frames_rom, ComparesFor, IsPrefix, ◌≡◌, ◌<◌, ℕ, List, [], ◌∷◌, length, Option, None, Some, refl, ap, ◌∙◌, subst, arith, Result, IfErr, Machine, Appends, AppendsPrefix, WritesMade, Rom, IsRomLength, rom_on, words_of, MemoryMap, IsMap, Window, Key, of_each, AreFrames, MakesForFrames, FramesFaultMeans, ArePrefixes, rules, common_steps, IsErrAnd, text_of, WritesMadePrefix, Entry, AreAllPlaces, FramesMade, FramesRefuse, HasCause, EntryFault, told_fault, RefusesInputs, RefusesMemory, FramesRunFault, AreRead, AreInputImages, RefusesLengths, make_fault_of, MakeRunFault, Makes, MakeFaultMeans}
+use Rattle.dvg_cmd.proofs.Common.{true, ◌++◌, count_after, FailedAfter, blames_frames_rom, ComparesFor, IsPrefix, ◌≡◌, ◌<◌, ℕ, List, [], ◌∷◌, length, Option, None, Some, refl, ap, ◌∙◌, subst, arith, Result, IfErr, Machine, Appends, AppendsPrefix, WritesMade, Rom, IsRomLength, rom_on, words_of, MemoryMap, IsMap, Window, Key, of_each, AreFrames, MakesForFrames, FramesFaultMeans, ArePrefixes, rules, common_steps, IsErrAnd, text_of, WritesMadePrefix, Entry, AreAllPlaces, FramesMade, FramesRefuse, HasCause, EntryFault, told_fault, RefusesInputs, RefusesMemory, MakeRunFault, AreRead, AreInputImages, RefusesLengths, make_fault_of, MakeRunFault, Makes, MakeFaultMeans}
 use Rattle.dvg_survey.specs.declared.places.EntryPlaces.{EntryPlaces}
 use Rattle.dvg_make.specs.declared.fault.FrameCall.{FrameCall}
 use Rattle.dvg_make.specs.declared.fault.FramesFault.{FramesFault}
@@ -11,12 +11,11 @@ use Rattle.dvg_cmd.proofs.SeveralFrames.{held_each, each_held, each_same, first_
 use Rattle.dvg_make.proofs.Collecting.{as_make_fault}
 use Rattle.dvg_make.proofs.Finishing.{made_roots}
 use Rattle.dvg_make.specs.declared.fault.EntryFault.TheVariants as entry
-use Rattle.dvg_spelling.specs.declared.fault.MakeRunFault.TheVariants as maker
-use Rattle.dvg_spelling.specs.declared.fault.FramesRunFault.TheVariants as fault
+use Rattle.dvg_spelling.specs.declared.fault.MakeRunFault.TheVariants as fault
 use Rattle.dvg_make.specs.declared.fault.MakeFault.TheVariants as making
 
 -- what holds of the fault that is told holds of the answer
-pub told_err : {A : Type 0} (r : Result A FramesRunFault) (f : FramesRunFault) (P : FramesRunFault → Type 0) → IsErrAnd r (λ x. x ≡ f)
+pub told_err : {A : Type 0} (r : Result A MakeRunFault) (f : MakeRunFault) (P : MakeRunFault → Type 0) → IsErrAnd r (λ x. x ≡ f)
     → P f → IfErr r P
 told_err r f P is h = grind (arith)
 
@@ -47,7 +46,7 @@ module _ {rom : Option (List ℕ)} {readers : List (Option (List ℕ))} {rb : Li
         words_are = same ∙ ap (λ l. of_each words_of l) whole;
       }
 
-  pub lengths_refused : (roots : List (ℕ × Key)) (f : FramesRunFault) → RefusesLengths frames f
+  pub lengths_refused : (roots : List (ℕ × Key)) (f : MakeRunFault) → RefusesLengths frames f
       → FramesFaultMeans machine rom map roots readers f
   lengths_refused roots f wrong =
       grind (
@@ -118,8 +117,8 @@ module _ {rb : List ℕ} {fb : List (List ℕ)} {machine : Machine} {map : Memor
         told_at f.call f.why (given.all, on_all (λ x ws. FramesRefuse x roots ws f) refuses, on_all (λ x ws. HasCause x roots ws f) told)
 
 -- which ROM's reader failed
-pub rom_failed : {A : Type 0} (r : Result A FramesRunFault) (f : FramesRunFault) → IsErrAnd r (λ x. x ≡ f)
-    → f ≡ fault.Plain maker.ReadRom → (olds news after : List ℕ) → news ≡ olds
+pub rom_failed : {A : Type 0} (r : Result A MakeRunFault) (f : MakeRunFault) → IsErrAnd r (λ x. x ≡ f)
+    → f ≡ fault.ReadRom → (olds news after : List ℕ) → news ≡ olds
     → (old new : ℕ) → new ≡ count_after true old → FailedAfter (blames_frames_rom r) (olds ++ old ∷ after) (news ++ new ∷ after)
 rom_failed r f e is olds news after same old new failed = grind (arith)
 
@@ -157,12 +156,17 @@ module _ (machine : Machine) (rom : Option (List ℕ)) (map : MemoryMap) (roots 
 
   -- and what is refused for no frames is refused for the roots
   roots_refused : (why : EntryFault) → RefusesInputs machine rom map roots [] (record { call = None; why = why })
-      → MakeFaultMeans machine rom map roots (maker.Make (make_fault_of why))
+      → MakeFaultMeans machine rom map roots (fault.Make (make_fault_of why))
   roots_refused why h = grind (arith, as_make_fault, rom_on, of_each, words_of)
 
-  pub roots_fault : (f : MakeRunFault) → FramesFaultMeans machine rom map roots [] (fault.Plain f) → MakeFaultMeans machine rom map roots f
-  roots_fault maker.RomLength h = h
-  roots_fault maker.ReadRom h = tt
-  roots_fault maker.Write h = tt
-  roots_fault (maker.Make making.Memory) h = roots_refused entry.Memory h
-  roots_fault (maker.Make f) h = subst (λ f. MakeFaultMeans machine rom map roots (maker.Make f)) h.1 (roots_refused h.0 h.2)
+  -- no frame is to blame
+  pub roots_fault : (f : MakeRunFault) → FramesFaultMeans machine rom map roots [] f → FailedAfter (blames_a_frame {A = Unit {0}} (Err f)) [] []
+      → MakeFaultMeans machine rom map roots f
+  roots_fault fault.RomLength h failed = h
+  roots_fault fault.ReadRom h failed = tt
+  roots_fault fault.Write h failed = tt
+  roots_fault (fault.Make making.Memory) h failed = roots_refused entry.Memory h
+  roots_fault (fault.Make f) h failed = subst (λ f. MakeFaultMeans machine rom map roots (fault.Make f)) h.1 (roots_refused h.0 h.2)
+  roots_fault (fault.FrameLength n) h failed = grind (arith)
+  roots_fault (fault.Call call why) h failed = grind (arith)
+  roots_fault fault.ReadFrame h failed = grind (arith)

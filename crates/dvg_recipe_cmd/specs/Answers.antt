@@ -9,15 +9,12 @@ use Rattle.dvg_recipe_text.specs.Faults.{text_number}
 use Rattle.dvg_recipe_text.specs.declared.fault.RecipeTextWhy.{RecipeTextWhy}
 use Rattle.dvg_recipe_text.specs.declared.fault.RecipeTextWhy.TheVariants as why
 use Rattle.dvg_spelling.specs.Report.{clocks_text, hex_address, shape_fault_text}
-use Rattle.dvg_spelling.specs.Status.{frames_exit_status}
-use Rattle.dvg_spelling.specs.declared.outcome.FrameOutcome.{FrameOutcome}
-use Rattle.dvg_spelling.specs.declared.outcome.FrameOutcome.TheVariants as outcome
+use Rattle.dvg_spelling.specs.declared.outcome.Outcome.{Outcome}
+use Rattle.dvg_spelling.specs.declared.outcome.Outcome.TheVariants as outcome
 use Rattle.dvg_recipe_cmd.specs.declared.answer.RecipeNo.{RecipeNo}
 use Rattle.dvg_recipe_cmd.specs.declared.answer.RecipeNo.TheVariants as no
 use Rattle.dvg_recipe_cmd.specs.declared.answer.RecipeAnswer.{RecipeAnswer}
 use Rattle.dvg_recipe_cmd.specs.declared.answer.RecipeAnswer.TheVariants as answer
-use Rattle.dvg_recipe_cmd.specs.declared.fault.RecipeRunFault.{RecipeRunFault}
-use Rattle.dvg_recipe_cmd.specs.declared.fault.RecipeRunFault.TheVariants as fault
 use Rattle.dvg_recipe_cmd.specs.declared.membership.Membership.{Membership}
 use Rattle.dvg_recipe_cmd.specs.declared.membership.Membership.TheVariants as member
 use Rattle.dvg_recipe_cmd.specs.declared.tally.BelongsTally.{BelongsTally}
@@ -68,31 +65,25 @@ abbrev pub recipe_line_text : RecipeAnswer → List ℕ
 recipe_line_text answer = codes ": " ++ recipe_answer_text answer ++ codes "\n"
 
 -- what the refusal of a text comes to
-abbrev pub text_outcome : RecipeTextWhy → FrameOutcome
+abbrev pub text_outcome : RecipeTextWhy → Outcome
 text_outcome why.Memory = outcome.NoMemory
 text_outcome w = outcome.Refused
 
 -- what a refusal comes to
-abbrev pub no_outcome : RecipeNo → FrameOutcome
+abbrev pub no_outcome : RecipeNo → Outcome
 no_outcome (no.Text f) = text_outcome f.why
 no_outcome (no.Make entry.Memory line) = outcome.NoMemory
 no_outcome no.NoMemory = outcome.NoMemory
 no_outcome n = outcome.Refused
 
 -- what the line of an answer comes to
-abbrev pub recipe_outcome : RecipeAnswer → FrameOutcome
+abbrev pub recipe_outcome : RecipeAnswer → Outcome
 recipe_outcome (answer.Judged (Ok y)) = outcome.Accepted
 recipe_outcome (answer.Judged (Err n)) = no_outcome n
 recipe_outcome (answer.Timed t) = outcome.Accepted
 recipe_outcome (answer.Slow line) = outcome.Refused
 recipe_outcome answer.NoMemory = outcome.NoMemory
 recipe_outcome answer.Unread = outcome.Unread
-
--- the exit status of a run over recipes, which ends with the worst outcome
-abbrev pub recipe_exit_status : Result FrameOutcome RecipeRunFault → ℕ
-recipe_exit_status (Ok worst) = frames_exit_status (Ok worst)
-recipe_exit_status (Err (fault.Plain f)) = frames_exit_status (Err f)
-recipe_exit_status (Err fault.ReadRecipe) = 3
 
 -- what is said of a frame behind its name
 abbrev pub membership_text : Membership → List ℕ
@@ -107,7 +98,7 @@ abbrev pub membership_line_text : Membership → List ℕ
 membership_line_text membership = membership_text membership ++ codes "\n"
 
 -- what the line comes to
-abbrev pub membership_outcome : Membership → FrameOutcome
+abbrev pub membership_outcome : Membership → Outcome
 membership_outcome member.Belongs = outcome.Accepted
 membership_outcome (member.Outside at) = outcome.Refused
 membership_outcome member.WrongLength = outcome.Refused

@@ -10,7 +10,7 @@ use dvg_clocks::ClockRange;
 use dvg_make::{EntryFault, MakeFault};
 use dvg_recipe::{RecipeYes, TimedRecipeYes};
 use dvg_recipe_text::{RecipeTextFault, RecipeTextWhy};
-use dvg_spelling::FrameOutcome;
+use dvg_spelling::Outcome;
 use itoa::Buffer;
 
 /// Why a recipe is not accepted, by the lines of its text.
@@ -70,16 +70,16 @@ impl RecipeNo {
 }
 
 /// What was reported by the line of a refusal.
-pub fn refusal_outcome_of(no: &RecipeNo) -> FrameOutcome
+pub fn refusal_outcome_of(no: &RecipeNo) -> Outcome
     ensures { result ≡ no_outcome no.now }
 {
     match no {
-        RecipeNo::Text(fault) if fault.why == RecipeTextWhy::Memory => FrameOutcome::NoMemory,
+        RecipeNo::Text(fault) if fault.why == RecipeTextWhy::Memory => Outcome::NoMemory,
         RecipeNo::Make {
             why: EntryFault::Memory,
             ..
-        } => FrameOutcome::NoMemory,
-        RecipeNo::NoMemory => FrameOutcome::NoMemory,
+        } => Outcome::NoMemory,
+        RecipeNo::NoMemory => Outcome::NoMemory,
         RecipeNo::Text(_)
         | RecipeNo::BudgetRange
         | RecipeNo::RomLength
@@ -87,20 +87,20 @@ pub fn refusal_outcome_of(no: &RecipeNo) -> FrameOutcome
         | RecipeNo::Make { .. }
         | RecipeNo::Stuck { .. }
         | RecipeNo::Shape(_)
-        | RecipeNo::Frame { .. } => FrameOutcome::Refused,
+        | RecipeNo::Frame { .. } => Outcome::Refused,
     }
 }
 
 /// What was reported by the line of an answer.
-pub fn recipe_outcome_of(answer: &RecipeAnswer) -> FrameOutcome
+pub fn recipe_outcome_of(answer: &RecipeAnswer) -> Outcome
     ensures { result ≡ recipe_outcome answer.now }
 {
     match answer {
-        RecipeAnswer::Judged(Ok(_)) | RecipeAnswer::Timed(_) => FrameOutcome::Accepted,
+        RecipeAnswer::Judged(Ok(_)) | RecipeAnswer::Timed(_) => Outcome::Accepted,
         RecipeAnswer::Judged(Err(no)) => refusal_outcome_of(no),
-        RecipeAnswer::Slow { .. } => FrameOutcome::Refused,
-        RecipeAnswer::NoMemory => FrameOutcome::NoMemory,
-        RecipeAnswer::Unread => FrameOutcome::Unread,
+        RecipeAnswer::Slow { .. } => Outcome::Refused,
+        RecipeAnswer::NoMemory => Outcome::NoMemory,
+        RecipeAnswer::Unread => Outcome::Unread,
     }
 }
 

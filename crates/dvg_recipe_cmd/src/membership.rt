@@ -4,7 +4,7 @@ ghost use Rattle.std.specs.Prelude.{◌≡◌};
 ghost use Rattle.dvg_recipe_cmd.specs.Answers.{membership_line_text, membership_outcome};
 
 use crate::line::Line;
-use dvg_spelling::FrameOutcome;
+use dvg_spelling::Outcome;
 
 /// What a line says of a frame.
 #[derive(Clone, Copy, Debug, PartialEq, Eq)]
@@ -22,14 +22,14 @@ pub enum Membership {
 }
 
 /// What was reported by the line of an answer.
-pub fn membership_outcome_of(membership: Membership) -> FrameOutcome
+pub fn membership_outcome_of(membership: Membership) -> Outcome
     ensures { result ≡ membership_outcome membership }
 {
     match membership {
-        Membership::Belongs => FrameOutcome::Accepted,
-        Membership::Outside { .. } | Membership::WrongLength => FrameOutcome::Refused,
-        Membership::NoMemory => FrameOutcome::NoMemory,
-        Membership::Unread => FrameOutcome::Unread,
+        Membership::Belongs => Outcome::Accepted,
+        Membership::Outside { .. } | Membership::WrongLength => Outcome::Refused,
+        Membership::NoMemory => Outcome::NoMemory,
+        Membership::Unread => Outcome::Unread,
     }
 }
 

@@ -1,10 +1,10 @@
 //! The report: the one line that is written for a verdict.
 
 ghost use Rattle.std.specs.Prelude.{◌≡◌, ◌+◌, ◌≤◌, ◌<◌, ◌++◌, [], length, codes, decimal};
-ghost use Rattle.dvg_spelling.specs.Messages.{fault_message, make_message, frames_message, make_line_text};
+ghost use Rattle.dvg_spelling.specs.Messages.{fault_message, make_message, make_line_text};
 ghost use Rattle.dvg_spelling.specs.Report.{report_text, accepted_text, refusal_text, entry_text, hex_word, hex_address, call_fault_text, frame_refusal_text, answer_text, clocks_text, frame_line_text};
 
-use crate::fault::{FramesRunFault, MakeRunFault, RunFault};
+use crate::fault::{MakeRunFault, RunFault};
 use crate::outcome::FrameAnswer;
 use crate::status::message_of;
 use arrayvec::ArrayVec;
@@ -159,14 +159,6 @@ pub fn report_of(verdict: &Result<Yes, Refusal>) -> Report
     report.ended()
 }
 
-/// The line on standard error of a run that made no certificate, with its LF: 64 bytes at most. Takes no memory.
-pub fn make_report_of(fault: &MakeRunFault) -> Report
-    ensures text { result ≡ make_message fault.now ++ codes "\n" }
-    ensures short { length result ≤ 64 }
-{
-    make_frames_report_of(&(*fault).into())
-}
-
 /// The line of an answer to a frame, from behind the frame's name on, with its LF: 96 bytes at most. Takes no memory.
 pub fn frame_report_of(answer: &FrameAnswer) -> Report
     ensures text { result ≡ frame_line_text answer.now }
@@ -178,28 +170,20 @@ pub fn frame_report_of(answer: &FrameAnswer) -> Report
     report.ended()
 }
 
-/// The line on standard error of a run of the maker for frames that made no certificate, with its LF: 64 bytes at most. Where
-/// the fault is a frame's, it is the line from behind the frame's name on. Takes no memory.
-pub fn make_frames_report_of(fault: &FramesRunFault) -> Report
-    ensures text { result ≡ frames_message fault.now ++ codes "\n" }
+/// The line on standard error of a run that made no certificate, with its LF: 64 bytes at most. Where the fault is a frame's, it is
+/// the line from behind the frame's name on. Takes no memory.
+pub fn make_report_of(fault: &MakeRunFault) -> Report
+    ensures text { result ≡ make_message fault.now ++ codes "\n" }
     ensures short { length result ≤ 64 }
 {
     let mut report = Report::new();
-    match fault {
-        FramesRunFault::Plain(fault) => push_make_fault(&mut report, fault),
-        FramesRunFault::FrameLength { .. } => report.push(b": refused 2"),
-        FramesRunFault::Call { call, why } => {
-            report.push(b": ");
-            push_call_fault(&mut report, call.at, *why);
-        }
-        FramesRunFault::ReadFrame => push_message(&mut report, &RunFault::ReadFrame),
-    }
+    push_make_fault(&mut report, fault);
     report.ended()
 }
 
 /// The line of a maker's answer, with its LF: how many entries it makes, or why it makes none. 64 bytes at most.
 /// Takes no memory.
-pub fn make_line_of(made: &Result<u32, FramesRunFault>) -> Report
+pub fn make_line_of(made: &Result<u32, MakeRunFault>) -> Report
     ensures text { result ≡ make_line_text made.now }
     ensures short { length result ≤ 64 }
 {
@@ -209,7 +193,7 @@ pub fn make_line_of(made: &Result<u32, FramesRunFault>) -> Report
             report.push_count(b"made entries=", *entries);
             report.ended()
         }
-        Err(fault) => make_frames_report_of(fault),
+        Err(fault) => make_report_of(fault),
     }
 }
 
@@ -220,13 +204,19 @@ fn push_make_fault(report: &mut Report, fault: &MakeRunFault)
 {
     match fault {
         MakeRunFault::RomLength => report.push(b"refused 1"),
+        MakeRunFault::FrameLength { .. } => report.push(b": refused 2"),
         MakeRunFault::Make(MakeFault::Unstraight { word }) => {
             report.push_address(b"refused 60 at ", *word)
         }
         MakeRunFault::Make(MakeFault::Deep) => report.push(b"refused 61"),
         MakeRunFault::Make(MakeFault::TooLarge) => report.push(b"refused 62"),
         MakeRunFault::Make(MakeFault::Memory) => push_message(report, &RunFault::Memory),
+        MakeRunFault::Call { call, why } => {
+            report.push(b": ");
+            push_call_fault(report, call.at, *why);
+        }
         MakeRunFault::ReadRom => push_message(report, &RunFault::ReadRom),
+        MakeRunFault::ReadFrame => push_message(report, &RunFault::ReadFrame),
         MakeRunFault::Write => push_message(report, &RunFault::Write),
     }
 }
