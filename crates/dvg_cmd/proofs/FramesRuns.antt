@@ -1,5 +1,5 @@
 -- What a run of the maker for frames answers, over plain values.
-use Rattle.dvg_cmd.proofs.Common.{true, ◌++◌, count_after, FailedAfter, blames_frames_rom, ComparesFor, IsPrefix, ◌≡◌, ◌<◌, ℕ, List, [], ◌∷◌, length, Option, None, Some, refl, ap, ◌∙◌, subst, arith, Result, IfErr, Machine, Appends, AppendsPrefix, WritesMade, Rom, IsRomLength, rom_on, words_of, MemoryMap, IsMap, Window, Key, of_each, AreFrames, MakesForFrames, FramesFaultMeans, ArePrefixes, rules, common_steps, IsErrAnd, text_of, WritesMadePrefix, Entry, AreAllPlaces, FramesMade, FramesRefuse, HasCause, EntryFault, told_fault, RefusesInputs, RefusesMemory, MakeRunFault, AreRead, AreInputImages, RefusesLengths, make_fault_of, MakeRunFault, Makes, MakeFaultMeans}
+use Rattle.dvg_cmd.proofs.Common.{Ok, Err, OnOk, blames_a_frame, EachHeld, FirstWrong, true, ◌++◌, count_after, FailedAfter, blames_frames_rom, ComparesFor, IsPrefix, ◌≡◌, ◌<◌, ℕ, List, [], ◌∷◌, length, Option, None, Some, refl, ap, ◌∙◌, subst, arith, Result, IfErr, Machine, Appends, AppendsPrefix, WritesMade, Rom, IsRomLength, rom_on, words_of, MemoryMap, IsMap, Window, Key, of_each, AreFrames, MakesForFrames, FramesFaultMeans, ArePrefixes, rules, common_steps, IsErrAnd, text_of, WritesMadePrefix, Entry, AreAllPlaces, FramesMade, FramesRefuse, HasCause, EntryFault, told_fault, RefusesInputs, RefusesMemory, MakeRunFault, AreRead, AreInputImages, RefusesLengths, make_fault_of, MakeRunFault, Makes, MakeFaultMeans}
 use Rattle.dvg_survey.specs.declared.places.EntryPlaces.{EntryPlaces}
 use Rattle.dvg_make.specs.declared.fault.FrameCall.{FrameCall}
 use Rattle.dvg_make.specs.declared.fault.FramesFault.{FramesFault}
@@ -146,9 +146,10 @@ module _ (machine : Machine) (rom : Option (List ℕ)) (map : MemoryMap) (roots 
             (subst (λ l. FramesMade (rom_on machine map all.rom_bytes) roots (of_each words_of l) list) none made.1),
       )
 
-  pub roots_written : (old new : Option (List ℕ)) → WritesMade (MakesForFrames machine rom map roots []) map old new
-      → WritesMade (Makes machine rom map roots) map old new
-  roots_written old new h = record { list = h.list; made = roots_made h.list h.made; written = h.written }
+  pub roots_written : (r : Result (Unit {0}) MakeRunFault) (old new : Option (List ℕ))
+      → OnOk r (WritesMade (MakesForFrames machine rom map roots []) map old new) → OnOk r (WritesMade (Makes machine rom map roots) map old new)
+  roots_written (Ok u) old new h = record { list = h.list; made = roots_made h.list h.made; written = h.written }
+  roots_written (Err f) old new h = tt
 
   pub roots_cut : (old new : Option (List ℕ)) → WritesMadePrefix (MakesForFrames machine rom map roots []) map old new
       → WritesMadePrefix (Makes machine rom map roots) map old new
@@ -160,13 +161,22 @@ module _ (machine : Machine) (rom : Option (List ℕ)) (map : MemoryMap) (roots 
   roots_refused why h = grind (arith, as_make_fault, rom_on, of_each, words_of)
 
   -- no frame is to blame
-  pub roots_fault : (f : MakeRunFault) → FramesFaultMeans machine rom map roots [] f → FailedAfter (blames_a_frame {A = Unit {0}} (Err f)) [] []
-      → MakeFaultMeans machine rom map roots f
-  roots_fault fault.RomLength h failed = h
-  roots_fault fault.ReadRom h failed = tt
-  roots_fault fault.Write h failed = tt
-  roots_fault (fault.Make making.Memory) h failed = roots_refused entry.Memory h
-  roots_fault (fault.Make f) h failed = subst (λ f. MakeFaultMeans machine rom map roots (fault.Make f)) h.1 (roots_refused h.0 h.2)
-  roots_fault (fault.FrameLength n) h failed = grind (arith)
-  roots_fault (fault.Call call why) h failed = grind (arith)
-  roots_fault fault.ReadFrame h failed = grind (arith)
+  none_wrong : (bytes : List (List ℕ)) (n : ℕ) → EachHeld [] bytes → FirstWrong bytes n → ⊥
+  none_wrong [] n held wrong = wrong
+  none_wrong (first ∷ rest) n held wrong = held
+
+  fault_of_roots : (f : MakeRunFault) → FramesFaultMeans machine rom map roots [] f
+      → FailedAfter (blames_a_frame {A = Unit {0}} (Err f)) [] [] → MakeFaultMeans machine rom map roots f
+  fault_of_roots fault.RomLength h failed = h
+  fault_of_roots fault.ReadRom h failed = tt
+  fault_of_roots fault.Write h failed = tt
+  fault_of_roots (fault.Make making.Memory) h failed = roots_refused entry.Memory h
+  fault_of_roots (fault.Make f) h failed = subst (λ f. MakeFaultMeans machine rom map roots (fault.Make f)) h.1 (roots_refused h.0 h.2)
+  fault_of_roots (fault.FrameLength n) h failed = none_wrong h.frame_bytes n h.frames_held h.wrong
+  fault_of_roots (fault.Call call why) h failed = grind (arith)
+  fault_of_roots fault.ReadFrame h failed = grind (arith)
+
+  pub roots_fault : (r : Result (Unit {0}) MakeRunFault) → IfErr r (FramesFaultMeans machine rom map roots [])
+      → FailedAfter (blames_a_frame r) [] [] → IfErr r (MakeFaultMeans machine rom map roots)
+  roots_fault (Ok u) h failed = tt
+  roots_fault (Err f) h failed = fault_of_roots f h failed

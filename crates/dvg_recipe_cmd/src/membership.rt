@@ -3,8 +3,7 @@
 ghost use Rattle.std.specs.Prelude.{◌≡◌};
 ghost use Rattle.dvg_recipe_cmd.specs.Answers.{membership_line_text, membership_outcome};
 
-use crate::line::Line;
-use dvg_spelling::Outcome;
+use dvg_spelling::{Outcome, Report};
 
 /// What a line says of a frame.
 #[derive(Clone, Copy, Debug, PartialEq, Eq)]
@@ -33,11 +32,11 @@ pub fn membership_outcome_of(membership: Membership) -> Outcome
     }
 }
 
-/// The line of an answer, from behind the frame's name on, with its LF: 128 bytes at most. Takes no memory.
-pub fn membership_line_of(membership: Membership) -> Line
+/// The line of an answer, from behind the frame's name on, with its LF: 96 bytes at most. Takes no memory.
+pub fn membership_line_of(membership: Membership) -> Report
     ensures { result ≡ membership_line_text membership }
 {
-    let mut line = Line::new();
+    let mut line = Report::new();
     match membership {
         Membership::Belongs => line.push(b": belongs"),
         Membership::Outside { at } => line.push_address(b": outside at ", at),

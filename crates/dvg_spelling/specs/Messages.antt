@@ -5,7 +5,8 @@ use Rattle.dvg_spelling.specs.declared.fault.RunFault.{RunFault}
 use Rattle.dvg_spelling.specs.declared.fault.RunFault.TheVariants.{ReadRom, ReadFrame, ReadRecipe, ReadCert, Write, Memory}
 use Rattle.dvg_spelling.specs.declared.fault.MakeRunFault.{MakeRunFault}
 use Rattle.dvg_spelling.specs.declared.fault.MakeRunFault.TheVariants as maker
-use Rattle.dvg_spelling.specs.Report.{hex_address, call_fault_text}
+use Rattle.dvg_spelling.specs.Report.{hex_address, unmade_text}
+use Rattle.dvg_spelling.specs.declared.report.Caller.TheVariants.{Frame}
 
 -- the line on standard error, without its LF
 abbrev pub fault_message : RunFault → List ℕ
@@ -25,7 +26,7 @@ make_message (maker.Make (making.Unstraight word)) = codes "refused 60 at " ++ h
 make_message (maker.Make making.Deep) = codes "refused 61"
 make_message (maker.Make making.TooLarge) = codes "refused 62"
 make_message (maker.Make making.Memory) = fault_message Memory
-make_message (maker.Call call why) = codes ": " ++ call_fault_text call.at why
+make_message (maker.Call call why) = codes ": " ++ unmade_text why (Frame call.at)
 make_message maker.ReadRom = fault_message ReadRom
 make_message maker.ReadFrame = fault_message ReadFrame
 make_message maker.Write = fault_message Write

@@ -1,6 +1,6 @@
 //! Why there are no frames, or none any more, where a list names them or files have them one behind another.
 
-use crate::input::InputFault;
+use crate::input::is_no_memory;
 use dvg_cmd::{Outcome, status_of};
 use std::alloc::AllocError;
 use std::io;
@@ -41,9 +41,10 @@ impl FramesFault {
 
 impl From<io::Error> for FramesFault {
     fn from(error: io::Error) -> FramesFault {
-        match InputFault::from(error) {
-            InputFault::Unreadable => FramesFault::UnreadableList,
-            InputFault::OutOfMemory => FramesFault::OutOfMemory,
+        if is_no_memory(&error) {
+            FramesFault::OutOfMemory
+        } else {
+            FramesFault::UnreadableList
         }
     }
 }

@@ -35,7 +35,7 @@ use dvg_cmd::{
     write_make_answer, write_make_fault, write_message, write_text,
 };
 use frames_fault::FramesFault;
-use input::{Input, Source};
+use input::{Input, Source, is_no_memory};
 use list::List;
 use output::Output;
 use recipes::{run_belonging, run_print_of, run_recipe};
@@ -364,7 +364,7 @@ fn make_file(
 
 /// The fault of a file that could not be written.
 fn unwritten(error: &io::Error) -> MakeRunFault {
-    if error.kind() == io::ErrorKind::OutOfMemory {
+    if is_no_memory(error) {
         MakeRunFault::Make(MakeFault::Memory)
     } else {
         MakeRunFault::Write

@@ -3,7 +3,7 @@
 ghost use Rattle.std.specs.Iterator.{IsFinite};
 
 use crate::command::{FrameNames, Named};
-use crate::input::{Input, Source};
+use crate::input::{Source, is_no_memory};
 use crate::list::List;
 use crate::output::Output;
 use crate::recipe_arguments::{BelongsArgs, BelongsAsked, RecipeArgs};
@@ -91,7 +91,7 @@ fn judge_for_witness(
 
 /// The fault of a file that could not be written.
 fn unwritten(error: &io::Error) -> RunFault {
-    if error.kind() == io::ErrorKind::OutOfMemory {
+    if is_no_memory(error) {
         RunFault::Memory
     } else {
         RunFault::Write
