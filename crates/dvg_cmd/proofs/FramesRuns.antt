@@ -1,5 +1,5 @@
 -- What a run of the maker for frames answers, over plain values.
-use Rattle.dvg_cmd.proofs.Common.{Ok, Err, OnOk, blames_a_frame, EachHeld, FirstWrong, true, ◌++◌, count_after, FailedAfter, blames_frames_rom, ComparesFor, IsPrefix, ◌≡◌, ◌<◌, ℕ, List, [], ◌∷◌, length, Option, None, Some, refl, ap, ◌∙◌, subst, arith, Result, IfErr, Machine, Appends, AppendsPrefix, WritesMade, Rom, IsRomLength, rom_on, words_of, MemoryMap, IsMap, Window, Key, of_each, AreFrames, MakesForFrames, FramesFaultMeans, ArePrefixes, rules, common_steps, IsErrAnd, text_of, WritesMadePrefix, Entry, AreAllPlaces, FramesMade, FramesRefuse, HasCause, EntryFault, told_fault, RefusesInputs, RefusesMemory, MakeRunFault, AreRead, AreInputImages, RefusesLengths, make_fault_of, MakeRunFault, Makes, MakeFaultMeans}
+use Rattle.dvg_cmd.proofs.Common.{Ok, Err, OnOk, blames_a_frame, EachHeld, FirstWrong, true, ◌++◌, count_after, FailedAfter, blames_frames_rom, ComparesFor, IsPrefix, ◌≡◌, ◌<◌, ℕ, List, [], ◌∷◌, length, Option, None, Some, refl, ap, ◌∙◌, subst, arith, Result, IfErr, Machine, Appends, AppendsPrefix, WritesMade, Rom, IsRomLength, rom_on, words_of, MemoryMap, IsMap, Window, Key, of_each, AreFrames, MakesForFrames, FramesFaultMeans, ArePrefixes, rules, common_steps, IsErrAnd, text_of, WritesMadePrefix, Entry, AreAllPlaces, FramesMade, FramesRefuse, HasCause, EntryFault, told_fault, RefusesInputs, RefusesMemory, MakeRunFault, AreRead, AreInputImages, RefusesLengths, make_fault_of, Makes, MakeFaultMeans}
 use Rattle.dvg_survey.specs.declared.places.EntryPlaces.{EntryPlaces}
 use Rattle.dvg_make.specs.declared.fault.FrameCall.{FrameCall}
 use Rattle.dvg_make.specs.declared.fault.FramesFault.{FramesFault}

@@ -1,5 +1,5 @@
 -- What lines say of recipes, and of frames that may be theirs. All of it is this project's own.
-use Rattle.std.specs.Prelude.{ℕ, true, List, ◌++◌, codes, decimal, Result, Ok, Err}
+use Rattle.std.specs.Prelude.{ℕ, true, List, ◌++◌, codes, decimal, Ok, Err}
 use Rattle.dvg_text.specs.Devices.{count_after}
 use Rattle.dvg_check.specs.FirstFault.{frame_number}
 use Rattle.dvg_make.specs.declared.fault.EntryFault.TheVariants as entry

@@ -1,7 +1,6 @@
 //! Counts the lines of frames by what they say of a recipe, and spells the line with these counts.
 
-ghost use Rattle.std.specs.Prelude.{◌≡◌, ◌∷◌, [], true};
-ghost use Rattle.dvg_text.specs.Devices.{count_after};
+ghost use Rattle.std.specs.Prelude.{◌≡◌, ◌∷◌, []};
 ghost use Rattle.dvg_recipe_cmd.specs.Answers.{belongs_summary_text, with_membership};
 
 use crate::membership::Membership;
