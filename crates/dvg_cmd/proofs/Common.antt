@@ -21,7 +21,7 @@ pub use Rattle.dvg_cmd.specs.Runs.{IsReadTo, RunFault, MOST_FRAME_READ, ReadsTex
 pub use Rattle.dvg_cmd.specs.Sent.{joined, TakeOneWriteEach, Sent}
 pub use Rattle.dvg_cmd.specs.Frames.{FrameAnswer, Judged, Judging, ReadsFrame, AnswersFrame, frame_outcome_of, IsReadFrom, VerdictOnBytes, IsRefused, IsJudgedRefusal, worse}
 pub use Rattle.dvg_cmd.specs.Private.Reading.{IsPrefix, ArePrefixes, RefusesLengths, taken_length}
-pub use Rattle.dvg_cmd.specs.Detail.{Detail, Behind, IsBehind, behind_text, frame_outcome_behind, outcome_behind}
+pub use Rattle.dvg_cmd.specs.Detail.{Detail, Behind, IsBehind, behind_text, outcome_behind}
 pub use Rattle.dvg_cmd.specs.Remarking.{FrameDetail}
 pub use Rattle.dvg_words.specs.declared.machine.Machine.{Machine}
 pub use Rattle.dvg_check.specs.Verdict.{InRange, RomVerdict, RangeRefusal, PartsVerdict}
