@@ -1,6 +1,6 @@
 -- Runs of the maker, over values that stand for those of C's arguments.
 use Rattle.dvg_c.proofs.Common.{◌≡◌, ◌≤◌, ℕ, List, [], ◌∷◌, Option, Result, Err, refl, ap, Machine, MemoryMap, IsMap, Key, of_each, WritesMade, MakesForFrames, FramesFaultMeans, machine_of, MakeVerdict, RunVerdict}
-use Rattle.dvg_spelling.specs.declared.fault.FramesRunFault.{FramesRunFault}
+use Rattle.dvg_spelling.specs.declared.fault.MakeRunFault.{MakeRunFault}
 use Rattle.dvg_c.specs.declared.machine.TheConstants.{BOARD}
 use Rattle.dvg_c.specs.declared.make.Unmade.{Unmade}
 use Rattle.dvg_c.specs.declared.make.Unmade.TheVariants as unmade
@@ -19,7 +19,7 @@ module _ (machine : Machine) (map : MemoryMap) {rom rom2 : Option (List ℕ)} {r
   written_as old_is new_is h =
       coe 0 1 (i. WritesMade (MakesForFrames machine (rom_is i) map (roots_are i) (frames_are i)) map (old_is i) (new_is i)) h
 
-  pub refused_as : (f : FramesRunFault) → FramesFaultMeans machine rom map roots frames f
+  pub refused_as : (f : MakeRunFault) → FramesFaultMeans machine rom map roots frames f
       → FramesFaultMeans machine rom2 map roots2 frames2 f
   refused_as f h = coe 0 1 (i. FramesFaultMeans machine (rom_is i) map (roots_are i) (frames_are i) f) h
 

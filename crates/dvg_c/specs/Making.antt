@@ -7,10 +7,9 @@ use Rattle.dvg_cert.specs.declared.entry.Key.{Key}
 use Rattle.dvg_cert.specs.declared.entry.Key.TheVariants.{At, Any}
 use Rattle.dvg_make.specs.declared.fault.MakeFault.TheVariants as make
 use Rattle.dvg_spelling.specs.Each.{of_each}
-use Rattle.dvg_spelling.specs.Faults.{frames_run_number}
-use Rattle.dvg_spelling.specs.declared.fault.FramesRunFault.{FramesRunFault}
-use Rattle.dvg_spelling.specs.declared.fault.FramesRunFault.TheVariants as run
-use Rattle.dvg_spelling.specs.declared.fault.MakeRunFault.TheVariants as maker
+use Rattle.dvg_spelling.specs.Faults.{make_run_number}
+use Rattle.dvg_spelling.specs.declared.fault.MakeRunFault.{MakeRunFault}
+use Rattle.dvg_spelling.specs.declared.fault.MakeRunFault.TheVariants as run
 use Rattle.dvg_cmd.specs.Making.{WritesMade}
 use Rattle.dvg_cmd.specs.MakingFrames.{MakesForFrames, FramesFaultMeans}
 use Rattle.dvg_c.specs.declared.answer.Answer.{Answer}
@@ -61,18 +60,18 @@ MakeVerdict machine rom map roots bytes lengths answer =
 
 -- the number of the maker's run, with the place of its refusal: a frame's call, or none where it is a root's; all is read from
 -- memory and written into it, so that no reader fails, and a failed write is a want of it
-abbrev pub told_run : FramesRunFault → Answer
+abbrev pub told_run : MakeRunFault → Answer
 told_run (run.Call call why) = record (told_fault why) { call = call.at }
-told_run (run.Plain (maker.Make (make.Unstraight word))) = record (numbered 60) { word = word; call = NO_CALL }
-told_run (run.Plain (maker.Make make.Deep)) = record (numbered 61) { call = NO_CALL }
-told_run (run.Plain (maker.Make make.TooLarge)) = record (numbered 62) { call = NO_CALL }
-told_run (run.Plain maker.ReadRom) = numbered 63
+told_run (run.Make (make.Unstraight word)) = record (numbered 60) { word = word; call = NO_CALL }
+told_run (run.Make make.Deep) = record (numbered 61) { call = NO_CALL }
+told_run (run.Make make.TooLarge) = record (numbered 62) { call = NO_CALL }
+told_run run.ReadRom = numbered 63
 told_run run.ReadFrame = numbered 63
-told_run (run.Plain maker.Write) = numbered 63
-told_run f = numbered (frames_run_number f)
+told_run run.Write = numbered 63
+told_run f = numbered (make_run_number f)
 
 -- the frame that a refusal is about, counted from 0
-abbrev pub frame_of : FramesRunFault → ℕ
+abbrev pub frame_of : MakeRunFault → ℕ
 frame_of (run.Call call why) = call.frame
 frame_of (run.FrameLength n) = n
 frame_of f = 0

@@ -8,7 +8,7 @@ use crate::answer::{
     ANY_SCALE, Answer, BAD_LENGTHS, BAD_MACHINE, BAD_MAP, NO_CALL, numbered, unmade,
 };
 use crate::text::{TextAnswer, no_text};
-use dvg_cmd::{Counted, FramesRunFault, Key, MakeFault, MakeRunFault, run_make_frames};
+use dvg_cmd::{Counted, Key, MakeFault, MakeRunFault, run_make_frames};
 use dvg_words::{Machine, RomMap};
 use std::alloc::{AllocError, Global};
 
@@ -32,7 +32,7 @@ pub enum Unmade {
     /// There was no memory, other than the maker's.
     Memory,
     /// What the maker's run tells.
-    Run(FramesRunFault),
+    Run(MakeRunFault),
 }
 
 /// The address and the key of a root.
@@ -120,26 +120,27 @@ pub fn made_text(
 }
 
 /// The answer of a fault of the maker's run.
-fn run_answer(fault: &FramesRunFault) -> Answer
+fn run_answer(fault: &MakeRunFault) -> Answer
     ensures { result ≡ told_run fault.now }
 {
     let bare = numbered(fault.number());
     match fault {
-        FramesRunFault::Call { call, why } => Answer {
+        MakeRunFault::Call { call, why } => Answer {
             call: call.at,
             ..unmade(*why)
         },
-        FramesRunFault::Plain(MakeRunFault::Make(MakeFault::Unstraight { word })) => Answer {
+        MakeRunFault::Make(MakeFault::Unstraight { word }) => Answer {
             word: *word,
             call: NO_CALL,
             ..bare
         },
-        FramesRunFault::Plain(MakeRunFault::Make(MakeFault::Deep | MakeFault::TooLarge)) => Answer {
+        MakeRunFault::Make(MakeFault::Deep | MakeFault::TooLarge) => Answer {
             call: NO_CALL,
             ..bare
         },
-        FramesRunFault::Plain(MakeRunFault::ReadRom | MakeRunFault::Write)
-        | FramesRunFault::ReadFrame => numbered(MakeFault::Memory.number()),
+        MakeRunFault::ReadRom | MakeRunFault::ReadFrame | MakeRunFault::Write => {
+            numbered(MakeFault::Memory.number())
+        }
         _ => bare,
     }
 }

@@ -16,16 +16,16 @@ pub use Rattle.dvg_labels.proofs.Common.{take-append-drop, take_all}
 pub use Rattle.dvg_check.proofs.Common.{Memory}
 unfoldable pub use Rattle.dvg_survey.proofs.Common.{cell_at}
 unfoldable pub use Rattle.dvg_make.proofs.Common.{instruction_of}
-pub use Rattle.dvg_cmd.specs.MakingFrames.{FramesRunFault, FailedAfter, blames_frames_rom, of_each, AreFrames, MakesForFrames, FramesFaultMeans, RefusesInputs, RefusesMemory, EachHeld, EachRead, FirstWrong, OneFailed, blames_a_frame}
+pub use Rattle.dvg_cmd.specs.MakingFrames.{MakeRunFault, FailedAfter, blames_frames_rom, of_each, AreFrames, MakesForFrames, FramesFaultMeans, RefusesInputs, RefusesMemory, EachHeld, EachRead, FirstWrong, OneFailed, blames_a_frame}
 pub use Rattle.dvg_cmd.specs.Runs.{IsReadTo, RunFault, MOST_FRAME_READ, ReadsText, Judges, Outcome, Accepted, IsReadFor, outcome_of, WritesReport, Reports, ReportsAccepted, MeansRead, NeedsEnd, NoMemory}
 pub use Rattle.dvg_cmd.specs.Sent.{joined, TakeOneWriteEach, Sent}
-pub use Rattle.dvg_cmd.specs.Frames.{FrameAnswer, Judged, FrameOutcome, Judging, ReadsFrame, AnswersFrame, frame_outcome_of, IsReadFrom, VerdictOnBytes, IsRefused, IsJudgedRefusal, worse}
+pub use Rattle.dvg_cmd.specs.Frames.{FrameAnswer, Judged, Judging, ReadsFrame, AnswersFrame, frame_outcome_of, IsReadFrom, VerdictOnBytes, IsRefused, IsJudgedRefusal, worse}
 pub use Rattle.dvg_cmd.specs.Private.Reading.{IsPrefix, ArePrefixes, RefusesLengths, taken_length}
-pub use Rattle.dvg_cmd.specs.Detail.{Detail, Behind, IsBehind, behind_text, frame_outcome_behind, outcome_behind}
+pub use Rattle.dvg_cmd.specs.Detail.{Detail, Behind, IsBehind, behind_text, outcome_behind}
 pub use Rattle.dvg_cmd.specs.Remarking.{FrameDetail}
 pub use Rattle.dvg_words.specs.declared.machine.Machine.{Machine}
 pub use Rattle.dvg_check.specs.Verdict.{InRange, RomVerdict, RangeRefusal, PartsVerdict}
-pub use Rattle.dvg_cmd.specs.Making.{WritesMade, WritesMadePrefix, MakeFaultMeans, MakeRunFault, Makes}
+pub use Rattle.dvg_cmd.specs.Making.{WritesMade, WritesMadePrefix, MakeFaultMeans, Makes}
 pub use Rattle.dvg_cmd.specs.Names.{MOST_NAME_READ, Lacks, ReadsName, end_byte}
 pub use Rattle.dvg_cmd.specs.Comparing.{ComparesFor, reaching_lines, ComparisonFaultMeans, comparison_lines}
 pub use Rattle.dvg_check.specs.declared.verdict.Yes.{Yes}
@@ -37,7 +37,7 @@ pub use Rattle.dvg_cert.specs.declared.fault.CertFault.{CertFault}
 pub use Rattle.dvg_check.specs.declared.fault.Mode.{Mode}
 pub use Rattle.dvg_check.specs.declared.verdict.Refusal.{Refusal}
 pub use Rattle.dvg_text.specs.Laws.{ShortText, PrefixRefusal}
-pub use Rattle.dvg_spelling.specs.Faults.{told_fault, frames_run_number}
+pub use Rattle.dvg_spelling.specs.Faults.{told_fault, make_run_number}
 pub use Rattle.dvg_cmd.specs.Private.Judging.{AreImages, JudgesRom}
 pub use Rattle.dvg_cert.specs.declared.fault.CertWhy.{CertWhy}
 pub use Rattle.dvg_cert.specs.declared.entry.Entry.{Entry}

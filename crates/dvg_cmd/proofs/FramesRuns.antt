@@ -1,5 +1,5 @@
 -- What a run of the maker for frames answers, over plain values.
-use Rattle.dvg_cmd.proofs.Common.{true, ◌++◌, count_after, FailedAfter, blames_frames_rom, ComparesFor, IsPrefix, ◌≡◌, ◌<◌, ℕ, List, [], ◌∷◌, length, Option, None, Some, refl, ap, ◌∙◌, subst, arith, Result, IfErr, Machine, Appends, AppendsPrefix, WritesMade, Rom, IsRomLength, rom_on, words_of, MemoryMap, IsMap, Window, Key, of_each, AreFrames, MakesForFrames, FramesFaultMeans, ArePrefixes, rules, common_steps, IsErrAnd, text_of, WritesMadePrefix, Entry, AreAllPlaces, FramesMade, FramesRefuse, HasCause, EntryFault, told_fault, RefusesInputs, RefusesMemory, FramesRunFault, AreRead, AreInputImages, RefusesLengths, make_fault_of, MakeRunFault, Makes, MakeFaultMeans}
+use Rattle.dvg_cmd.proofs.Common.{Ok, Err, OnOk, blames_a_frame, EachHeld, FirstWrong, true, ◌++◌, count_after, FailedAfter, blames_frames_rom, ComparesFor, IsPrefix, ◌≡◌, ◌<◌, ℕ, List, [], ◌∷◌, length, Option, None, Some, refl, ap, ◌∙◌, subst, arith, Result, IfErr, Machine, Appends, AppendsPrefix, WritesMade, Rom, IsRomLength, rom_on, words_of, MemoryMap, IsMap, Window, Key, of_each, AreFrames, MakesForFrames, FramesFaultMeans, ArePrefixes, rules, common_steps, IsErrAnd, text_of, WritesMadePrefix, Entry, AreAllPlaces, FramesMade, FramesRefuse, HasCause, EntryFault, told_fault, RefusesInputs, RefusesMemory, MakeRunFault, AreRead, AreInputImages, RefusesLengths, make_fault_of, Makes, MakeFaultMeans}
 use Rattle.dvg_survey.specs.declared.places.EntryPlaces.{EntryPlaces}
 use Rattle.dvg_make.specs.declared.fault.FrameCall.{FrameCall}
 use Rattle.dvg_make.specs.declared.fault.FramesFault.{FramesFault}
@@ -11,12 +11,11 @@ use Rattle.dvg_cmd.proofs.SeveralFrames.{held_each, each_held, each_same, first_
 use Rattle.dvg_make.proofs.Collecting.{as_make_fault}
 use Rattle.dvg_make.proofs.Finishing.{made_roots}
 use Rattle.dvg_make.specs.declared.fault.EntryFault.TheVariants as entry
-use Rattle.dvg_spelling.specs.declared.fault.MakeRunFault.TheVariants as maker
-use Rattle.dvg_spelling.specs.declared.fault.FramesRunFault.TheVariants as fault
+use Rattle.dvg_spelling.specs.declared.fault.MakeRunFault.TheVariants as fault
 use Rattle.dvg_make.specs.declared.fault.MakeFault.TheVariants as making
 
 -- what holds of the fault that is told holds of the answer
-pub told_err : {A : Type 0} (r : Result A FramesRunFault) (f : FramesRunFault) (P : FramesRunFault → Type 0) → IsErrAnd r (λ x. x ≡ f)
+pub told_err : {A : Type 0} (r : Result A MakeRunFault) (f : MakeRunFault) (P : MakeRunFault → Type 0) → IsErrAnd r (λ x. x ≡ f)
     → P f → IfErr r P
 told_err r f P is h = grind (arith)
 
@@ -47,7 +46,7 @@ module _ {rom : Option (List ℕ)} {readers : List (Option (List ℕ))} {rb : Li
         words_are = same ∙ ap (λ l. of_each words_of l) whole;
       }
 
-  pub lengths_refused : (roots : List (ℕ × Key)) (f : FramesRunFault) → RefusesLengths frames f
+  pub lengths_refused : (roots : List (ℕ × Key)) (f : MakeRunFault) → RefusesLengths frames f
       → FramesFaultMeans machine rom map roots readers f
   lengths_refused roots f wrong =
       grind (
@@ -118,8 +117,8 @@ module _ {rb : List ℕ} {fb : List (List ℕ)} {machine : Machine} {map : Memor
         told_at f.call f.why (given.all, on_all (λ x ws. FramesRefuse x roots ws f) refuses, on_all (λ x ws. HasCause x roots ws f) told)
 
 -- which ROM's reader failed
-pub rom_failed : {A : Type 0} (r : Result A FramesRunFault) (f : FramesRunFault) → IsErrAnd r (λ x. x ≡ f)
-    → f ≡ fault.Plain maker.ReadRom → (olds news after : List ℕ) → news ≡ olds
+pub rom_failed : {A : Type 0} (r : Result A MakeRunFault) (f : MakeRunFault) → IsErrAnd r (λ x. x ≡ f)
+    → f ≡ fault.ReadRom → (olds news after : List ℕ) → news ≡ olds
     → (old new : ℕ) → new ≡ count_after true old → FailedAfter (blames_frames_rom r) (olds ++ old ∷ after) (news ++ new ∷ after)
 rom_failed r f e is olds news after same old new failed = grind (arith)
 
@@ -147,9 +146,10 @@ module _ (machine : Machine) (rom : Option (List ℕ)) (map : MemoryMap) (roots 
             (subst (λ l. FramesMade (rom_on machine map all.rom_bytes) roots (of_each words_of l) list) none made.1),
       )
 
-  pub roots_written : (old new : Option (List ℕ)) → WritesMade (MakesForFrames machine rom map roots []) map old new
-      → WritesMade (Makes machine rom map roots) map old new
-  roots_written old new h = record { list = h.list; made = roots_made h.list h.made; written = h.written }
+  pub roots_written : (r : Result (Unit {0}) MakeRunFault) (old new : Option (List ℕ))
+      → OnOk r (WritesMade (MakesForFrames machine rom map roots []) map old new) → OnOk r (WritesMade (Makes machine rom map roots) map old new)
+  roots_written (Ok u) old new h = record { list = h.list; made = roots_made h.list h.made; written = h.written }
+  roots_written (Err f) old new h = tt
 
   pub roots_cut : (old new : Option (List ℕ)) → WritesMadePrefix (MakesForFrames machine rom map roots []) map old new
       → WritesMadePrefix (Makes machine rom map roots) map old new
@@ -157,12 +157,26 @@ module _ (machine : Machine) (rom : Option (List ℕ)) (map : MemoryMap) (roots 
 
   -- and what is refused for no frames is refused for the roots
   roots_refused : (why : EntryFault) → RefusesInputs machine rom map roots [] (record { call = None; why = why })
-      → MakeFaultMeans machine rom map roots (maker.Make (make_fault_of why))
+      → MakeFaultMeans machine rom map roots (fault.Make (make_fault_of why))
   roots_refused why h = grind (arith, as_make_fault, rom_on, of_each, words_of)
 
-  pub roots_fault : (f : MakeRunFault) → FramesFaultMeans machine rom map roots [] (fault.Plain f) → MakeFaultMeans machine rom map roots f
-  roots_fault maker.RomLength h = h
-  roots_fault maker.ReadRom h = tt
-  roots_fault maker.Write h = tt
-  roots_fault (maker.Make making.Memory) h = roots_refused entry.Memory h
-  roots_fault (maker.Make f) h = subst (λ f. MakeFaultMeans machine rom map roots (maker.Make f)) h.1 (roots_refused h.0 h.2)
+  -- no frame is to blame
+  none_wrong : (bytes : List (List ℕ)) (n : ℕ) → EachHeld [] bytes → FirstWrong bytes n → ⊥
+  none_wrong [] n held wrong = wrong
+  none_wrong (first ∷ rest) n held wrong = held
+
+  fault_of_roots : (f : MakeRunFault) → FramesFaultMeans machine rom map roots [] f
+      → FailedAfter (blames_a_frame {A = Unit {0}} (Err f)) [] [] → MakeFaultMeans machine rom map roots f
+  fault_of_roots fault.RomLength h failed = h
+  fault_of_roots fault.ReadRom h failed = tt
+  fault_of_roots fault.Write h failed = tt
+  fault_of_roots (fault.Make making.Memory) h failed = roots_refused entry.Memory h
+  fault_of_roots (fault.Make f) h failed = subst (λ f. MakeFaultMeans machine rom map roots (fault.Make f)) h.1 (roots_refused h.0 h.2)
+  fault_of_roots (fault.FrameLength n) h failed = none_wrong h.frame_bytes n h.frames_held h.wrong
+  fault_of_roots (fault.Call call why) h failed = grind (arith)
+  fault_of_roots fault.ReadFrame h failed = grind (arith)
+
+  pub roots_fault : (r : Result (Unit {0}) MakeRunFault) → IfErr r (FramesFaultMeans machine rom map roots [])
+      → FailedAfter (blames_a_frame r) [] [] → IfErr r (MakeFaultMeans machine rom map roots)
+  roots_fault (Ok u) h failed = tt
+  roots_fault (Err f) h failed = fault_of_roots f h failed

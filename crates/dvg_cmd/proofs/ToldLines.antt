@@ -1,5 +1,5 @@
 -- The lines of several things, one after another, over plain values.
-use Rattle.dvg_cmd.proofs.Common.{◌≡◌, refl, sym, ap, ◌∙◌, subst, ℕ, List, [], ◌∷◌, ◌++◌, Option, append-nil, append_assoc, AppendsPrefix, joined, FrameOutcome}
+use Rattle.dvg_cmd.proofs.Common.{◌≡◌, refl, sym, ap, ◌∙◌, subst, ℕ, List, [], ◌∷◌, ◌++◌, Option, append-nil, append_assoc, AppendsPrefix, joined, Outcome}
 use Rattle.dvg_cmd.proofs.LineByLine.{both_sent, both_cut, first_cut}
 use Rattle.dvg_cmd.proofs.Writing.{none_sent}
 use Rattle.dvg_cmd.specs.Sent.{Sent}
@@ -133,7 +133,7 @@ module _ {A B T : Type 0} (First Later : A → Line B → Type 0) (telling later
 -- ---- a line that is told
 
 module _ {A B T : Type 0} (IsLineOf : A → Line B → Type 0) (telling : Telling B T) (thing : A) (line : Line B) (of : IsLineOf thing line)
-    (p : Progress T) (end : FrameOutcome) (text : List ℕ) (ends : end ≡ telling.outcome line.answer)
+    (p : Progress T) (end : Outcome) (text : List ℕ) (ends : end ≡ telling.outcome line.answer)
     (says : text ≡ line.name ++ telling.text line.answer) (old new : Option (List ℕ)) where
   texts : told p end text ≡ texts_of telling p line
   texts = ap (λ e. told p e text) ends ∙ ap (told p (telling.outcome line.answer)) says

@@ -1,5 +1,5 @@
 -- Lines that are written one after another, where each write may fail.
-use Rattle.dvg_cmd.proofs.Common.{◌≡◌, ◌∙◌, sym, subst, append-nil, ℕ, List, [], ◌∷◌, ◌++◌, Option, Result, OnErr, OnOk, Ok, Err, Appends, AppendsPrefix, TakesOneWrite, joined, refl, true, FrameOutcome, Sent}
+use Rattle.dvg_cmd.proofs.Common.{◌≡◌, ◌∙◌, sym, subst, append-nil, ℕ, List, [], ◌∷◌, ◌++◌, Option, Result, OnErr, OnOk, Ok, Err, Appends, AppendsPrefix, TakesOneWrite, joined, refl, true, Outcome, Sent}
 use Rattle.std.specs.Prelude.{if◌then◌else◌}
 use Rattle.std.proofs.KnownBytes.{Appends-nil}
 use Rattle.dvg_cmd.specs.Telling.{blank_line, is_written, told, summary_of}
@@ -43,7 +43,7 @@ none_sent texts none old writes =
 
 module _ {T : Type 0} (p : Progress T) (old mid new : Option (List ℕ)) (writes writes_mid : ℕ)
     (apart : Sent (blank_line p.layout.apart p.written) old mid writes writes_mid) where
-  pub told_cut : (end : FrameOutcome) (line : List ℕ) → is_written p.layout.lines end ≡ true → AppendsPrefix mid new line
+  pub told_cut : (end : Outcome) (line : List ℕ) → is_written p.layout.lines end ≡ true → AppendsPrefix mid new line
       → AppendsPrefix old new (joined (told p end line))
   told_cut end line shown cut =
       subst (λ b. AppendsPrefix old new (joined (if b then blank_line p.layout.apart p.written ++ line ∷ [] else []))) (sym shown)

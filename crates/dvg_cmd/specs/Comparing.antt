@@ -9,9 +9,8 @@ use Rattle.dvg_cert.specs.declared.entry.Key.{Key}
 use Rattle.dvg_survey.specs.Comparing.{IsComparison}
 use Rattle.dvg_survey.specs.declared.comparing.Comparison.{Comparison}
 use Rattle.dvg_spelling.specs.Touched.{touched_line, frame_touched_line}
-use Rattle.dvg_spelling.specs.declared.fault.MakeRunFault.TheVariants as maker
-use Rattle.dvg_spelling.specs.declared.fault.FramesRunFault.{FramesRunFault}
-use Rattle.dvg_spelling.specs.declared.fault.FramesRunFault.TheVariants as fault
+use Rattle.dvg_spelling.specs.declared.fault.MakeRunFault.{MakeRunFault}
+use Rattle.dvg_spelling.specs.declared.fault.MakeRunFault.TheVariants as fault
 use Rattle.dvg_cmd.specs.Making.{Held}
 use Rattle.dvg_cmd.specs.MakingFrames.{of_each, Inputs, FramesFaultMeans}
 use Rattle.dvg_cmd.specs.Sent.{joined, TakeOneWriteEach}
@@ -28,10 +27,10 @@ pub record ComparesFor
 
 -- what a fault says of all bytes that the readers held: the wrong length may be that of the other ROM
 abbrev pub ComparisonFaultMeans :
-    Machine → Option (List ℕ) → Option (List ℕ) → MemoryMap → List (ℕ × Key) → List (Option (List ℕ)) → FramesRunFault → Type 0
+    Machine → Option (List ℕ) → Option (List ℕ) → MemoryMap → List (ℕ × Key) → List (Option (List ℕ)) → MakeRunFault → Type 0
 ComparisonFaultMeans machine rom other map roots frames f =
     FramesFaultMeans machine rom map roots frames f
-    ⊎ ((f ≡ fault.Plain maker.RomLength) × FramesFaultMeans machine other map roots frames f)
+    ⊎ ((f ≡ fault.RomLength) × FramesFaultMeans machine other map roots frames f)
 
 -- the lines of the frames that reach a touched shape, in their order, by their names
 abbrev pub reaching_lines : List (List ℕ) → List Bool → List (List ℕ)

@@ -3,8 +3,6 @@ use Rattle.std.specs.Prelude.{◌≡◌, ◌≢◌, ℕ, Bool, true, false, List
 use Rattle.dvg_spelling.specs.Outcomes.{worse}
 use Rattle.dvg_spelling.specs.declared.outcome.Outcome.{Outcome}
 use Rattle.dvg_spelling.specs.declared.outcome.Outcome.TheVariants.{NoMemory}
-use Rattle.dvg_spelling.specs.declared.outcome.FrameOutcome.{FrameOutcome}
-use Rattle.dvg_spelling.specs.declared.outcome.FrameOutcome.TheVariants as frame
 pub use Rattle.dvg_cmd.specs.declared.detail.Detail.{Detail}
 pub use Rattle.dvg_cmd.specs.declared.detail.Detail.TheVariants as detail
 pub use Rattle.dvg_cmd.specs.declared.detail.Behind.{Behind}
@@ -30,14 +28,8 @@ behind_text behind.Nothing = []
 behind_text (behind.Account text) = string_bytes text
 behind_text behind.NoMemory = no_account
 
--- the outcome of a run, from that of its line and what is behind the line: if there was no memory for the account, it says so
+-- the outcome of a line and of what is behind it: the worse of the two, if there was no memory for the account
 abbrev pub outcome_behind : Behind → Outcome → Outcome
 outcome_behind behind.Nothing line = line
 outcome_behind (behind.Account text) line = line
-outcome_behind behind.NoMemory line = NoMemory
-
--- the same of a frame: the worse of the two
-abbrev pub frame_outcome_behind : Behind → FrameOutcome → FrameOutcome
-frame_outcome_behind behind.Nothing line = line
-frame_outcome_behind (behind.Account text) line = line
-frame_outcome_behind behind.NoMemory line = worse line frame.NoMemory
+outcome_behind behind.NoMemory line = worse line NoMemory

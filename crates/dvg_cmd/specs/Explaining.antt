@@ -5,12 +5,13 @@ use Rattle.dvg_words.specs.declared.machine.Machine.{Machine}
 use Rattle.dvg_words.specs.Values.{MemoryMap}
 use Rattle.dvg_cert.specs.declared.entry.Entry.{Entry}
 use Rattle.dvg_cert.specs.declared.entry.Key.{Key}
-use Rattle.dvg_text.specs.Devices.{AppendsPrefix, TakesOneWrite}
+use Rattle.dvg_text.specs.Devices.{TakesOneWrite}
 use Rattle.dvg_spelling.specs.Messages.{make_line_text}
 use Rattle.dvg_spelling.specs.Faults.{frame_blamed}
-use Rattle.dvg_cmd.specs.Detail.{no_account}
-use Rattle.dvg_cmd.specs.MakingFrames.{FramesRunFault, MakesForFrames}
-use Rattle.dvg_cmd.specs.Runs.{Outcome, Accepted, Refused, NoMemory}
+use Rattle.dvg_cmd.specs.Detail.{behind_text, outcome_behind}
+use Rattle.dvg_cmd.specs.declared.explaining_make.MakeAnswer.{MakeAnswer}
+use Rattle.dvg_cmd.specs.MakingFrames.{MakeRunFault, MakesForFrames}
+use Rattle.dvg_cmd.specs.Runs.{Outcome, Accepted, Refused}
 
 -- the list that is made for all bytes that readers held, of a ROM at this map and of frames, has so many entries
 pub record MakesEntries
@@ -20,40 +21,23 @@ pub record MakesEntries
   pub made : MakesForFrames machine rom map roots frames list
   pub count_is : count ≡ length list
 
--- the whole line
-abbrev pub make_line : List ℕ → Result ℕ FramesRunFault → List ℕ
-make_line name made = name ++ make_line_text made
-
 -- what the line reports
-abbrev pub make_outcome_of : Result ℕ FramesRunFault → Outcome
+abbrev pub make_outcome_of : Result ℕ MakeRunFault → Outcome
 make_outcome_of (Ok entries) = Accepted
 make_outcome_of (Err fault) = Refused
 
 -- the frame to blame, if one is
-abbrev pub frame_to_blame : Result ℕ FramesRunFault → Option ℕ
+abbrev pub frame_to_blame : Result ℕ MakeRunFault → Option ℕ
 frame_to_blame (Ok entries) = None
 frame_to_blame (Err fault) = frame_blamed fault
 
--- the text behind the line: an account, read as these bytes, or that there was no memory for it
-abbrev pub account_text : {A E : Type 0} → (A → List ℕ) → Result A E → List ℕ
-account_text bytes (Ok text) = bytes text
-account_text bytes (Err e) = no_account
+-- what is written of an answer, behind the name of the frame to blame: its line, and an account or that there was no memory for one
+abbrev pub make_text : List ℕ → MakeAnswer → List ℕ
+make_text name answer = name ++ make_line_text answer.made ++ behind_text answer.behind
 
--- what is reported where there may be no memory for the account
-abbrev pub told_outcome : {A E : Type 0} → Result A E → Outcome → Outcome
-told_outcome (Ok text) outcome = outcome
-told_outcome (Err e) outcome = NoMemory
-
--- the line and an account were written, by one write if they fit one, and nothing else; the outcome is the line's, or that there
--- was no memory for the account
-pub record MakeExplained {A E : Type 0} (bytes : A → List ℕ)
-    (name : List ℕ) (made : Result ℕ FramesRunFault) (account : Result A E) (old new : Option (List ℕ)) (writes writes_after : ℕ)
-    (outcome : Outcome) : Type 0 where
-  pub written : Appends old new (make_line name made ++ account_text bytes account)
-  pub one_write : TakesOneWrite (make_line name made ++ account_text bytes account) writes writes_after
-  pub outcome_is : outcome ≡ told_outcome account (make_outcome_of made)
-
--- a prefix of them was written, and nothing else
-abbrev pub MakeExplainedPrefix : {A E : Type 0} → (A → List ℕ)
-    → List ℕ → Result ℕ FramesRunFault → Result A E → Option (List ℕ) → Option (List ℕ) → Type 0
-MakeExplainedPrefix bytes name made account old new = AppendsPrefix old new (make_line name made ++ account_text bytes account)
+-- it was written, by one write if it fits one, and nothing else; the outcome is the line's, or that there was no memory for the account
+pub record MakeExplained
+    (name : List ℕ) (answer : MakeAnswer) (old new : Option (List ℕ)) (writes writes_after : ℕ) (outcome : Outcome) : Type 0 where
+  pub written : Appends old new (make_text name answer)
+  pub one_write : TakesOneWrite (make_text name answer) writes writes_after
+  pub outcome_is : outcome ≡ outcome_behind answer.behind (make_outcome_of answer.made)

@@ -34,8 +34,8 @@ use Rattle.dvg_cmd.specs.SafeFrames.{MeansFrame}
 use Rattle.dvg_cmd.specs.Start.{started}
 pub use Rattle.dvg_spelling.specs.declared.outcome.FrameAnswer.{FrameAnswer}
 pub use Rattle.dvg_spelling.specs.declared.outcome.FrameAnswer.TheVariants.{Judged, Timed, Slow, Unread}
-pub use Rattle.dvg_spelling.specs.declared.outcome.FrameOutcome.{FrameOutcome}
-pub use Rattle.dvg_spelling.specs.declared.outcome.FrameOutcome.TheVariants as outcome
+pub use Rattle.dvg_spelling.specs.declared.outcome.Outcome.{Outcome}
+pub use Rattle.dvg_spelling.specs.declared.outcome.Outcome.TheVariants as outcome
 pub use Rattle.dvg_spelling.specs.Outcomes.{frame_outcome_of, worse}
 
 -- these bytes were read of what a reader held: the first of them up to one past the limit, and all of them if they are a frame's

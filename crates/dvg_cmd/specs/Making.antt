@@ -17,14 +17,19 @@ use Rattle.dvg_spelling.specs.declared.fault.MakeRunFault.TheVariants as fault
 -- ---- which device an answer blames
 
 -- the answer blames the ROM's reader
-abbrev pub blames_maker_rom : {A : Type 0} → Result A MakeRunFault → Bool
-blames_maker_rom (Err fault.ReadRom) = true
-blames_maker_rom answer = false
+abbrev pub blames_frames_rom : {A : Type 0} → Result A MakeRunFault → Bool
+blames_frames_rom (Err fault.ReadRom) = true
+blames_frames_rom answer = false
+
+-- the answer blames a frame's reader
+abbrev pub blames_a_frame : {A : Type 0} → Result A MakeRunFault → Bool
+blames_a_frame (Err fault.ReadFrame) = true
+blames_a_frame answer = false
 
 -- the answer blames the writer
-abbrev pub blames_maker_writer : {A : Type 0} → Result A MakeRunFault → Bool
-blames_maker_writer (Err fault.Write) = true
-blames_maker_writer answer = false
+abbrev pub blames_frames_writer : {A : Type 0} → Result A MakeRunFault → Bool
+blames_frames_writer (Err fault.Write) = true
+blames_frames_writer answer = false
 
 -- ---- what is answered
 
@@ -51,10 +56,12 @@ pub record WritesMadePrefix (IsMade : List Entry → Type 0) (map : MemoryMap) (
   pub made : IsMade list
   pub written : AppendsPrefix old new (text_of map list)
 
--- what a fault says of all bytes that the ROM's reader held: their length is wrong, or the maker refuses them, with a cause
+-- what a fault says of all bytes that the ROM's reader held: their length is wrong, or the maker refuses them, with a cause; none is a
+-- frame's
 abbrev pub MakeFaultMeans : Machine → Option (List ℕ) → MemoryMap → List (ℕ × Key) → MakeRunFault → Type 0
 MakeFaultMeans machine rom map roots fault.RomLength = (bytes : List ℕ) × Held rom bytes × (IsRomLength map (length bytes) → ⊥)
 MakeFaultMeans machine rom map roots (fault.Make f) = (bytes : List ℕ) × Held rom bytes × IsRomLength map (length bytes)
     × Refuses (rom_on machine map bytes) roots f × HasRootCause (rom_on machine map bytes) roots f
 MakeFaultMeans machine rom map roots fault.ReadRom = Unit {0}
 MakeFaultMeans machine rom map roots fault.Write = Unit {0}
+MakeFaultMeans machine rom map roots f = ⊥

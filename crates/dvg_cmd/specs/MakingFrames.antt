@@ -1,5 +1,5 @@
 -- What a run of the maker for frames says of the bytes that its readers held, and what it writes. All of it is this project's own.
-use Rattle.std.specs.Prelude.{◌≡◌, ℕ, zero, suc, Bool, true, false, List, [], ◌∷◌, ◌++◌, length, Option, None, Some, Result, Err}
+use Rattle.std.specs.Prelude.{◌≡◌, ℕ, zero, suc, Bool, true, false, List, [], ◌∷◌, ◌++◌, length, Option, None, Some}
 use Rattle.dvg_words.specs.declared.machine.Machine.{Machine}
 use Rattle.dvg_words.specs.Values.{MemoryMap}
 use Rattle.dvg_words.specs.Memory.{words_of, rom_on, IsRomLength, IsFrameLength}
@@ -14,29 +14,10 @@ use Rattle.dvg_make.specs.declared.fault.MakeFault.TheVariants as making
 use Rattle.dvg_make.specs.Frames.{FramesMade}
 use Rattle.dvg_make.specs.Refusals.{FramesRefuse, make_fault_of}
 use Rattle.dvg_make.specs.Accounts.{HasCause}
-use Rattle.dvg_cmd.specs.Making.{Held}
+pub use Rattle.dvg_cmd.specs.Making.{Held, MakeRunFault, blames_frames_rom, blames_a_frame, blames_frames_writer}
 use Rattle.dvg_cmd.specs.Runs.{MOST_FRAME_READ, IsReadTo}
-use Rattle.dvg_spelling.specs.declared.fault.MakeRunFault.TheVariants as maker
 pub use Rattle.dvg_spelling.specs.Each.{of_each}
-pub use Rattle.dvg_spelling.specs.declared.fault.FramesRunFault.{FramesRunFault}
-use Rattle.dvg_spelling.specs.declared.fault.FramesRunFault.TheVariants as fault
-
--- ---- which device an answer blames
-
--- the answer blames the ROM's reader
-abbrev pub blames_frames_rom : {A : Type 0} → Result A FramesRunFault → Bool
-blames_frames_rom (Err (fault.Plain maker.ReadRom)) = true
-blames_frames_rom answer = false
-
--- the answer blames a frame's reader
-abbrev pub blames_a_frame : {A : Type 0} → Result A FramesRunFault → Bool
-blames_a_frame (Err fault.ReadFrame) = true
-blames_a_frame answer = false
-
--- the answer blames the writer
-abbrev pub blames_frames_writer : {A : Type 0} → Result A FramesRunFault → Bool
-blames_frames_writer (Err (fault.Plain maker.Write)) = true
-blames_frames_writer answer = false
+use Rattle.dvg_spelling.specs.declared.fault.MakeRunFault.TheVariants as fault
 
 -- ---- several readers
 
@@ -121,12 +102,12 @@ pub record WrongFrame (rom : Option (List ℕ)) (map : MemoryMap) (frames : List
   pub wrong : FirstWrong frame_bytes frame
 
 -- what a fault says of all bytes that the readers held: the first that applies of 1, 2, and the maker's refusal
-abbrev pub FramesFaultMeans : Machine → Option (List ℕ) → MemoryMap → List (ℕ × Key) → List (Option (List ℕ)) → FramesRunFault → Type 0
-FramesFaultMeans machine rom map roots frames (fault.Plain maker.RomLength) =
+abbrev pub FramesFaultMeans : Machine → Option (List ℕ) → MemoryMap → List (ℕ × Key) → List (Option (List ℕ)) → MakeRunFault → Type 0
+FramesFaultMeans machine rom map roots frames fault.RomLength =
     (bytes : List ℕ) × Held rom bytes × (IsRomLength map (length bytes) → ⊥)
-FramesFaultMeans machine rom map roots frames (fault.Plain (maker.Make f)) = RefusesRoots machine rom map roots frames f
-FramesFaultMeans machine rom map roots frames (fault.Plain maker.ReadRom) = Unit {0}
-FramesFaultMeans machine rom map roots frames (fault.Plain maker.Write) = Unit {0}
+FramesFaultMeans machine rom map roots frames (fault.Make f) = RefusesRoots machine rom map roots frames f
+FramesFaultMeans machine rom map roots frames fault.ReadRom = Unit {0}
+FramesFaultMeans machine rom map roots frames fault.Write = Unit {0}
 FramesFaultMeans machine rom map roots frames (fault.FrameLength n) = WrongFrame rom map frames n
 FramesFaultMeans machine rom map roots frames (fault.Call call why) =
     RefusesInputs machine rom map roots frames (record { call = Some call; why = why })

@@ -7,9 +7,9 @@ use Rattle.dvg_spelling.specs.Remarks.{no_remarks, with_kind, remarks_text}
 use Rattle.dvg_spelling.specs.declared.remark.RemarkTally.{RemarkTally}
 use Rattle.dvg_check.specs.declared.verdict.Yes.{Yes}
 use Rattle.dvg_spelling.specs.declared.outcome.FrameAnswer.{FrameAnswer}
-use Rattle.dvg_spelling.specs.declared.outcome.FrameOutcome.{FrameOutcome}
-use Rattle.dvg_spelling.specs.declared.outcome.FrameOutcome.TheVariants as frame
-use Rattle.dvg_cmd.specs.Detail.{Detail, IsBehind, behind_text, frame_outcome_behind}
+use Rattle.dvg_spelling.specs.declared.outcome.Outcome.{Outcome}
+use Rattle.dvg_spelling.specs.declared.outcome.Outcome.TheVariants.{NoMemory}
+use Rattle.dvg_cmd.specs.Detail.{Detail, IsBehind, behind_text, outcome_behind}
 use Rattle.dvg_cmd.specs.declared.detail.Detail.TheVariants as details
 use Rattle.dvg_cmd.specs.declared.detail.Behind.TheVariants as behinds
 use Rattle.dvg_cmd.specs.Called.{CalledCount, called_by, with_called}
@@ -56,11 +56,11 @@ text_behind_frame (behind.Remarks remarks) = string_bytes remarks.text
 text_behind_frame behind.NoRemarks = codes "remarks: out of memory\n"
 
 -- the outcome, from that of the line
-abbrev pub outcome_behind_frame : BehindFrame → FrameOutcome → FrameOutcome
-outcome_behind_frame (behind.Answer what) line = frame_outcome_behind what line
-outcome_behind_frame (behind.Called what called) line = frame_outcome_behind what line
+abbrev pub outcome_behind_frame : BehindFrame → Outcome → Outcome
+outcome_behind_frame (behind.Answer what) line = outcome_behind what line
+outcome_behind_frame (behind.Called what called) line = outcome_behind what line
 outcome_behind_frame (behind.Remarks remarks) line = line
-outcome_behind_frame behind.NoRemarks line = worse line frame.NoMemory
+outcome_behind_frame behind.NoRemarks line = worse line NoMemory
 
 -- ---- the summary of remarks
 

@@ -34,7 +34,7 @@ abbrev pub blames_writer : {A : Type 0} → Result A RunFault → Bool
 blames_writer answer = blames fault.Write answer
 
 -- a fault of 70 to 73 comes exactly where its device failed in the run, and the device's count of failed calls then rises by one; 74
--- never comes
+-- never comes, and no recipe is read
 pub record CountsFaults
     {A : Type 0} (answer : Result A RunFault) (rom rom_after cert cert_after frame frame_after out out_after : ℕ) : Type 0 where
   pub rom_count : rom_after ≡ count_after (blames fault.ReadRom answer) rom
@@ -42,6 +42,7 @@ pub record CountsFaults
   pub frame_count : frame_after ≡ count_after (blames fault.ReadFrame answer) frame
   pub out_count : out_after ≡ count_after (blames fault.Write answer) out
   pub no_memory : answer ≢ Err fault.Memory
+  pub no_recipe : answer ≢ Err fault.ReadRecipe
 
 -- ---- how far inputs are read
 

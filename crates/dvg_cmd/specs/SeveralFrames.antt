@@ -12,7 +12,6 @@ use Rattle.dvg_check.specs.Judged.{Shapes}
 use Rattle.dvg_check.specs.declared.fault.Mode.TheVariants.{Bound}
 use Rattle.dvg_check.specs.declared.verdict.Refusal.{Refusal}
 use Rattle.dvg_check.specs.declared.verdict.Refusal.TheVariants as refusal
-use Rattle.dvg_spelling.specs.Outcomes.{plain_outcome}
 use Rattle.dvg_spelling.specs.Report.{frame_line_text}
 use Rattle.dvg_spelling.specs.Tally.{no_lines, with_answer as counted, summary_text}
 use Rattle.dvg_cmd.specs.Detail.{Detail, has_account}
@@ -24,7 +23,7 @@ use Rattle.dvg_cmd.specs.Called.{called_texts}
 use Rattle.dvg_cmd.specs.Most.{most_texts, with_frame}
 use Rattle.dvg_cmd.specs.Telling.{Line, Telling, layout_of}
 use Rattle.dvg_cmd.specs.Runs.{Outcome, WritesReport, WritesReportPrefix}
-use Rattle.dvg_cmd.specs.Frames.{FrameAnswer, Unread, FrameOutcome, frame_outcome_of, is_unread, Judging, AnswersFrame, judged_over}
+use Rattle.dvg_cmd.specs.Frames.{FrameAnswer, Unread, frame_outcome_of, is_unread, Judging, AnswersFrame, judged_over}
 
 -- what is known of no frame
 abbrev pub no_frames : FramesSummary
@@ -92,12 +91,10 @@ RefusesAll machine w rom (Ok c) r = RefusesShapes machine w rom c r
 -- its report was written, and nothing else
 pub record ReportsRefusal
     (machine : Machine) (detail : Detail) (w : Window) (rom : List ℕ) (cert : Result Certificate CertFault) (old new : Option (List ℕ))
-    (writes writes_after : ℕ) (end : FrameOutcome) : Type 0 where
+    (writes writes_after : ℕ) (end : Outcome) : Type 0 where
   pub refused : Refusal
   pub refuses : RefusesAll machine w rom cert refused
-  pub plain : Outcome
-  pub report : WritesReport detail (Err refused) old new writes writes_after plain
-  pub outcome_is : end ≡ plain_outcome plain
+  pub report : WritesReport detail (Err refused) old new writes writes_after end
 
 -- a prefix of its report was written
 pub record ReportsRefusalPrefix

@@ -3,8 +3,8 @@ use Rattle.std.specs.Prelude.{◌≡◌, ℕ, Bool, true, false, if◌then◌els
 use Rattle.std.specs.Io.KnownBytes.{Appends}
 use Rattle.std.specs.Iterator.{Drains, Yields}
 use Rattle.dvg_text.specs.Devices.{AppendsPrefix}
-use Rattle.dvg_spelling.specs.declared.outcome.FrameOutcome.TheVariants as outcome
-use Rattle.dvg_spelling.specs.declared.outcome.FrameOutcome.{FrameOutcome}
+use Rattle.dvg_spelling.specs.declared.outcome.Outcome.TheVariants as outcome
+use Rattle.dvg_spelling.specs.declared.outcome.Outcome.{Outcome}
 use Rattle.dvg_spelling.specs.Outcomes.{worse}
 use Rattle.dvg_cmd.specs.declared.listing.Lines.{Lines}
 use Rattle.dvg_cmd.specs.declared.listing.Lines.TheVariants as which
@@ -31,7 +31,7 @@ pub record Line (B : Type 0) : Type 0 where
 -- the tally of none, with one more, and what tells it at the end
 pub record Telling (B T : Type 0) : Type 0 where
   pub text : B → List ℕ
-  pub outcome : B → FrameOutcome
+  pub outcome : B → Outcome
   pub layout : Layout
   pub none : T
   pub add : T → Line B → T
@@ -42,7 +42,7 @@ abbrev pub layout_of : {D : Type 0} → Listing D → Bool → Layout
 layout_of listing apart = record { lines = listing.lines; apart = apart; summary = listing.summary }
 
 -- whether a line of this outcome is written: each, or each that is not of an accepted thing
-abbrev pub is_written : Lines → FrameOutcome → Bool
+abbrev pub is_written : Lines → Outcome → Bool
 is_written which.NotAccepted outcome.Accepted = false
 is_written shown end = true
 
@@ -53,11 +53,11 @@ blank_line apart written = []
 
 module _ {T : Type 0} where
   -- what is written of a line that comes to this
-  abbrev pub told : Progress T → FrameOutcome → List ℕ → List (List ℕ)
+  abbrev pub told : Progress T → Outcome → List ℕ → List (List ℕ)
   told p end line = if is_written p.layout.lines end then blank_line p.layout.apart p.written ++ line ∷ [] else []
 
   -- behind it, with this tally
-  abbrev pub gone : Progress T → FrameOutcome → T → Progress T
+  abbrev pub gone : Progress T → Outcome → T → Progress T
   gone p end tally =
       record p {
         tally = tally;
@@ -111,7 +111,7 @@ module _ {A B : Type 0} (IsLineOf : A → Line B → Type 0) where
   module _ {T : Type 0} (telling : Telling B T) where
     -- of a line for each of these things those were written that are listed, and the summary, and nothing else, each by one write if it
     -- fits one; the outcome is the worst of all of them
-    pub record Reports (things : List A) (old new : Option (List ℕ)) (writes writes_after : ℕ) (end : FrameOutcome) : Type 0 where
+    pub record Reports (things : List A) (old new : Option (List ℕ)) (writes writes_after : ℕ) (end : Outcome) : Type 0 where
       pub lines : List (Line B)
       pub lines_of : AreLinesOf things lines
       pub written : Appends old new (joined (all_texts telling lines))

@@ -3,18 +3,17 @@
 ghost use Rattle.std.specs.Prelude.{◌≡◌, ◌≢◌, ◌↔◌, ◌<◌, [], ◌∷◌, Err, IfOk, IfErr, IsTrue, OnOk, OnErr, is_err, length, string_bytes};
 ghost use Rattle.std.specs.Io.KnownBytes.{Appends};
 ghost use Rattle.dvg_text.specs.Devices.{AppendsPrefix, count_after};
-ghost use Rattle.dvg_spelling.specs.Faults.{frames_run_number};
+ghost use Rattle.dvg_spelling.specs.Faults.{make_run_number};
 ghost use Rattle.dvg_cmd.specs.Comparing.{ComparesFor, ComparisonFaultMeans, comparison_lines, WritesComparison, WritesComparisonPrefix};
 ghost use Rattle.dvg_cmd.specs.MakingFrames.{blames_frames_rom, blames_a_frame, blames_frames_writer, of_each, FailedAfter, EachRead};
 ghost use Rattle.dvg_cmd.specs.Sent.{joined, Sent};
 ghost use Rattle.dvg_cmd.specs.Runs.{MOST_ROM_READ, IsReadTo};
-ghost use Rattle.dvg_spelling.specs.declared.fault.MakeRunFault.TheVariants as maker;
 
 use crate::entry_lines::write_each;
 use crate::inputs::{InputBytes, read_frames, read_maker_rom, rom_image};
 use dvg_cert::Key;
 use dvg_make::FramesFault;
-use dvg_spelling::FramesRunFault;
+use dvg_spelling::MakeRunFault;
 use dvg_survey::{Comparison, TouchedEntry, compare};
 use dvg_text::{CountedRead, CountedWrite, WriteFault, write_lines};
 use dvg_words::{Machine, RomMap};
@@ -67,7 +66,7 @@ pub fn run_comparison<R1: CountedRead, R2: CountedRead, W: CountedWrite>(
     frames: &mut [R2],
     names: &[String],
     out: &mut W,
-) -> Result<bool, FramesRunFault>
+) -> Result<bool, MakeRunFault>
     // 70, 71 and 73 come exactly where a device of theirs failed in this call, and the device's count then rises by one.
     ensures rom_counts { FailedAfter (blames_frames_rom result) (R1.failures rom.old ∷ R1.failures other.old ∷ [])
         (R1.failures rom.new ∷ R1.failures other.new ∷ []) }
@@ -77,28 +76,28 @@ pub fn run_comparison<R1: CountedRead, R2: CountedRead, W: CountedWrite>(
 
     // On an answer, ROMs and frames were read to their end or to one byte past their limit, and no further. Where a ROM's reader
     // failed, no frame was read.
-    ensures rom_read { result ≢ Err (FramesRunFault.Plain maker.ReadRom)
+    ensures rom_read { result ≢ Err MakeRunFault.ReadRom
         → IsReadTo MOST_ROM_READ (R1.remaining rom.old) (R1.remaining rom.new) }
-    ensures other_read { result ≢ Err (FramesRunFault.Plain maker.ReadRom)
+    ensures other_read { result ≢ Err MakeRunFault.ReadRom
         → IsReadTo MOST_ROM_READ (R1.remaining other.old) (R1.remaining other.new) }
     ensures frames_read { OnOk result (EachRead (of_each (λ frame. R2.remaining frame) frames.old)
         (of_each (λ frame. R2.remaining frame) frames.new)) }
-    ensures frames_unread { result ≡ Err (FramesRunFault.Plain maker.ReadRom) → frames.new ≡ frames.old }
+    ensures frames_unread { result ≡ Err MakeRunFault.ReadRom → frames.new ≡ frames.old }
 
     // What is written are the lines of what the change touches, by all bytes that the readers held, or a prefix of them, or nothing.
     ensures text { IfOk result (λ touched. WritesComparison (ComparesFor machine (R1.remaining rom.old)
         (R1.remaining other.old) map roots.now
         (of_each (λ frame. R2.remaining frame) frames.old)) (of_each (λ name. string_bytes name) names.now) touched
         (W.contents out.old) (W.contents out.new) (W.whole_writes out.old) (W.whole_writes out.new)) }
-    ensures prefix { result ≡ Err (FramesRunFault.Plain maker.Write) → WritesComparisonPrefix (ComparesFor machine (R1.remaining rom.old)
+    ensures prefix { result ≡ Err MakeRunFault.Write → WritesComparisonPrefix (ComparesFor machine (R1.remaining rom.old)
         (R1.remaining other.old) map roots.now (of_each (λ frame. R2.remaining frame) frames.old))
         (of_each (λ name. string_bytes name) names.now)
         (W.contents out.old) (W.contents out.new) }
-    ensures nothing { IfErr result (λ fault. fault ≢ FramesRunFault.Plain maker.Write
+    ensures nothing { IfErr result (λ fault. fault ≢ MakeRunFault.Write
         → Appends (W.contents out.old) (W.contents out.new) []) }
 
     // 1 and 2 come for a wrong length alone, and 60 to 62 as the maker refuses over the first ROM.
-    ensures refused { IfErr result (λ fault. frames_run_number fault ≢ 63 → ComparisonFaultMeans machine (R1.remaining rom.old)
+    ensures refused { IfErr result (λ fault. make_run_number fault ≢ 63 → ComparisonFaultMeans machine (R1.remaining rom.old)
         (R1.remaining other.old) map roots.now (of_each (λ frame. R2.remaining frame) frames.old) fault) }
 {
     let rom = read_maker_rom(rom)?;

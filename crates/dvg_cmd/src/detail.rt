@@ -1,12 +1,12 @@
 //! What a run writes of an answer: its line, or its line and an account of it.
 
 ghost use Rattle.std.specs.Prelude.{◌≡◌, None, IfOk, OnErr};
-ghost use Rattle.dvg_cmd.specs.Detail.{IsBehind, behind_text, has_account, frame_outcome_behind};
+ghost use Rattle.dvg_cmd.specs.Detail.{IsBehind, behind_text, has_account, outcome_behind};
 ghost use Rattle.dvg_cmd.specs.declared.detail.Detail.TheVariants as details;
 ghost use Rattle.dvg_cmd.specs.declared.detail.Behind.TheVariants as behinds;
 
 use dvg_labels::Labels;
-use dvg_spelling::FrameOutcome;
+use dvg_spelling::Outcome;
 use std::alloc::AllocError;
 
 /// What a run writes of an answer.
@@ -69,13 +69,13 @@ impl Behind {
         }
     }
 
-    /// The outcome of a frame's line and of this text behind it.
-    pub fn frame_outcome(&self, line: FrameOutcome) -> FrameOutcome
-        ensures { result ≡ frame_outcome_behind self.now line }
+    /// The outcome of a line and of this text behind it.
+    pub fn outcome(&self, line: Outcome) -> Outcome
+        ensures { result ≡ outcome_behind self.now line }
     {
         match self {
             Behind::Nothing | Behind::Account(_) => line,
-            Behind::NoMemory => line.or_worse(FrameOutcome::NoMemory),
+            Behind::NoMemory => line.or_worse(Outcome::NoMemory),
         }
     }
 }

@@ -7,26 +7,25 @@ ghost use Rattle.dvg_cmd.specs.ExplainingDiff.{IsDumpLength, IsNoDump, TellsDiff
 ghost use Rattle.dvg_cmd.specs.MakingFrames.{blames_frames_rom, blames_frames_writer, FailedAfter};
 ghost use Rattle.dvg_dumps.specs.declared.measuring.TheConstants.{MOST_BYTES};
 ghost use Rattle.dvg_cmd.specs.Runs.{MOST_ROM_READ, IsReadTo};
-ghost use Rattle.dvg_spelling.specs.declared.fault.MakeRunFault.TheVariants as maker;
 ghost use Rattle.dvg_make.specs.declared.fault.MakeFault.TheVariants as making;
 
 use crate::inputs::{RomBytes, read_maker_rom};
 use dvg_account::dump_text;
 use dvg_dumps::{Differences, MOST_BYTES, differences_of};
 use dvg_labels::Labels;
-use dvg_spelling::{FramesRunFault, MakeRunFault, dump_line_of};
+use dvg_spelling::{MakeRunFault, dump_line_of};
 use dvg_text::{CountedRead, CountedWrite, write_lines};
 use dvg_words::RomMap;
 use std::alloc::Global;
 
 /// What was read of a dump, if its length is from 1 byte to the longest ROM's.
-fn dump_of(bytes: &RomBytes) -> Result<&[u8], FramesRunFault>
+fn dump_of(bytes: &RomBytes) -> Result<&[u8], MakeRunFault>
     ensures { MatchResult result
         (λ dump. IsDumpLength (length bytes.now.items) × (dump.now ≡ bytes.now.items))
-        (λ fault. (IsDumpLength (length bytes.now.items) → ⊥) × (fault ≡ FramesRunFault.Plain maker.RomLength)) }
+        (λ fault. (IsDumpLength (length bytes.now.items) → ⊥) × (fault ≡ MakeRunFault.RomLength)) }
 {
     if bytes.is_empty() || bytes.len() > usize::from(MOST_BYTES) {
-        return Err(MakeRunFault::RomLength.into());
+        return Err(MakeRunFault::RomLength);
     }
     Ok(bytes.as_slice())
 }
@@ -39,10 +38,10 @@ fn account_of(
     map: RomMap,
     differences: Option<Differences>,
     labels: Option<&Labels>,
-) -> Result<String, FramesRunFault>
+) -> Result<String, MakeRunFault>
     requires { length good.now ≤ MOST_BYTES }
     ensures nothing { IfOk result (λ account. differences ≡ None → string_bytes account ≡ []) }
-    ensures fault { IfErr result (λ fault. fault ≡ FramesRunFault.Plain (maker.Make making.Memory)) }
+    ensures fault { IfErr result (λ fault. fault ≡ MakeRunFault.Make making.Memory) }
 {
     match differences {
         Some(_) => Ok(dump_text(alloc, good, other, map.first(), labels)?),
@@ -62,31 +61,31 @@ pub fn run_explain_diff<R: CountedRead, W: CountedWrite>(
     map: RomMap,
     labels: Option<&Labels>,
     out: &mut W,
-) -> Result<bool, FramesRunFault>
+) -> Result<bool, MakeRunFault>
     // 70 and 73 come exactly where a device of theirs failed in this call, and the device's count then rises by one; else it is 1 or 63.
     ensures rom_counts { FailedAfter (blames_frames_rom result) (R.failures rom.old ∷ R.failures other.old ∷ [])
         (R.failures rom.new ∷ R.failures other.new ∷ []) }
     ensures out_count { W.failures out.new ≡ count_after (blames_frames_writer result) (W.failures out.old) }
-    ensures fault { IfErr result (λ fault. (fault ≡ FramesRunFault.Plain maker.ReadRom) ⊎ (fault ≡ FramesRunFault.Plain maker.Write)
-        ⊎ (fault ≡ FramesRunFault.Plain maker.RomLength) ⊎ (fault ≡ FramesRunFault.Plain (maker.Make making.Memory))) }
+    ensures fault { IfErr result (λ fault. (fault ≡ MakeRunFault.ReadRom) ⊎ (fault ≡ MakeRunFault.Write)
+        ⊎ (fault ≡ MakeRunFault.RomLength) ⊎ (fault ≡ MakeRunFault.Make making.Memory)) }
 
     // Where no read failed, both dumps were read to their end or to one byte past their limit, and no further.
-    ensures rom_read { result ≢ Err (FramesRunFault.Plain maker.ReadRom)
+    ensures rom_read { result ≢ Err MakeRunFault.ReadRom
         → IsReadTo MOST_ROM_READ (R.remaining rom.old) (R.remaining rom.new) }
-    ensures other_read { result ≢ Err (FramesRunFault.Plain maker.ReadRom)
+    ensures other_read { result ≢ Err MakeRunFault.ReadRom
         → IsReadTo MOST_ROM_READ (R.remaining other.old) (R.remaining other.new) }
 
     // What is written is the line that tells in how much all bytes differ that the readers held, and then an account, or a prefix of
     // them, or nothing.
     ensures text { IfOk result (λ differ. TellsDifferences (R.remaining rom.old) (R.remaining other.old) differ
         (W.contents out.old) (W.contents out.new) (W.whole_writes out.old) (W.whole_writes out.new)) }
-    ensures prefix { result ≡ Err (FramesRunFault.Plain maker.Write) → TellsDifferencesPrefix (R.remaining rom.old)
+    ensures prefix { result ≡ Err MakeRunFault.Write → TellsDifferencesPrefix (R.remaining rom.old)
         (R.remaining other.old) (W.contents out.old) (W.contents out.new) }
-    ensures nothing { IfErr result (λ fault. fault ≢ FramesRunFault.Plain maker.Write
+    ensures nothing { IfErr result (λ fault. fault ≢ MakeRunFault.Write
         → Appends (W.contents out.old) (W.contents out.new) []) }
 
     // 1 comes for a wrong length alone.
-    ensures refused { result ≡ Err (FramesRunFault.Plain maker.RomLength)
+    ensures refused { result ≡ Err MakeRunFault.RomLength
         → IsNoDump (R.remaining rom.old) ⊎ IsNoDump (R.remaining other.old) }
 {
     let rom = read_maker_rom(rom)?;

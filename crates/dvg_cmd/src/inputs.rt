@@ -9,12 +9,11 @@ ghost use Rattle.dvg_cmd.specs.MakingFrames.{blames_frames_rom, blames_a_frame, 
 ghost use Rattle.dvg_cmd.specs.Private.Inputs.{AreRead, AreInputImages};
 ghost use Rattle.dvg_cmd.specs.Private.Reading.{IsPrefix, ArePrefixes, RefusesLengths};
 ghost use Rattle.dvg_cmd.specs.Runs.{MOST_ROM_READ, IsReadTo};
-ghost use Rattle.dvg_spelling.specs.declared.fault.MakeRunFault.TheVariants as maker;
 ghost use Rattle.dvg_make.specs.declared.fault.MakeFault.TheVariants as making;
 
 use crate::reading::{read_frame, read_rom};
 use arrayvec::ArrayVec;
-use dvg_spelling::{FramesRunFault, MakeRunFault};
+use dvg_spelling::MakeRunFault;
 use dvg_text::CountedRead;
 use dvg_words::{FrameImage, Machine, RomImage, RomMap};
 use std::alloc::Global;
@@ -40,15 +39,15 @@ pub struct InputImages<'a> {
 }
 
 /// What is read of a ROM that the maker takes.
-pub fn read_maker_rom<R: CountedRead>(rom: &mut R) -> Result<RomBytes, FramesRunFault>
+pub fn read_maker_rom<R: CountedRead>(rom: &mut R) -> Result<RomBytes, MakeRunFault>
     ensures bytes { IfOk result (λ bytes. IsPrefix MOST_ROM_READ (R.remaining rom.old) bytes.items) }
     ensures read { OnOk result (IsReadTo MOST_ROM_READ (R.remaining rom.old) (R.remaining rom.new)) }
     ensures count { R.failures rom.new ≡ count_after (is_err result) (R.failures rom.old) }
-    ensures fault { IfErr result (λ fault. fault ≡ FramesRunFault.Plain maker.ReadRom) }
+    ensures fault { IfErr result (λ fault. fault ≡ MakeRunFault.ReadRom) }
 {
     match read_rom(rom) {
         Ok(bytes) => Ok(bytes),
-        Err(_) => Err(MakeRunFault::ReadRom.into()),
+        Err(_) => Err(MakeRunFault::ReadRom),
     }
 }
 
@@ -57,20 +56,20 @@ pub fn read_maker_rom<R: CountedRead>(rom: &mut R) -> Result<RomBytes, FramesRun
 pub fn read_frames<R: CountedRead>(
     alloc: Global,
     frames: &mut [R],
-) -> Result<Vec<FrameBytes>, FramesRunFault>
+) -> Result<Vec<FrameBytes>, MakeRunFault>
     ensures bytes { IfOk result (λ read. ArePrefixes (of_each (λ frame. R.remaining frame) frames.old)
         (of_each (λ bytes. bytes.items) read.items)) }
     ensures read { OnOk result (EachRead (of_each (λ frame. R.remaining frame) frames.old)
         (of_each (λ frame. R.remaining frame) frames.new)) }
     ensures counts { FailedAfter (blames_a_frame result) (of_each (λ frame. R.failures frame) frames.old)
         (of_each (λ frame. R.failures frame) frames.new) }
-    ensures fault { IfErr result (λ fault. (fault ≡ FramesRunFault.ReadFrame) ⊎ (fault ≡ FramesRunFault.Plain (maker.Make making.Memory))) }
+    ensures fault { IfErr result (λ fault. (fault ≡ MakeRunFault.ReadFrame) ⊎ (fault ≡ MakeRunFault.Make making.Memory)) }
     ensures some { OnErr result (0 < length frames.old) }
 {
     let mut read = Vec::new(alloc);
     for frame in frames {
         let Ok(bytes) = read_frame(frame) else {
-            return Err(FramesRunFault::ReadFrame);
+            return Err(MakeRunFault::ReadFrame);
         };
         read.push(bytes)?;
     }
@@ -82,21 +81,21 @@ pub fn rom_image(
     machine: Machine,
     bytes: &RomBytes,
     map: RomMap,
-) -> Result<RomImage<'_>, FramesRunFault>
+) -> Result<RomImage<'_>, MakeRunFault>
     ensures image { MatchResult result
         (λ rom. IsRomLength map (length bytes.now.items) × (rom ≡ rom_on machine map bytes.now.items))
-        (λ fault. (IsRomLength map (length bytes.now.items) → ⊥) × (fault ≡ FramesRunFault.Plain maker.RomLength)) }
+        (λ fault. (IsRomLength map (length bytes.now.items) → ⊥) × (fault ≡ MakeRunFault.RomLength)) }
     ensures map { IsMap map }
 {
     match RomImage::from_bytes_on(machine, bytes.as_slice(), map) {
         Ok(image) => Ok(image),
-        Err(_) => Err(MakeRunFault::RomLength.into()),
+        Err(_) => Err(MakeRunFault::RomLength),
     }
 }
 
 /// The images of what was read of frames.
 #[tactic(auto, using(crate::proofs::SeveralFrames::wrong_here, crate::proofs::SeveralFrames::frames_next, crate::proofs::SeveralFrames::words_next, std::proofs::lemmas::Grind::common_steps))]
-fn frame_images(alloc: Global, read: &[FrameBytes]) -> Result<Vec<FrameImage<'_>>, FramesRunFault>
+fn frame_images(alloc: Global, read: &[FrameBytes]) -> Result<Vec<FrameImage<'_>>, MakeRunFault>
     ensures frames { OnOk result (AreFrames (of_each (λ bytes. bytes.items) read.now)) }
     ensures images { IfOk result (λ images. images.items ≡ of_each words_of (of_each (λ bytes. bytes.items) read.now)) }
     ensures refused { IfErr result (RefusesLengths (of_each (λ bytes. bytes.items) read.now)) }
@@ -104,7 +103,7 @@ fn frame_images(alloc: Global, read: &[FrameBytes]) -> Result<Vec<FrameImage<'_>
     let mut images = Vec::new(alloc);
     for (frame, bytes) in read.iter().enumerate() {
         let Ok(image) = FrameImage::from_bytes(bytes.as_slice()) else {
-            return Err(FramesRunFault::FrameLength { frame });
+            return Err(MakeRunFault::FrameLength { frame });
         };
         images.push(image)?;
     }
@@ -117,19 +116,19 @@ impl InputBytes {
         alloc: Global,
         rom: &mut R1,
         frames: &mut [R2],
-    ) -> Result<InputBytes, FramesRunFault>
+    ) -> Result<InputBytes, MakeRunFault>
         ensures bytes { IfOk result (λ read. AreRead (R1.remaining rom.old) (of_each (λ frame. R2.remaining frame) frames.old)
             read.rom.items (of_each (λ bytes. bytes.items) read.frames.items)) }
         ensures rom_count { R1.failures rom.new ≡ count_after (blames_frames_rom result) (R1.failures rom.old) }
         ensures frame_counts { FailedAfter (blames_a_frame result) (of_each (λ frame. R2.failures frame) frames.old)
             (of_each (λ frame. R2.failures frame) frames.new) }
-        ensures rom_read { result ≢ Err (FramesRunFault.Plain maker.ReadRom)
+        ensures rom_read { result ≢ Err MakeRunFault.ReadRom
             → IsReadTo MOST_ROM_READ (R1.remaining rom.old) (R1.remaining rom.new) }
         ensures frames_read { OnOk result (EachRead (of_each (λ frame. R2.remaining frame) frames.old)
             (of_each (λ frame. R2.remaining frame) frames.new)) }
-        ensures frames_unread { result ≡ Err (FramesRunFault.Plain maker.ReadRom) → frames.new ≡ frames.old }
-        ensures fault { IfErr result (λ fault. (fault ≡ FramesRunFault.Plain maker.ReadRom) ⊎ (fault ≡ FramesRunFault.ReadFrame)
-            ⊎ (fault ≡ FramesRunFault.Plain (maker.Make making.Memory))) }
+        ensures frames_unread { result ≡ Err MakeRunFault.ReadRom → frames.new ≡ frames.old }
+        ensures fault { IfErr result (λ fault. (fault ≡ MakeRunFault.ReadRom) ⊎ (fault ≡ MakeRunFault.ReadFrame)
+            ⊎ (fault ≡ MakeRunFault.Make making.Memory)) }
         ensures refused { (machine : Machine) (map : MemoryMap) (roots : List (ℕ × Key))
             → IfErr result (FramesFaultMeans machine (R1.remaining rom.old) map roots
             (of_each (λ frame. R2.remaining frame) frames.old)) }
@@ -145,15 +144,15 @@ impl InputBytes {
         machine: Machine,
         alloc: Global,
         map: RomMap,
-    ) -> Result<InputImages<'_>, FramesRunFault>
+    ) -> Result<InputImages<'_>, MakeRunFault>
         ensures images { (held : Option (List ℕ)) (readers : List (Option (List ℕ)))
             → AreRead held readers self.now.rom.items (of_each (λ bytes. bytes.items) self.now.frames.items)
             → IfOk result (λ images. AreInputImages machine held map readers images.rom images.frames.items) }
         ensures refused { (held : Option (List ℕ)) (readers : List (Option (List ℕ)))
             → AreRead held readers self.now.rom.items (of_each (λ bytes. bytes.items) self.now.frames.items)
             → (roots : List (ℕ × Key)) → IfErr result (FramesFaultMeans machine held map roots readers) }
-        ensures fault { IfErr result (λ fault. (fault ≢ FramesRunFault.Plain maker.ReadRom) × (fault ≢ FramesRunFault.ReadFrame)
-            × (fault ≢ FramesRunFault.Plain maker.Write)) }
+        ensures fault { IfErr result (λ fault. (fault ≢ MakeRunFault.ReadRom) × (fault ≢ MakeRunFault.ReadFrame)
+            × (fault ≢ MakeRunFault.Write)) }
     {
         let rom = rom_image(machine, &self.rom, map)?;
         let frames = frame_images(alloc, &self.frames)?;

@@ -3,7 +3,7 @@
 ghost use Rattle.std.specs.Prelude.{◌≡◌};
 ghost use Rattle.dvg_cmd.specs.Telling.{is_written, layout_of};
 
-use dvg_spelling::FrameOutcome;
+use dvg_spelling::Outcome;
 
 /// Which frames have a line.
 #[derive(Clone, Copy, Debug, PartialEq, Eq)]
@@ -16,15 +16,12 @@ pub enum Lines {
 
 impl Lines {
     /// Whether a line of this outcome is written.
-    pub fn has(self, outcome: FrameOutcome) -> bool
+    pub fn has(self, outcome: Outcome) -> bool
         ensures { result ≡ is_written self outcome }
     {
         match (self, outcome) {
-            (Lines::NotAccepted, FrameOutcome::Accepted) => false,
-            (
-                Lines::NotAccepted,
-                FrameOutcome::Refused | FrameOutcome::NoMemory | FrameOutcome::Unread,
-            )
+            (Lines::NotAccepted, Outcome::Accepted) => false,
+            (Lines::NotAccepted, Outcome::Refused | Outcome::NoMemory | Outcome::Unread)
             | (Lines::All, _) => true,
         }
     }

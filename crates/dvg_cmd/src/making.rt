@@ -4,12 +4,12 @@ ghost use Rattle.std.specs.Prelude.{◌≡◌, ◌≢◌, [], Err, IfErr, OnOk};
 ghost use Rattle.std.specs.Io.KnownBytes.{Appends};
 ghost use Rattle.dvg_words.specs.declared.machine.Machine.TheVariants.{Profile};
 ghost use Rattle.dvg_text.specs.Devices.{count_after};
-ghost use Rattle.dvg_cmd.specs.Making.{blames_maker_rom, blames_maker_writer, Makes, WritesMade, WritesMadePrefix, MakeFaultMeans};
+ghost use Rattle.dvg_cmd.specs.Making.{blames_frames_rom, blames_frames_writer, Makes, WritesMade, WritesMadePrefix, MakeFaultMeans};
 ghost use Rattle.dvg_cmd.specs.Runs.{MOST_ROM_READ, IsReadTo};
 
 use crate::making_frames::run_make_frames;
 use dvg_cert::Key;
-use dvg_spelling::{FramesRunFault, MakeRunFault};
+use dvg_spelling::MakeRunFault;
 use dvg_text::{CountedRead, CountedWrite};
 use dvg_words::{Machine, RomMap};
 use std::alloc::Global;
@@ -29,8 +29,8 @@ pub fn run_make<R: CountedRead, W: CountedWrite>(
     out: &mut W,
 ) -> Result<(), MakeRunFault>
     // 70 and 73 come exactly where their device failed in this call, and the device's count then rises by one.
-    ensures rom_count { R.failures rom.new ≡ count_after (blames_maker_rom result) (R.failures rom.old) }
-    ensures out_count { W.failures out.new ≡ count_after (blames_maker_writer result) (W.failures out.old) }
+    ensures rom_count { R.failures rom.new ≡ count_after (blames_frames_rom result) (R.failures rom.old) }
+    ensures out_count { W.failures out.new ≡ count_after (blames_frames_writer result) (W.failures out.old) }
 
     // Unless its reader failed, the ROM was read to its end or to one byte past its limit, and no further.
     ensures rom_read { result ≢ Err MakeRunFault.ReadRom → IsReadTo MOST_ROM_READ (R.remaining rom.old) (R.remaining rom.new) }
@@ -47,9 +47,5 @@ pub fn run_make<R: CountedRead, W: CountedWrite>(
 {
     // No frame is read.
     let frames: &mut [R] = &mut [];
-    match run_make_frames(Machine::Profile, alloc, rom, map, roots, frames, out) {
-        Ok(()) => Ok(()),
-        Err(FramesRunFault::Plain(fault)) => Err(fault),
-        Err(_) => unreachable!(),
-    }
+    run_make_frames(Machine::Profile, alloc, rom, map, roots, frames, out)
 }

@@ -3,9 +3,9 @@
 ghost use Rattle.std.specs.Prelude.{◌≡◌, ◌<◌, ◌++◌, codes, length, Err, IfErr, OnOk, OnErr, is_err};
 ghost use Rattle.std.specs.Io.KnownBytes.{Appends};
 ghost use Rattle.dvg_text.specs.Devices.{AppendsPrefix, TakesOneWrite, count_after};
-ghost use Rattle.dvg_spelling.specs.Messages.{frames_message};
+ghost use Rattle.dvg_spelling.specs.Messages.{make_message};
 
-use dvg_spelling::{FramesRunFault, RunFault, make_frames_report_of};
+use dvg_spelling::{MakeRunFault, RunFault, make_report_of};
 use dvg_text::{CountedWrite, write_lines};
 
 /// Writes a text of lines, or a prefix of it if the writer fails, which is 73.
@@ -34,18 +34,18 @@ pub fn write_message<W: CountedWrite>(message: &str, out: &mut W) -> Result<(), 
 /// characters; it is empty if no frame is to blame.
 pub fn write_make_fault<W: CountedWrite>(
     name: &str,
-    fault: &FramesRunFault,
+    fault: &MakeRunFault,
     out: &mut W,
 ) -> Result<(), RunFault>
     ensures written { OnOk result (Appends (W.contents out.old) (W.contents out.new)
-        (name.now ++ (frames_message fault.now ++ codes "\n"))) }
+        (name.now ++ (make_message fault.now ++ codes "\n"))) }
     ensures prefix { OnErr result (AppendsPrefix (W.contents out.old) (W.contents out.new)
-        (name.now ++ (frames_message fault.now ++ codes "\n"))) }
-    ensures one_write { OnOk result (TakesOneWrite (name.now ++ (frames_message fault.now ++ codes "\n"))
+        (name.now ++ (make_message fault.now ++ codes "\n"))) }
+    ensures one_write { OnOk result (TakesOneWrite (name.now ++ (make_message fault.now ++ codes "\n"))
         (W.whole_writes out.old) (W.whole_writes out.new)) }
     ensures fault { IfErr result (λ fault. fault ≡ RunFault.Write) }
     ensures count { W.failures out.new ≡ count_after (is_err result) (W.failures out.old) }
 {
-    let report = make_frames_report_of(fault);
+    let report = make_report_of(fault);
     Ok(write_lines(name.as_bytes(), report.as_bytes(), &[], out)?)
 }

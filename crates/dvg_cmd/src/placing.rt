@@ -3,17 +3,16 @@
 ghost use Rattle.std.specs.Prelude.{◌≡◌, ◌≢◌, [], Err, IfErr, OnOk};
 ghost use Rattle.std.specs.Io.KnownBytes.{Appends};
 ghost use Rattle.dvg_text.specs.Devices.{count_after};
-ghost use Rattle.dvg_spelling.specs.Faults.{frames_run_number};
+ghost use Rattle.dvg_spelling.specs.Faults.{make_run_number};
 ghost use Rattle.dvg_cmd.specs.MakingFrames.{blames_frames_rom, blames_a_frame, blames_frames_writer, of_each, FailedAfter, EachRead, FramesFaultMeans};
 ghost use Rattle.dvg_cmd.specs.Placing.{PlacesFor, WritesPlaces, WritesPlacesPrefix};
 ghost use Rattle.dvg_cmd.specs.Runs.{MOST_ROM_READ, IsReadTo};
-ghost use Rattle.dvg_spelling.specs.declared.fault.MakeRunFault.TheVariants as maker;
 
 use crate::entry_lines::write_each;
 use crate::inputs::InputBytes;
 use dvg_cert::{HashIndex, Key};
 use dvg_make::{FramesFault, make_for_frames};
-use dvg_spelling::FramesRunFault;
+use dvg_spelling::MakeRunFault;
 use dvg_survey::entry_places;
 use dvg_text::{CountedRead, CountedWrite, WriteFault};
 use dvg_words::{Machine, RomMap, Window};
@@ -34,7 +33,7 @@ pub fn run_places<R1: CountedRead, R2: CountedRead, W: CountedWrite>(
     frames: &mut [R2],
     window: Window,
     out: &mut W,
-) -> Result<(), FramesRunFault>
+) -> Result<(), MakeRunFault>
     // 70, 71 and 73 come exactly where their device failed in this call, and the device's count then rises by one.
     ensures rom_count { R1.failures rom.new ≡ count_after (blames_frames_rom result) (R1.failures rom.old) }
     ensures frame_counts { FailedAfter (blames_a_frame result) (of_each (λ frame. R2.failures frame) frames.old)
@@ -43,27 +42,27 @@ pub fn run_places<R1: CountedRead, R2: CountedRead, W: CountedWrite>(
 
     // Unless its reader failed, the ROM was read to its end or to one byte past its limit, and no further; so were the frames, but
     // where a reader failed or memory was out. Where the ROM's reader failed, no frame was read.
-    ensures rom_read { result ≢ Err (FramesRunFault.Plain maker.ReadRom)
+    ensures rom_read { result ≢ Err MakeRunFault.ReadRom
         → IsReadTo MOST_ROM_READ (R1.remaining rom.old) (R1.remaining rom.new) }
     ensures frames_read { OnOk result (EachRead (of_each (λ frame. R2.remaining frame) frames.old)
         (of_each (λ frame. R2.remaining frame) frames.new)) }
-    ensures frames_read_too { IfErr result (λ fault. fault ≢ FramesRunFault.Plain maker.ReadRom → fault ≢ FramesRunFault.ReadFrame
-        → frames_run_number fault ≢ 63 → EachRead (of_each (λ frame. R2.remaining frame) frames.old)
+    ensures frames_read_too { IfErr result (λ fault. fault ≢ MakeRunFault.ReadRom → fault ≢ MakeRunFault.ReadFrame
+        → make_run_number fault ≢ 63 → EachRead (of_each (λ frame. R2.remaining frame) frames.old)
         (of_each (λ frame. R2.remaining frame) frames.new)) }
-    ensures frames_unread { result ≡ Err (FramesRunFault.Plain maker.ReadRom) → frames.new ≡ frames.old }
+    ensures frames_unread { result ≡ Err MakeRunFault.ReadRom → frames.new ≡ frames.old }
 
     // What is written are the lines of the entries that are made for all bytes that the readers held, or a prefix of them, or nothing.
     ensures text { OnOk result (WritesPlaces (PlacesFor machine window (R1.remaining rom.old) map roots.now
         (of_each (λ frame. R2.remaining frame) frames.old)) (W.contents out.old) (W.contents out.new) (W.whole_writes out.old)
         (W.whole_writes out.new)) }
-    ensures prefix { result ≡ Err (FramesRunFault.Plain maker.Write) → WritesPlacesPrefix
+    ensures prefix { result ≡ Err MakeRunFault.Write → WritesPlacesPrefix
         (PlacesFor machine window (R1.remaining rom.old) map roots.now
         (of_each (λ frame. R2.remaining frame) frames.old)) (W.contents out.old) (W.contents out.new) }
-    ensures nothing { IfErr result (λ fault. fault ≢ FramesRunFault.Plain maker.Write
+    ensures nothing { IfErr result (λ fault. fault ≢ MakeRunFault.Write
         → Appends (W.contents out.old) (W.contents out.new) []) }
 
     // 1 and 2 come for a wrong length alone, and 60 to 62 as the maker refuses.
-    ensures refused { IfErr result (λ fault. frames_run_number fault ≢ 63
+    ensures refused { IfErr result (λ fault. make_run_number fault ≢ 63
         → FramesFaultMeans machine (R1.remaining rom.old) map roots.now (of_each (λ frame. R2.remaining frame) frames.old) fault) }
 {
     let bytes = InputBytes::read(alloc, rom, frames)?;

@@ -2,12 +2,12 @@
 
 ghost use Rattle.std.specs.Prelude.{◌≡◌, ◌<◌, ◌++◌, length, false, OnOk, OnErr, is_err};
 ghost use Rattle.dvg_text.specs.Devices.{AppendsPrefix, count_after};
-ghost use Rattle.dvg_spelling.specs.declared.outcome.FrameOutcome.TheVariants.{Accepted};
+ghost use Rattle.dvg_spelling.specs.declared.outcome.Outcome.TheVariants.{Accepted};
 ghost use Rattle.dvg_cmd.specs.Sent.{joined, Sent};
 ghost use Rattle.dvg_cmd.specs.Telling.{blank_line, gone, told};
 
 use crate::listing::Layout;
-use dvg_spelling::FrameOutcome;
+use dvg_spelling::Outcome;
 use dvg_text::{CountedWrite, WriteFault, write_lines};
 
 /// How far a run over several things has come, and how it writes their lines.
@@ -17,7 +17,7 @@ pub struct Progress<T> {
     /// What is counted of the lines, written or not.
     pub tally: T,
     /// The worst outcome.
-    pub worst: FrameOutcome,
+    pub worst: Outcome,
     /// Whether a line was written.
     pub written: bool,
 }
@@ -30,7 +30,7 @@ impl<T> Progress<T> {
         Progress {
             layout,
             tally: none,
-            worst: FrameOutcome::Accepted,
+            worst: Outcome::Accepted,
             written: false,
         }
     }
@@ -53,7 +53,7 @@ impl<T> Progress<T> {
     /// Writes a line of this outcome, with the name before it and the text behind it, if such lines are written.
     pub fn write_line<W: CountedWrite>(
         &self,
-        outcome: FrameOutcome,
+        outcome: Outcome,
         name: &str,
         line: &[u8],
         text: &str,
@@ -74,7 +74,7 @@ impl<T> Progress<T> {
     }
 
     /// Takes in a line of this outcome, which was written if such lines are.
-    pub fn add(&mut self, outcome: FrameOutcome)
+    pub fn add(&mut self, outcome: Outcome)
         ensures { self.new ≡ gone self.old outcome self.old.tally }
     {
         self.worst = self.worst.or_worse(outcome);

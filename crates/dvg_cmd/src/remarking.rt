@@ -10,7 +10,7 @@ use dvg_account::{FrameRemark, Inputs, frame_remarks, remarks_text};
 use dvg_cert::Cert;
 use dvg_check::Mode;
 use dvg_labels::Labels;
-use dvg_spelling::FrameOutcome;
+use dvg_spelling::Outcome;
 use std::alloc::{AllocError, Global};
 
 /// What a run writes behind the line of a frame.
@@ -80,15 +80,13 @@ impl BehindFrame {
     }
 
     /// The outcome of a frame's line and of this text behind it.
-    pub fn frame_outcome(&self, line: FrameOutcome) -> FrameOutcome
+    pub fn outcome(&self, line: Outcome) -> Outcome
         ensures { result ≡ outcome_behind_frame self.now line }
     {
         match self {
-            BehindFrame::Answer(behind) | BehindFrame::Called(behind, _) => {
-                behind.frame_outcome(line)
-            }
+            BehindFrame::Answer(behind) | BehindFrame::Called(behind, _) => { behind.outcome(line) }
             BehindFrame::Remarks(_) => line,
-            BehindFrame::NoRemarks => line.or_worse(FrameOutcome::NoMemory),
+            BehindFrame::NoRemarks => line.or_worse(Outcome::NoMemory),
         }
     }
 }

@@ -27,10 +27,8 @@ pub fn run_rules<W: CountedWrite>(
     ensures fault { IfErr result (λ fault. (fault ≡ RunFault.Write) ⊎ (fault ≡ RunFault.Memory)) }
     ensures count { W.failures out.new ≡ count_after (blames_writer result) (W.failures out.old) }
 {
-    match text_of_rules(alloc, rules) {
-        Ok(table) => write_text(table.as_str(), out),
-        Err(_) => Err(RunFault::Memory),
-    }
+    let table = text_of_rules(alloc, rules)?;
+    write_text(table.as_str(), out)
 }
 
 /// Writes a rule: its number and what it means, its line, the shortest input that gets it, and what to do, a line for each.
@@ -45,8 +43,6 @@ pub fn run_rule<W: CountedWrite>(alloc: Global, rule: &Rule, out: &mut W) -> Res
     ensures fault { IfErr result (λ fault. (fault ≡ RunFault.Write) ⊎ (fault ≡ RunFault.Memory)) }
     ensures count { W.failures out.new ≡ count_after (blames_writer result) (W.failures out.old) }
 {
-    match text_of_rule(alloc, rule) {
-        Ok(text) => write_text(text.as_str(), out),
-        Err(_) => Err(RunFault::Memory),
-    }
+    let text = text_of_rule(alloc, rule)?;
+    write_text(text.as_str(), out)
 }

@@ -211,10 +211,7 @@ pub fn write_report<W: CountedWrite>(
 {
     let report = report_of(verdict);
     write_lines(report.as_bytes(), behind.text().as_bytes(), &[], out)?;
-    match behind {
-        Behind::Nothing | Behind::Account(_) => Ok(outcome_of(verdict)),
-        Behind::NoMemory => Ok(Outcome::NoMemory),
-    }
+    Ok(behind.outcome(outcome_of(verdict)))
 }
 
 /// Reads a ROM, a frame and a certificate, in this order, and writes the report of the verdict on them, and an account of it if the

@@ -5,11 +5,8 @@ ghost use Rattle.std.specs.Iterator.{IsFinite};
 ghost use Rattle.dvg_words.specs.Memory.{IsRomLength};
 ghost use Rattle.dvg_text.specs.Devices.{count_after};
 ghost use Rattle.dvg_check.specs.Causes.{refusal_of};
-ghost use Rattle.dvg_spelling.specs.Outcomes.{plain_outcome};
-ghost use Rattle.dvg_spelling.specs.declared.outcome.Outcome.{Outcome as Plain};
 ghost use Rattle.dvg_cmd.specs.Detail.{IsBehind};
 ghost use Rattle.dvg_cmd.specs.Frames.{JudgesAlike};
-ghost use Rattle.dvg_cmd.specs.Runs.{WritesReport, WritesReportPrefix};
 ghost use Rattle.dvg_cmd.specs.SeveralFrames.{AnswersOpened, IsLineOfFrame, of_frames, ReportsRefusal, ReportsRefusalPrefix, RefusesShapes, judged_given};
 ghost use Rattle.dvg_cmd.specs.Telling.{HoldsOfAll, HoldsOfTaken, Reports, ReportsPrefix, no_line};
 ghost use Rattle.dvg_cmd.specs.Remarking.{IsBehindFrame, answer_detail};
@@ -26,7 +23,7 @@ use crate::telling::{Tell, run_each};
 use dvg_account::{Inputs, verdict_text};
 use dvg_cert::{Cert, HashIndex};
 use dvg_check::{JudgedShapes, Mode, Refusal, RomFinding};
-use dvg_spelling::{FrameAnswer, FrameOutcome, RunFault, frame_outcome_of, frame_report_of};
+use dvg_spelling::{FrameAnswer, Outcome, RunFault, frame_outcome_of, frame_report_of};
 use dvg_text::{CountedRead, CountedWrite, RefusedText, WriteFault};
 use dvg_words::{Machine, RomImage, Window};
 use std::alloc::Global;
@@ -114,7 +111,7 @@ impl<'j, 'a, J: FrameJudge, R: CountedRead + Drop> Tell<NamedFrame<R>> for Frame
             reader,
             detail,
         );
-        let outcome = behind.frame_outcome(frame_outcome_of(&answer));
+        let outcome = behind.outcome(frame_outcome_of(&answer));
         let report = frame_report_of(&answer);
         progress.write_line(
             outcome,
@@ -158,7 +155,7 @@ pub fn run_frames<
     frames: I,
     listing: Listing<FrameDetail>,
     out: &mut W,
-) -> Result<FrameOutcome, RunFault>
+) -> Result<Outcome, RunFault>
     requires valid { J.valid judge.old (answer_detail listing.detail) }
     requires can { I.can_next frames }
     requires ends { IsFinite (I.remaining frames) }
@@ -183,23 +180,6 @@ pub fn run_frames<
         listing,
     };
     Ok(run_each(alloc, &mut teller, no_frame(listing), frames, out)?)
-}
-
-/// Writes the report of a refusal for which no frame was needed, and a text behind it.
-fn run_refusal<W: CountedWrite>(
-    refusal: &Refusal,
-    behind: &Behind,
-    detail: Detail,
-    out: &mut W,
-) -> Result<FrameOutcome, RunFault>
-    requires { IsBehind detail behind.now }
-    ensures ok { IfOk result (λ end. (plain : Plain) × WritesReport detail.entry (Err refusal.now) (W.contents out.old)
-        (W.contents out.new) (W.whole_writes out.old) (W.whole_writes out.new) plain × (end ≡ plain_outcome plain)) }
-    ensures prefix { OnErr result (WritesReportPrefix detail.entry (Err refusal.now) (W.contents out.old) (W.contents out.new)) }
-    ensures fault { IfErr result (λ fault. fault ≡ RunFault.Write) }
-    ensures count { W.failures out.new ≡ count_after (is_err result) (W.failures out.old) }
-{
-    Ok(write_report(&Err(*refusal), behind, out)?.into())
 }
 
 /// The bytes of a ROM and a certificate by which frames are judged, and what is asked of them.
@@ -243,7 +223,7 @@ impl<'a> Given<'a> {
         cause: &RomFinding,
         detail: Detail<'a>,
         out: &mut W,
-    ) -> Result<FrameOutcome, RunFault>
+    ) -> Result<Outcome, RunFault>
         requires { RefusesShapes self.now.options.now.machine self.now.options.now.window self.now.rom.now self.now.cert.now
             (refusal_of cause.now) }
         ensures report { IfOk result (ReportsRefusal self.now.options.now.machine detail.entry self.now.options.now.window
@@ -256,7 +236,7 @@ impl<'a> Given<'a> {
         ensures count { W.failures out.new ≡ count_after (is_err result) (W.failures out.old) }
     {
         let behind = self.refusal_account(alloc, cause, detail);
-        run_refusal(&cause.refusal(), &behind, detail, out)
+        write_report(&Err(cause.refusal()), &behind, out)
     }
 }
 
@@ -276,7 +256,7 @@ pub fn run_frames_given<
     frames: I,
     listing: Listing<FrameDetail>,
     out: &mut W,
-) -> Result<FrameOutcome, RunFault>
+) -> Result<Outcome, RunFault>
     requires can { I.can_next frames }
     requires ends { IsFinite (I.remaining frames) }
 
@@ -312,7 +292,7 @@ pub fn run_frames_given<
         Err(refused) => {
             let refusal = Refusal::Cert(refused.fault());
             let behind = text_account(options.machine, alloc, refused, detail);
-            return run_refusal(&refusal, &behind, detail, out);
+            return write_report(&Err(refusal), &behind, out);
         }
     };
     let given = Given { rom, cert, options };

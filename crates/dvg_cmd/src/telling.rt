@@ -7,7 +7,7 @@ ghost use Rattle.dvg_cmd.specs.Sent.{joined, Sent};
 ghost use Rattle.dvg_cmd.specs.Telling.{Line, Telling, HoldsOfAll, HoldsOfTaken, no_line, summary_of, Reports, ReportsPrefix, TellsAlike, WritesLine, WritesLinePrefix};
 
 use crate::progress::Progress;
-use dvg_spelling::FrameOutcome;
+use dvg_spelling::Outcome;
 use dvg_text::{CountedWrite, WriteFault};
 use std::alloc::Global;
 
@@ -94,7 +94,7 @@ pub fn run_each<A, T: Tell<A>, I: Iterator<Item = A> + Drop, W: CountedWrite>(
     begun: Progress<T::Tally>,
     things: I,
     out: &mut W,
-) -> Result<FrameOutcome, WriteFault>
+) -> Result<Outcome, WriteFault>
     requires valid { T.valid teller.old }
     requires can { I.can_next things }
     requires ends { IsFinite (I.remaining things) }

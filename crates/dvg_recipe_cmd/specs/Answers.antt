@@ -1,46 +1,31 @@
 -- What lines say of recipes, and of frames that may be theirs. All of it is this project's own.
-use Rattle.std.specs.Prelude.{ℕ, true, List, ◌++◌, codes, decimal, Result, Ok, Err}
+use Rattle.std.specs.Prelude.{ℕ, true, List, ◌++◌, codes, decimal, Ok, Err}
 use Rattle.dvg_text.specs.Devices.{count_after}
 use Rattle.dvg_check.specs.FirstFault.{frame_number}
-use Rattle.dvg_make.specs.declared.fault.EntryFault.{EntryFault}
 use Rattle.dvg_make.specs.declared.fault.EntryFault.TheVariants as entry
 use Rattle.dvg_recipe.specs.declared.verdict.RecipeYes.{RecipeYes}
 use Rattle.dvg_recipe_text.specs.Faults.{text_number}
 use Rattle.dvg_recipe_text.specs.declared.fault.RecipeTextWhy.{RecipeTextWhy}
 use Rattle.dvg_recipe_text.specs.declared.fault.RecipeTextWhy.TheVariants as why
-use Rattle.dvg_spelling.specs.Report.{clocks_text, hex_address, shape_fault_text}
-use Rattle.dvg_spelling.specs.Status.{frames_exit_status}
-use Rattle.dvg_spelling.specs.declared.outcome.FrameOutcome.{FrameOutcome}
-use Rattle.dvg_spelling.specs.declared.outcome.FrameOutcome.TheVariants as outcome
+use Rattle.dvg_spelling.specs.Report.{clocks_text, counts_text, hex_address, shape_fault_text, unmade_text}
+use Rattle.dvg_spelling.specs.declared.report.Caller.TheVariants.{RecipeLine}
+use Rattle.dvg_spelling.specs.declared.outcome.Outcome.{Outcome}
+use Rattle.dvg_spelling.specs.declared.outcome.Outcome.TheVariants as outcome
 use Rattle.dvg_recipe_cmd.specs.declared.answer.RecipeNo.{RecipeNo}
 use Rattle.dvg_recipe_cmd.specs.declared.answer.RecipeNo.TheVariants as no
 use Rattle.dvg_recipe_cmd.specs.declared.answer.RecipeAnswer.{RecipeAnswer}
 use Rattle.dvg_recipe_cmd.specs.declared.answer.RecipeAnswer.TheVariants as answer
-use Rattle.dvg_recipe_cmd.specs.declared.fault.RecipeRunFault.{RecipeRunFault}
-use Rattle.dvg_recipe_cmd.specs.declared.fault.RecipeRunFault.TheVariants as fault
 use Rattle.dvg_recipe_cmd.specs.declared.membership.Membership.{Membership}
 use Rattle.dvg_recipe_cmd.specs.declared.membership.Membership.TheVariants as member
 use Rattle.dvg_recipe_cmd.specs.declared.tally.BelongsTally.{BelongsTally}
 
--- the counts of what is accepted
+-- an accepted recipe
 abbrev pub recipe_yes_text : RecipeYes → List ℕ
-recipe_yes_text y = codes "accepted shapes=" ++ decimal y.shapes ++ codes " words=" ++ decimal y.words ++ codes " depth=" ++ decimal y.depth
+recipe_yes_text y = counts_text y.shapes y.words y.depth
 
 -- a number, and a line of the recipe, counted from 1
 abbrev pub at_line_text : ℕ → ℕ → List ℕ
 at_line_text number line = codes "refused " ++ decimal number ++ codes " recipe line " ++ decimal line
-
--- the line whose call needs an entry
-abbrev pub for_line_text : ℕ → List ℕ
-for_line_text line = codes " for recipe line " ++ decimal line
-
--- why the entry is not made that the call of a line needs
-abbrev pub unmade_text : EntryFault → ℕ → List ℕ
-unmade_text (entry.Unstraight word) line = codes "refused 60 at " ++ hex_address word ++ for_line_text line
-unmade_text entry.Deep line = codes "refused 61" ++ for_line_text line
-unmade_text entry.TooManyWords line = codes "refused 62" ++ for_line_text line
-unmade_text entry.TooManyEntries line = codes "refused 62 by entries" ++ for_line_text line
-unmade_text entry.Memory line = codes "out of memory"
 
 -- why a recipe is not accepted
 abbrev pub recipe_no_text : RecipeNo → List ℕ
@@ -48,7 +33,7 @@ recipe_no_text (no.Text f) = at_line_text (text_number f.why) f.line
 recipe_no_text no.BudgetRange = codes "refused 49"
 recipe_no_text no.RomLength = codes "refused 1"
 recipe_no_text (no.TooLong line) = at_line_text 57 line
-recipe_no_text (no.Make why line) = unmade_text why line
+recipe_no_text (no.Make why line) = unmade_text why (RecipeLine line)
 recipe_no_text (no.Stuck line) = at_line_text 59 line
 recipe_no_text (no.Shape f) = codes "refused " ++ shape_fault_text f
 recipe_no_text (no.Frame why line) = at_line_text (frame_number why) line
@@ -68,31 +53,25 @@ abbrev pub recipe_line_text : RecipeAnswer → List ℕ
 recipe_line_text answer = codes ": " ++ recipe_answer_text answer ++ codes "\n"
 
 -- what the refusal of a text comes to
-abbrev pub text_outcome : RecipeTextWhy → FrameOutcome
+abbrev pub text_outcome : RecipeTextWhy → Outcome
 text_outcome why.Memory = outcome.NoMemory
 text_outcome w = outcome.Refused
 
 -- what a refusal comes to
-abbrev pub no_outcome : RecipeNo → FrameOutcome
+abbrev pub no_outcome : RecipeNo → Outcome
 no_outcome (no.Text f) = text_outcome f.why
 no_outcome (no.Make entry.Memory line) = outcome.NoMemory
 no_outcome no.NoMemory = outcome.NoMemory
 no_outcome n = outcome.Refused
 
 -- what the line of an answer comes to
-abbrev pub recipe_outcome : RecipeAnswer → FrameOutcome
+abbrev pub recipe_outcome : RecipeAnswer → Outcome
 recipe_outcome (answer.Judged (Ok y)) = outcome.Accepted
 recipe_outcome (answer.Judged (Err n)) = no_outcome n
 recipe_outcome (answer.Timed t) = outcome.Accepted
 recipe_outcome (answer.Slow line) = outcome.Refused
 recipe_outcome answer.NoMemory = outcome.NoMemory
 recipe_outcome answer.Unread = outcome.Unread
-
--- the exit status of a run over recipes, which ends with the worst outcome
-abbrev pub recipe_exit_status : Result FrameOutcome RecipeRunFault → ℕ
-recipe_exit_status (Ok worst) = frames_exit_status (Ok worst)
-recipe_exit_status (Err (fault.Plain f)) = frames_exit_status (Err f)
-recipe_exit_status (Err fault.ReadRecipe) = 3
 
 -- what is said of a frame behind its name
 abbrev pub membership_text : Membership → List ℕ
@@ -107,7 +86,7 @@ abbrev pub membership_line_text : Membership → List ℕ
 membership_line_text membership = membership_text membership ++ codes "\n"
 
 -- what the line comes to
-abbrev pub membership_outcome : Membership → FrameOutcome
+abbrev pub membership_outcome : Membership → Outcome
 membership_outcome member.Belongs = outcome.Accepted
 membership_outcome (member.Outside at) = outcome.Refused
 membership_outcome member.WrongLength = outcome.Refused

@@ -8,9 +8,9 @@ use Rattle.dvg_recipe.specs.Recipes.{Recipe}
 use Rattle.dvg_recipe.specs.Lengths.{FitsAreas}
 use Rattle.dvg_recipe_text.specs.declared.reader.ReadRecipe.{ReadRecipe}
 use Rattle.dvg_recipe_text.specs.declared.fault.RecipeTextFault.{RecipeTextFault}
-use Rattle.dvg_cmd.specs.Frames.{FrameOutcome, ReadsFrame}
+use Rattle.dvg_cmd.specs.Frames.{Outcome, ReadsFrame}
 use Rattle.dvg_cmd.specs.Runs.{MOST_FRAME_READ, IsReadTo}
-use Rattle.dvg_cmd.specs.Detail.{IsBehind, behind_text, frame_outcome_behind, has_account}
+use Rattle.dvg_cmd.specs.Detail.{IsBehind, behind_text, outcome_behind, has_account}
 use Rattle.dvg_cmd.specs.declared.detail.Detail.{Detail}
 use Rattle.dvg_cmd.specs.declared.detail.Behind.{Behind}
 use Rattle.dvg_cmd.specs.declared.listing.Listing.{Listing}
@@ -60,7 +60,7 @@ abbrev pub of_frames : Listing Detail → Telling (Membership × Behind) Belongs
 of_frames listing =
     record {
       text = λ answer. membership_line_text answer.0 ++ behind_text answer.1;
-      outcome = λ answer. frame_outcome_behind answer.1 (membership_outcome answer.0);
+      outcome = λ answer. outcome_behind answer.1 (membership_outcome answer.0);
       layout = layout_of listing (has_account listing.detail);
       none = no_frames;
       add = λ tally line. with_membership tally line.answer.0;
@@ -88,12 +88,12 @@ refusal_text refusal what = recipe_no_text refusal ++ codes "\n" ++ behind_text 
 
 -- they were written, and nothing else, by one write if they fit one
 pub record WritesRefusal
-    (detail : Detail) (refusal : RecipeNo) (old new : Option (List ℕ)) (writes writes_after : ℕ) (end : FrameOutcome) : Type 0 where
+    (detail : Detail) (refusal : RecipeNo) (old new : Option (List ℕ)) (writes writes_after : ℕ) (end : Outcome) : Type 0 where
   pub behind : Behind
   pub asked : IsBehind detail behind
   pub written : Appends old new (refusal_text refusal behind)
   pub one_write : TakesOneWrite (refusal_text refusal behind) writes writes_after
-  pub outcome_is : end ≡ frame_outcome_behind behind (no_outcome refusal)
+  pub outcome_is : end ≡ outcome_behind behind (no_outcome refusal)
 
 -- a prefix of them was written
 pub record WritesRefusalPrefix (detail : Detail) (refusal : RecipeNo) (old new : Option (List ℕ)) : Type 0 where
@@ -104,7 +104,7 @@ pub record WritesRefusalPrefix (detail : Detail) (refusal : RecipeNo) (old new :
 -- such a refusal was written
 pub record ReportsRefusal
     (rom : List ℕ) (map : MemoryMap) (given : Result ReadRecipe RecipeTextFault) (detail : Detail) (old new : Option (List ℕ))
-    (writes writes_after : ℕ) (end : FrameOutcome) : Type 0 where
+    (writes writes_after : ℕ) (end : Outcome) : Type 0 where
   pub refusal : RecipeNo
   pub refuses : RefusesRecipe rom map given refusal
   pub writes_it : WritesRefusal detail refusal old new writes writes_after end

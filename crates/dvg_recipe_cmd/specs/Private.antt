@@ -1,3 +1,2 @@
 -- Definitions for the code alone; no clause of a public call uses them.
 pub mod Judging
-pub mod Reading

@@ -11,7 +11,7 @@ use Rattle.dvg_recipe.specs.declared.verdict.RecipeYes.{RecipeYes}
 use Rattle.dvg_recipe.specs.Recipes.{Recipe}
 use Rattle.dvg_recipe.specs.Lengths.{FitsAreas}
 use Rattle.dvg_recipe.specs.Means.{AllMean, AllTake}
-use Rattle.dvg_cmd.specs.Detail.{IsBehind, behind_text, frame_outcome_behind, has_account}
+use Rattle.dvg_cmd.specs.Detail.{IsBehind, behind_text, outcome_behind, has_account}
 use Rattle.dvg_cmd.specs.declared.detail.Detail.{Detail}
 use Rattle.dvg_cmd.specs.declared.detail.Detail.TheVariants as details
 use Rattle.dvg_cmd.specs.declared.timed_judge.ClockOptions.{ClockOptions}
@@ -19,6 +19,8 @@ use Rattle.dvg_cmd.specs.declared.timed_judge.LineClocks.{LineClocks}
 use Rattle.dvg_cmd.specs.declared.timed_judge.LineClocks.TheVariants as line_clocks
 use Rattle.dvg_cmd.specs.declared.detail.Behind.{Behind}
 use Rattle.dvg_cmd.specs.declared.listing.Lines.TheVariants as which
+use Rattle.dvg_spelling.specs.declared.fault.RunFault.{RunFault}
+use Rattle.dvg_spelling.specs.declared.fault.RunFault.TheVariants as fault
 use Rattle.dvg_recipe_cmd.specs.declared.answer.RecipeNo.{RecipeNo}
 use Rattle.dvg_recipe_cmd.specs.declared.answer.RecipeNo.TheVariants as no
 use Rattle.dvg_recipe_cmd.specs.declared.answer.RecipeAnswer.{RecipeAnswer}
@@ -92,6 +94,11 @@ abbrev pub is_unread : RecipeAnswer → Bool
 is_unread Unread = true
 is_unread answer = false
 
+-- the answer is that a recipe's reader failed
+abbrev pub is_unread_recipe : {A : Type 0} → Result A RunFault → Bool
+is_unread_recipe (Err fault.ReadRecipe) = true
+is_unread_recipe answer = false
+
 -- of a recipe that is explained no clocks are asked
 abbrev pub clocks_with : Detail → Option ClockOptions → Option ClockOptions
 clocks_with details.Line clocks = clocks
@@ -123,7 +130,7 @@ abbrev pub of_recipes : Detail → Telling (RecipeAnswer × Behind) (Unit {0})
 of_recipes detail =
     record {
       text = λ answer. recipe_line_text answer.0 ++ behind_text answer.1;
-      outcome = λ answer. frame_outcome_behind answer.1 (recipe_outcome answer.0);
+      outcome = λ answer. outcome_behind answer.1 (recipe_outcome answer.0);
       layout = record { lines = which.All; apart = has_account detail; summary = false };
       none = tt;
       add = λ tally line. tally;

@@ -1,17 +1,13 @@
 //! What is said of a recipe, and its line.
 
 ghost use Rattle.std.specs.Prelude.{◌≡◌, ◌+◌, ◌≤◌, ◌++◌, length, codes};
-ghost use Rattle.dvg_spelling.specs.Report.{clocks_text};
-ghost use Rattle.dvg_recipe_cmd.specs.Answers.{recipe_no_text, recipe_yes_text, recipe_line_text, unmade_text, for_line_text, at_line_text, no_outcome, recipe_outcome};
+ghost use Rattle.dvg_recipe_cmd.specs.Answers.{recipe_no_text, recipe_line_text, at_line_text, no_outcome, recipe_outcome};
 
-use crate::line::Line;
 use dvg_check::{FrameWhy, ShapeFault};
-use dvg_clocks::ClockRange;
 use dvg_make::{EntryFault, MakeFault};
 use dvg_recipe::{RecipeYes, TimedRecipeYes};
 use dvg_recipe_text::{RecipeTextFault, RecipeTextWhy};
-use dvg_spelling::FrameOutcome;
-use itoa::Buffer;
+use dvg_spelling::{Caller, Outcome, Report};
 
 /// Why a recipe is not accepted, by the lines of its text.
 #[derive(Clone, Copy, Debug)]
@@ -70,16 +66,16 @@ impl RecipeNo {
 }
 
 /// What was reported by the line of a refusal.
-pub fn refusal_outcome_of(no: &RecipeNo) -> FrameOutcome
+pub fn refusal_outcome_of(no: &RecipeNo) -> Outcome
     ensures { result ≡ no_outcome no.now }
 {
     match no {
-        RecipeNo::Text(fault) if fault.why == RecipeTextWhy::Memory => FrameOutcome::NoMemory,
+        RecipeNo::Text(fault) if fault.why == RecipeTextWhy::Memory => Outcome::NoMemory,
         RecipeNo::Make {
             why: EntryFault::Memory,
             ..
-        } => FrameOutcome::NoMemory,
-        RecipeNo::NoMemory => FrameOutcome::NoMemory,
+        } => Outcome::NoMemory,
+        RecipeNo::NoMemory => Outcome::NoMemory,
         RecipeNo::Text(_)
         | RecipeNo::BudgetRange
         | RecipeNo::RomLength
@@ -87,111 +83,49 @@ pub fn refusal_outcome_of(no: &RecipeNo) -> FrameOutcome
         | RecipeNo::Make { .. }
         | RecipeNo::Stuck { .. }
         | RecipeNo::Shape(_)
-        | RecipeNo::Frame { .. } => FrameOutcome::Refused,
+        | RecipeNo::Frame { .. } => Outcome::Refused,
     }
 }
 
 /// What was reported by the line of an answer.
-pub fn recipe_outcome_of(answer: &RecipeAnswer) -> FrameOutcome
+pub fn recipe_outcome_of(answer: &RecipeAnswer) -> Outcome
     ensures { result ≡ recipe_outcome answer.now }
 {
     match answer {
-        RecipeAnswer::Judged(Ok(_)) | RecipeAnswer::Timed(_) => FrameOutcome::Accepted,
+        RecipeAnswer::Judged(Ok(_)) | RecipeAnswer::Timed(_) => Outcome::Accepted,
         RecipeAnswer::Judged(Err(no)) => refusal_outcome_of(no),
-        RecipeAnswer::Slow { .. } => FrameOutcome::Refused,
-        RecipeAnswer::NoMemory => FrameOutcome::NoMemory,
-        RecipeAnswer::Unread => FrameOutcome::Unread,
+        RecipeAnswer::Slow { .. } => Outcome::Refused,
+        RecipeAnswer::NoMemory => Outcome::NoMemory,
+        RecipeAnswer::Unread => Outcome::Unread,
     }
 }
 
-/// Puts the counts of what is accepted behind a line.
-fn push_yes(line: &mut Line, yes: &RecipeYes)
-    requires { length line.old ≤ 2 }
-    ensures text { line.new ≡ line.old ++ recipe_yes_text yes.now }
-    ensures short { length line.new ≤ 64 }
-{
-    line.push_count(b"accepted shapes=", yes.shapes);
-    line.push_count(b" words=", yes.words);
-    line.push_count(b" depth=", u32::from(yes.depth));
-}
-
-/// Puts the clocks of what is accepted behind a line: just so many, or so many at most.
-fn push_clocks(line: &mut Line, clocks: &ClockRange)
-    requires { length line.old ≤ 64 }
-    ensures text { line.new ≡ line.old ++ clocks_text clocks.now }
-    ensures short { length line.new ≤ 127 }
-{
-    line.push(if clocks.least == clocks.most {
-        b" clocks="
-    } else {
-        b" clocks<="
-    });
-    line.push(Buffer::new().format(clocks.most).as_bytes());
-}
-
 /// Puts a number and a line of the recipe behind a line.
-fn push_at_line(line: &mut Line, number: u8, at: u32)
+fn push_at_line(line: &mut Report, number: u8, at: u32)
     requires { length line.old ≤ 2 }
     ensures text { line.new ≡ line.old ++ at_line_text number at }
-    ensures short { length line.new ≤ 127 }
+    ensures short { length line.new ≤ 95 }
 {
     line.push_count(b"refused ", u32::from(number));
     line.push_count(b" recipe line ", at);
 }
 
-/// Puts the line of a call behind a line.
-fn push_for_line(line: &mut Line, at: u32)
-    requires { length line.old ≤ 60 }
-    ensures text { line.new ≡ line.old ++ for_line_text at }
-    ensures short { length line.new ≤ 127 }
-{
-    line.push_count(b" for recipe line ", at);
-}
-
-/// Puts why the entry of a call can't be made, and the line of the call, behind a line.
-#[tactic(auto, using(std::proofs::Common::append_assoc))]
-fn push_unmade(line: &mut Line, why: EntryFault, at: u32)
-    requires { length line.old ≤ 2 }
-    ensures text { line.new ≡ line.old ++ unmade_text why at }
-    ensures short { length line.new ≤ 127 }
-{
-    match why {
-        EntryFault::Unstraight { word } => {
-            line.push_address(b"refused 60 at ", word);
-            push_for_line(line, at);
-        }
-        EntryFault::Deep => {
-            line.push(b"refused 61");
-            push_for_line(line, at);
-        }
-        EntryFault::TooManyWords => {
-            line.push(b"refused 62");
-            push_for_line(line, at);
-        }
-        EntryFault::TooManyEntries => {
-            line.push(b"refused 62 by entries");
-            push_for_line(line, at);
-        }
-        EntryFault::Memory => line.push(b"out of memory"),
-    }
-}
-
 /// Puts why a recipe is not accepted behind a line.
-pub fn push_no(line: &mut Line, no: &RecipeNo)
+pub fn push_no(line: &mut Report, no: &RecipeNo)
     requires { length line.old ≤ 2 }
     ensures text { line.new ≡ line.old ++ recipe_no_text no.now }
-    ensures short { length line.new ≤ 127 }
+    ensures short { length line.new ≤ 95 }
 {
     match *no {
         RecipeNo::Text(fault) => push_at_line(line, fault.number(), fault.line),
         RecipeNo::BudgetRange => line.push(b"refused 49"),
         RecipeNo::RomLength => line.push(b"refused 1"),
         RecipeNo::TooLong { line: at } => push_at_line(line, 57, at),
-        RecipeNo::Make { why, line: at } => push_unmade(line, why, at),
+        RecipeNo::Make { why, line: at } => line.push_unmade(why, Caller::RecipeLine(at)),
         RecipeNo::Stuck { line: at } => push_at_line(line, 59, at),
         RecipeNo::Shape(fault) => {
             line.push_count(b"refused ", u32::from(fault.number()));
-            line.push_entry(b" shape ", fault.addr, fault.key);
+            line.push_entry_name(b" shape ", fault.addr, fault.key);
             line.push_address(b" at ", fault.word);
         }
         RecipeNo::Frame { why, line: at } => push_at_line(line, why.number(), at),
@@ -200,26 +134,26 @@ pub fn push_no(line: &mut Line, no: &RecipeNo)
 }
 
 /// The line of a refusal for which no recipe is named, with its LF. Takes no memory.
-pub fn refusal_line_of(no: &RecipeNo) -> Line
+pub fn refusal_line_of(no: &RecipeNo) -> Report
     ensures { result ≡ recipe_no_text no.now ++ codes "\n" }
 {
-    let mut line = Line::new();
+    let mut line = Report::new();
     push_no(&mut line, no);
     line.ended()
 }
 
-/// The line of an answer, from behind the recipe's name on, with its LF: 128 bytes at most. Takes no memory.
-pub fn recipe_line_of(answer: &RecipeAnswer) -> Line
-    ensures text { result ≡ recipe_line_text answer.now }
+/// The line of an answer, from behind the recipe's name on, with its LF: 96 bytes at most. Takes no memory.
+pub fn recipe_line_of(answer: &RecipeAnswer) -> Report
+    ensures { result ≡ recipe_line_text answer.now }
 {
-    let mut line = Line::new();
+    let mut line = Report::new();
     line.push(b": ");
     match answer {
-        RecipeAnswer::Judged(Ok(yes)) => push_yes(&mut line, yes),
+        RecipeAnswer::Judged(Ok(yes)) => line.push_accepted(yes.shapes, yes.words, yes.depth),
         RecipeAnswer::Judged(Err(no)) => push_no(&mut line, no),
         RecipeAnswer::Timed(timed) => {
-            push_yes(&mut line, &timed.yes);
-            push_clocks(&mut line, &timed.clocks);
+            line.push_accepted(timed.yes.shapes, timed.yes.words, timed.yes.depth);
+            line.push_clocks(&timed.clocks);
         }
         RecipeAnswer::Slow { line: at } => push_at_line(&mut line, 58, *at),
         RecipeAnswer::NoMemory => line.push(b"out of memory"),

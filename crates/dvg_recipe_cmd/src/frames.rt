@@ -23,7 +23,7 @@ use dvg_cmd::{
 use dvg_labels::Labels;
 use dvg_recipe::{Leaving, NotMember, belongs, too_long};
 use dvg_recipe_text::{ReadRecipe, RecipeTextFault};
-use dvg_spelling::{FrameOutcome, RunFault};
+use dvg_spelling::{Outcome, RunFault};
 use dvg_text::{CountedRead, CountedWrite, WriteFault, write_lines};
 use dvg_words::{FrameImage, Machine, RomImage, RomMap};
 use std::alloc::{AllocError, Global};
@@ -181,7 +181,7 @@ impl<'a, R: CountedRead + Drop> Tell<NamedFrame<R>> for MemberTeller<'a> {
             reader,
             self.listing.detail,
         );
-        let outcome = behind.frame_outcome(membership_outcome_of(membership));
+        let outcome = behind.outcome(membership_outcome_of(membership));
         let line = membership_line_of(membership);
         progress.write_line(outcome, name.as_str(), line.as_bytes(), behind.text(), out)?;
         progress.tally.add(membership);
@@ -204,7 +204,7 @@ fn write_refusal<W: CountedWrite>(
     no: &RecipeNo,
     detail: Detail,
     out: &mut W,
-) -> Result<FrameOutcome, RunFault>
+) -> Result<Outcome, RunFault>
     ensures ok { IfOk result (λ end. WritesRefusal detail.entry no.now (W.contents out.old) (W.contents out.new)
         (W.whole_writes out.old) (W.whole_writes out.new) end) }
     ensures prefix { OnErr result (WritesRefusalPrefix detail.entry no.now (W.contents out.old) (W.contents out.new)) }
@@ -220,7 +220,7 @@ fn write_refusal<W: CountedWrite>(
     );
     let line = refusal_line_of(no);
     write_lines(line.as_bytes(), behind.text().as_bytes(), &[], out)?;
-    Ok(behind.frame_outcome(refusal_outcome_of(no)))
+    Ok(behind.outcome(refusal_outcome_of(no)))
 }
 
 /// Tells of frames, one after another, whether they are one of a recipe's, and writes a line for each that the listing has: the name, which
@@ -240,7 +240,7 @@ pub fn run_belongs<
     frames: I,
     listing: Listing<Detail>,
     out: &mut W,
-) -> Result<FrameOutcome, RunFault>
+) -> Result<Outcome, RunFault>
     requires can { I.can_next frames }
     requires ends { IsFinite (I.remaining frames) }
 

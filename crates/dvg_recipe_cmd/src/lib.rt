@@ -7,10 +7,8 @@
 
 mod account;
 mod answer;
-mod fault;
 mod frames;
 mod judging;
-mod line;
 mod membership;
 mod printing;
 mod reading;
@@ -22,10 +20,8 @@ pub use account::Explained;
 pub use answer::{RecipeAnswer, RecipeNo, recipe_line_of, recipe_outcome_of};
 pub use dvg_recipe::{RecipeYes, TimedRecipeYes};
 pub use dvg_recipe_text::{ReadRecipe, RecipeTextFault, RecipeTextWhy};
-pub use fault::{RecipeRunFault, recipe_message_of, recipe_status_of};
 pub use frames::{Recorded, membership_of, ready, run_belongs};
 pub use judging::{JudgedRecipe, RecipeOptions, Wanted, Witness, judge_text, time_text};
-pub use line::Line;
 pub use membership::{Membership, membership_line_of, membership_outcome_of};
 pub use printing::run_print;
 pub use reading::load_recipe;

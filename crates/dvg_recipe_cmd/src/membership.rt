@@ -3,8 +3,7 @@
 ghost use Rattle.std.specs.Prelude.{◌≡◌};
 ghost use Rattle.dvg_recipe_cmd.specs.Answers.{membership_line_text, membership_outcome};
 
-use crate::line::Line;
-use dvg_spelling::FrameOutcome;
+use dvg_spelling::{Outcome, Report};
 
 /// What a line says of a frame.
 #[derive(Clone, Copy, Debug, PartialEq, Eq)]
@@ -22,22 +21,22 @@ pub enum Membership {
 }
 
 /// What was reported by the line of an answer.
-pub fn membership_outcome_of(membership: Membership) -> FrameOutcome
+pub fn membership_outcome_of(membership: Membership) -> Outcome
     ensures { result ≡ membership_outcome membership }
 {
     match membership {
-        Membership::Belongs => FrameOutcome::Accepted,
-        Membership::Outside { .. } | Membership::WrongLength => FrameOutcome::Refused,
-        Membership::NoMemory => FrameOutcome::NoMemory,
-        Membership::Unread => FrameOutcome::Unread,
+        Membership::Belongs => Outcome::Accepted,
+        Membership::Outside { .. } | Membership::WrongLength => Outcome::Refused,
+        Membership::NoMemory => Outcome::NoMemory,
+        Membership::Unread => Outcome::Unread,
     }
 }
 
-/// The line of an answer, from behind the frame's name on, with its LF: 128 bytes at most. Takes no memory.
-pub fn membership_line_of(membership: Membership) -> Line
+/// The line of an answer, from behind the frame's name on, with its LF: 96 bytes at most. Takes no memory.
+pub fn membership_line_of(membership: Membership) -> Report
     ensures { result ≡ membership_line_text membership }
 {
-    let mut line = Line::new();
+    let mut line = Report::new();
     match membership {
         Membership::Belongs => line.push(b": belongs"),
         Membership::Outside { at } => line.push_address(b": outside at ", at),

@@ -1,11 +1,10 @@
 //! Writing the one spelling of a recipe's text.
 
 use crate::answer::{RecipeAnswer, RecipeNo, recipe_line_of, recipe_outcome_of};
-use crate::fault::RecipeRunFault;
 use crate::reading::read_text;
 use dvg_labels::Labels;
 use dvg_recipe_text::print_recipe;
-use dvg_spelling::{FrameOutcome, RunFault};
+use dvg_spelling::{Outcome, RunFault};
 use dvg_text::{CountedRead, CountedWrite, write_bytes, write_lines};
 use std::alloc::Global;
 
@@ -17,21 +16,17 @@ pub fn run_print<R: CountedRead, W: CountedWrite, E: CountedWrite>(
     labels: Option<&Labels>,
     out: &mut W,
     refusals: &mut E,
-) -> Result<FrameOutcome, RecipeRunFault> {
+) -> Result<Outcome, RunFault> {
     let text = read_text(alloc, recipe)?;
     match print_recipe(alloc, &text, labels) {
         Ok(printed) => {
-            if write_bytes(&printed, out).is_err() {
-                return Err(RecipeRunFault::Plain(RunFault::Write));
-            }
-            Ok(FrameOutcome::Accepted)
+            write_bytes(&printed, out)?;
+            Ok(Outcome::Accepted)
         }
         Err(fault) => {
             let answer = RecipeAnswer::Judged(Err(RecipeNo::Text(fault)));
             let line = recipe_line_of(&answer);
-            if write_lines(name.as_bytes(), line.as_bytes(), &[], refusals).is_err() {
-                return Err(RecipeRunFault::Plain(RunFault::Write));
-            }
+            write_lines(name.as_bytes(), line.as_bytes(), &[], refusals)?;
             Ok(recipe_outcome_of(&answer))
         }
     }

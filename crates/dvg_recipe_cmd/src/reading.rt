@@ -1,18 +1,15 @@
 //! Reading texts of recipes and frames to their limits.
 
-ghost use Rattle.std.specs.Prelude.{◌≡◌, IfOk};
+ghost use Rattle.std.specs.Prelude.{◌≡◌, ◌⊎◌, IfOk, IfErr};
 ghost use Rattle.dvg_text.specs.Devices.{count_after};
-ghost use Rattle.dvg_recipe_cmd.specs.Recipes.{ReadsRecipe};
-ghost use Rattle.dvg_recipe_cmd.specs.Private.Reading.{blames_reader, is_unread_recipe, untaken_fault};
-ghost use Rattle.dvg_recipe_cmd.specs.declared.reading.Untaken.TheVariants.{NoMemory};
+ghost use Rattle.dvg_recipe_cmd.specs.Recipes.{ReadsRecipe, is_unread_recipe};
 
-use crate::fault::RecipeRunFault;
 use dvg_cmd::fill;
 use dvg_labels::Labels;
 use dvg_recipe_text::{ReadRecipe, RecipeTextFault, read_recipe};
 use dvg_spelling::RunFault;
 use dvg_text::CountedRead;
-use std::alloc::{AllocError, Global};
+use std::alloc::Global;
 
 /// How many bytes of a text are read at once.
 const PIECE: usize = 4096;
@@ -21,37 +18,11 @@ const PIECE: usize = 4096;
 /// stands behind them: 4,097 lines have 819,400 bytes at most.
 const MOST_READ: usize = 201 * PIECE;
 
-/// Why there is no text to be had from a reader.
-#[derive(Clone, Copy, Debug, PartialEq, Eq)]
-pub enum Untaken {
-    /// The reader failed.
-    Unread,
-    NoMemory,
-}
-
-impl From<AllocError> for Untaken {
-    ghost from_gives = { λ _ why. why ≡ NoMemory };
-
-    fn from(_error: AllocError) -> Untaken {
-        Untaken::NoMemory
-    }
-}
-
-impl From<Untaken> for RecipeRunFault {
-    ghost from_gives = { λ why fault. fault ≡ untaken_fault why };
-
-    fn from(why: Untaken) -> RecipeRunFault {
-        match why {
-            Untaken::Unread => RecipeRunFault::ReadRecipe,
-            Untaken::NoMemory => RecipeRunFault::Plain(RunFault::Memory),
-        }
-    }
-}
-
 /// The text that a reader holds, or as much of it as is read of any.
-pub fn read_text<R: CountedRead>(alloc: Global, reader: &mut R) -> Result<Vec<u8>, Untaken>
+pub fn read_text<R: CountedRead>(alloc: Global, reader: &mut R) -> Result<Vec<u8>, RunFault>
     ensures ok { IfOk result (λ text. ReadsRecipe (R.remaining reader.old) (R.remaining reader.new) text.items) }
-    ensures count { R.failures reader.new ≡ count_after (blames_reader result) (R.failures reader.old) }
+    ensures fault { IfErr result (λ fault. (fault ≡ RunFault.ReadRecipe) ⊎ (fault ≡ RunFault.Memory)) }
+    ensures count { R.failures reader.new ≡ count_after (is_unread_recipe result) (R.failures reader.old) }
 {
     let mut text = Vec::new(alloc);
     let mut piece = [0; PIECE];
@@ -59,7 +30,7 @@ pub fn read_text<R: CountedRead>(alloc: Global, reader: &mut R) -> Result<Vec<u8
     'reading: while left > 0 {
         let room = left.min(PIECE);
         let Ok(len) = fill(reader, &mut piece[..room]) else {
-            return Err(Untaken::Unread);
+            return Err(RunFault::ReadRecipe);
         };
         text.extend_from_slice(&piece[..len])?;
         left = if len == room { left - room } else { 0 };
@@ -72,7 +43,7 @@ pub fn load_recipe<R: CountedRead>(
     alloc: Global,
     recipe: &mut R,
     labels: Option<&Labels>,
-) -> Result<Result<ReadRecipe, RecipeTextFault>, RecipeRunFault>
+) -> Result<Result<ReadRecipe, RecipeTextFault>, RunFault>
     ensures count { R.failures recipe.new ≡ count_after (is_unread_recipe result) (R.failures recipe.old) }
 {
     let text = read_text(alloc, recipe)?;

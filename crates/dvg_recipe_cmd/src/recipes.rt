@@ -12,12 +12,12 @@ ghost use Rattle.dvg_cmd.specs.declared.detail.Detail.TheVariants as details;
 use crate::account::Explained;
 use crate::answer::{RecipeAnswer, recipe_line_of, recipe_outcome_of};
 use crate::judging::{RecipeOptions, Wanted, Witness, judge_text, time_text};
-use crate::reading::{Untaken, read_text};
+use crate::reading::read_text;
 use dvg_cmd::{
     Behind, ClockOptions, Detail, Layout, Lines, Progress, Tell, run_each, unread_account,
 };
 use dvg_labels::Labels;
-use dvg_spelling::{FrameOutcome, RunFault};
+use dvg_spelling::{Outcome, RunFault};
 use dvg_text::{CountedRead, CountedWrite, WriteFault, write_bytes};
 use dvg_words::Machine;
 use std::alloc::Global;
@@ -42,7 +42,7 @@ pub struct NamedRecipe<R> {
 /// What a run reported that looks for a witness, and whether it wrote one.
 #[derive(Clone, Copy, Debug, PartialEq, Eq)]
 pub struct WitnessEnd {
-    pub outcome: FrameOutcome,
+    pub outcome: Outcome,
     pub is_written: bool,
 }
 
@@ -158,8 +158,8 @@ fn answer_read<R: CountedRead>(
 {
     let text = match read_text(alloc, reader) {
         Ok(text) => text,
-        Err(Untaken::Unread) => return unread(alloc, wanted),
-        Err(Untaken::NoMemory) => return no_memory(wanted),
+        Err(RunFault::Memory) => return no_memory(wanted),
+        Err(_) => return unread(alloc, wanted),
     };
     let explained = Explained {
         rom,
@@ -230,7 +230,7 @@ impl<'a, R: CountedRead + Drop> Tell<NamedRecipe<R>> for RecipeTeller<'a> {
             self.wanted,
         );
         self.witness = witness;
-        let outcome = behind.frame_outcome(recipe_outcome_of(&answer));
+        let outcome = behind.outcome(recipe_outcome_of(&answer));
         let line = recipe_line_of(&answer);
         progress.write_line(outcome, name.as_str(), line.as_bytes(), behind.text(), out)?;
         progress.add(outcome);
@@ -269,7 +269,7 @@ pub fn run_recipes<
     detail: Detail<'a>,
     recipes: I,
     out: &mut W,
-) -> Result<FrameOutcome, RunFault>
+) -> Result<Outcome, RunFault>
     requires can { I.can_next recipes }
     requires ends { IsFinite (I.remaining recipes) }
 

@@ -1,13 +1,12 @@
 //! Counts the lines of frames by what they say of a recipe, and spells the line with these counts.
 
-ghost use Rattle.std.specs.Prelude.{◌≡◌, ◌∷◌, [], true};
-ghost use Rattle.dvg_text.specs.Devices.{count_after};
+ghost use Rattle.std.specs.Prelude.{◌≡◌, ◌∷◌, []};
 ghost use Rattle.dvg_recipe_cmd.specs.Answers.{belongs_summary_text, with_membership};
 
-use crate::line::Line;
 use crate::membership::Membership;
 use dvg_cmd::Summary;
-use dvg_text::{CountedWrite, WriteFault, write_lines};
+use dvg_spelling::{Summary as SummaryLine, count, push_count};
+use dvg_text::{CountedWrite, WriteFault, push_bytes, write_lines};
 
 /// How many frames belong to a recipe, how many don't, and how many could not be judged. Each count stops at 4,294,967,295.
 #[derive(Clone, Copy, Debug, PartialEq, Eq)]
@@ -22,13 +21,6 @@ pub struct BelongsTally {
     pub unread: u32,
     /// How often memory was out.
     pub no_memory: u32,
-}
-
-/// One more.
-fn count(counted: &mut u32)
-    ensures { counted.new ≡ count_after true counted.old }
-{
-    *counted = counted.saturating_add(1);
 }
 
 impl BelongsTally {
@@ -60,16 +52,17 @@ impl BelongsTally {
 }
 
 /// The line that tells a tally, with its LF. Takes no memory.
-pub fn belongs_summary_of(tally: &BelongsTally) -> Line
-    ensures { result ≡ belongs_summary_text tally.now }
+pub fn belongs_summary_of(tally: &BelongsTally) -> SummaryLine
+    ensures { result.items ≡ belongs_summary_text tally.now }
 {
-    let mut line = Line::new();
-    line.push_count(b"belongs=", tally.belongs);
-    line.push_count(b" outside=", tally.outside);
-    line.push_count(b" refused-2=", tally.refused);
-    line.push_count(b" unreadable=", tally.unread);
-    line.push_count(b" out-of-memory=", tally.no_memory);
-    line.ended()
+    let mut line = SummaryLine::new();
+    push_count(&mut line, b"belongs=", tally.belongs);
+    push_count(&mut line, b" outside=", tally.outside);
+    push_count(&mut line, b" refused-2=", tally.refused);
+    push_count(&mut line, b" unreadable=", tally.unread);
+    push_count(&mut line, b" out-of-memory=", tally.no_memory);
+    push_bytes(&mut line, b"\n");
+    line
 }
 
 impl Summary for BelongsTally {
@@ -77,6 +70,6 @@ impl Summary for BelongsTally {
 
     fn write<W: CountedWrite>(&self, out: &mut W) -> Result<(), WriteFault> {
         let line = belongs_summary_of(self);
-        write_lines(line.as_bytes(), &[], &[], out)
+        write_lines(line.as_slice(), &[], &[], out)
     }
 }

@@ -16,6 +16,8 @@ use Rattle.dvg_make.specs.declared.judging.FrameRefusal.{FrameRefusal}
 use Rattle.dvg_make.specs.declared.judging.FrameRefusal.TheVariants.{Make, NoMemory, Check}
 use Rattle.dvg_make.specs.declared.fault.EntryFault.{EntryFault}
 use Rattle.dvg_make.specs.declared.fault.EntryFault.TheVariants as entry
+use Rattle.dvg_spelling.specs.declared.report.Caller.{Caller}
+use Rattle.dvg_spelling.specs.declared.report.Caller.TheVariants as caller
 use Rattle.dvg_spelling.specs.declared.outcome.FrameAnswer.{FrameAnswer}
 use Rattle.dvg_clocks.specs.declared.clocks.ClockRange.{ClockRange}
 use Rattle.dvg_spelling.specs.declared.outcome.FrameAnswer.TheVariants.{Judged, Timed, Slow, Unread}
@@ -55,9 +57,13 @@ refusal_text refusal.IndexMemory = codes "50"
 refusal_text (refusal.Shape f) = shape_fault_text f
 refusal_text (refusal.Frame f) = frame_fault_text f
 
--- the counts of what is accepted
+-- the counts of what is accepted: how many entries, words and return places
+abbrev pub counts_text : ℕ → ℕ → ℕ → List ℕ
+counts_text shapes words depth = codes "accepted shapes=" ++ decimal shapes ++ codes " words=" ++ decimal words ++ codes " depth=" ++ decimal depth
+
+-- an accepted frame
 abbrev pub accepted_text : Yes → List ℕ
-accepted_text y = codes "accepted shapes=" ++ decimal y.shapes ++ codes " words=" ++ decimal y.words ++ codes " depth=" ++ decimal y.depth
+accepted_text y = counts_text y.shapes y.words y.depth
 
 -- the line of a verdict, without its LF
 abbrev pub verdict_text : Result Yes Refusal → List ℕ
@@ -68,23 +74,26 @@ verdict_text (Err r) = codes "refused " ++ refusal_text r
 abbrev pub report_text : Result Yes Refusal → List ℕ
 report_text verdict = verdict_text verdict ++ codes "\n"
 
+-- ---- entries that are not made
+
+-- whose call needs the entry: the frame's at a word address, or that of the recipe's line
+abbrev pub caller_text : Caller → List ℕ
+caller_text (caller.Frame at) = codes " for frame at " ++ hex_address at
+caller_text (caller.RecipeLine line) = codes " for recipe line " ++ decimal line
+
+-- why the entry is not made that a call needs
+abbrev pub unmade_text : EntryFault → Caller → List ℕ
+unmade_text (entry.Unstraight word) by = codes "refused 60 at " ++ hex_address word ++ caller_text by
+unmade_text entry.Deep by = codes "refused 61" ++ caller_text by
+unmade_text entry.TooManyWords by = codes "refused 62" ++ caller_text by
+unmade_text entry.TooManyEntries by = codes "refused 62 by entries" ++ caller_text by
+unmade_text entry.Memory by = codes "out of memory"
+
 -- ---- frames that are judged by their own certificates
-
--- the word address of the frame's call that needs the entry
-abbrev pub for_frame_text : ℕ → List ℕ
-for_frame_text at = codes " for frame at " ++ hex_address at
-
--- why the entry is not made that the call at a word address needs
-abbrev pub call_fault_text : ℕ → EntryFault → List ℕ
-call_fault_text at (entry.Unstraight word) = codes "refused 60 at " ++ hex_address word ++ for_frame_text at
-call_fault_text at entry.Deep = codes "refused 61" ++ for_frame_text at
-call_fault_text at entry.TooManyWords = codes "refused 62" ++ for_frame_text at
-call_fault_text at entry.TooManyEntries = codes "refused 62 by entries" ++ for_frame_text at
-call_fault_text at entry.Memory = codes "out of memory"
 
 -- why a frame is refused by its own certificate
 abbrev pub frame_refusal_text : FrameRefusal → List ℕ
-frame_refusal_text (Make at why) = call_fault_text at why
+frame_refusal_text (Make at why) = unmade_text why (caller.Frame at)
 frame_refusal_text NoMemory = codes "out of memory"
 frame_refusal_text (Check refusal.IndexMemory) = codes "out of memory"
 frame_refusal_text (Check r) = codes "refused " ++ refusal_text r

@@ -6,8 +6,8 @@ use Rattle.dvg_make.specs.Refusals.{fault_number, make_fault_of}
 use Rattle.dvg_make.specs.declared.judging.FrameRefusal.TheVariants.{Make, Check}
 use Rattle.dvg_spelling.specs.declared.outcome.FrameAnswer.{FrameAnswer}
 use Rattle.dvg_spelling.specs.declared.outcome.FrameAnswer.TheVariants.{Judged, Slow}
-use Rattle.dvg_spelling.specs.declared.outcome.FrameOutcome.{FrameOutcome}
-use Rattle.dvg_spelling.specs.declared.outcome.FrameOutcome.TheVariants.{Accepted, Refused, NoMemory, Unread}
+use Rattle.dvg_spelling.specs.declared.outcome.Outcome.{Outcome}
+use Rattle.dvg_spelling.specs.declared.outcome.Outcome.TheVariants.{Accepted, Refused, NoMemory, Unread}
 use Rattle.dvg_spelling.specs.Outcomes.{frame_outcome_of}
 pub use Rattle.dvg_spelling.specs.declared.tally.Tally.{Tally}
 
@@ -23,7 +23,7 @@ abbrev pub no_lines : Tally
 no_lines = record { accepted = 0; refused = replicate 256 0; unread = 0; no_memory = 0 }
 
 -- one line more of this outcome, with this number if it is a refusal; a count stops at the greatest u32
-abbrev pub with_outcome : FrameOutcome → ℕ → Tally → Tally
+abbrev pub with_outcome : Outcome → ℕ → Tally → Tally
 with_outcome Accepted number t = record t { accepted = count_after true t.accepted }
 with_outcome Refused number t = record t { refused = slice_set t.refused number (count_after true (slice_index t.refused number)) }
 with_outcome NoMemory number t = record t { no_memory = count_after true t.no_memory }

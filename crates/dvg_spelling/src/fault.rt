@@ -1,9 +1,8 @@
 //! Why runs ended before what they write was written, or never began.
 
 ghost use Rattle.std.specs.Prelude.{◌≡◌};
-ghost use Rattle.dvg_spelling.specs.Faults.{run_number, make_run_number, frames_run_number, frame_blamed, told_fault};
+ghost use Rattle.dvg_spelling.specs.Faults.{run_number, make_run_number, frame_blamed, told_fault};
 ghost use Rattle.dvg_spelling.specs.declared.fault.MakeRunFault.TheVariants as maker;
-ghost use Rattle.dvg_spelling.specs.declared.fault.FramesRunFault.TheVariants as faults;
 ghost use Rattle.dvg_make.specs.declared.fault.MakeFault.TheVariants as making;
 
 use crate::status::text_of;
@@ -12,7 +11,7 @@ use dvg_text::WriteFault;
 use std::alloc::{AllocError, AllocFailed};
 use thiserror::Error;
 
-/// Why a run ended before its report was written, or never began. The numbers are 70 to 74, in this order.
+/// Why a run ended before its report was written, or never began. The numbers are 70 to 74.
 #[derive(Clone, Copy, Debug, PartialEq, Eq, Error)]
 #[error("{}", text_of(self))]
 pub enum RunFault {
@@ -20,6 +19,8 @@ pub enum RunFault {
     ReadRom,
     /// 71: the frame's reader failed.
     ReadFrame,
+    /// 71: the recipe's reader failed.
+    ReadRecipe,
     /// 72: the certificate's reader failed.
     ReadCert,
     /// 73: the writer failed, or took no byte.
@@ -36,7 +37,7 @@ impl RunFault {
     {
         match self {
             RunFault::ReadRom => 70,
-            RunFault::ReadFrame => 71,
+            RunFault::ReadFrame | RunFault::ReadRecipe => 71,
             RunFault::ReadCert => 72,
             RunFault::Write => 73,
             RunFault::Memory => 74,
@@ -55,64 +56,56 @@ impl From<WriteFault> for RunFault {
     }
 }
 
-/// Why a run of the maker wrote no certificate, or only a prefix of one.
+impl From<AllocError> for RunFault {
+    ghost use Rattle.std.specs.Prelude.{◌≡◌};
+    ghost use Rattle.dvg_spelling.specs.declared.fault.RunFault.TheVariants.{Memory};
+
+    ghost from_gives = { λ _ fault. fault ≡ Memory };
+
+    fn from(_error: AllocError) -> RunFault {
+        RunFault::Memory
+    }
+}
+
+/// Why a run of the maker wrote no certificate, or only a prefix of one. A run for roots alone has no fault of a frame.
 #[derive(Clone, Copy, Debug, PartialEq, Eq, Error)]
 pub enum MakeRunFault {
     /// 1: the ROM has a wrong length.
     #[error("the ROM has a wrong length")]
     RomLength,
-    /// 60 to 63: no certificate is made.
+    /// 2: this frame, counted from 0, has a wrong length.
+    #[error("the frame has a wrong length")]
+    FrameLength { frame: usize },
+    /// 60 to 63: no certificate is made, with no frame to blame.
     #[error("{0}")]
     Make(MakeFault),
+    /// 60 to 63: the entry is not made that this call needs.
+    #[error("{why}")]
+    Call { call: FrameCall, why: EntryFault },
     /// 70: the ROM's reader failed.
     #[error("{}", RunFault::ReadRom)]
     ReadRom,
+    /// 71: a frame's reader failed.
+    #[error("{}", RunFault::ReadFrame)]
+    ReadFrame,
     /// 73: the writer failed, or took no byte.
     #[error("{}", RunFault::Write)]
     Write,
 }
 
 impl MakeRunFault {
-    /// The number of the fault: 1, 60 to 63, 70 or 73.
+    /// The number of the fault: 1, 2, 60 to 63, 70, 71 or 73.
     pub fn number(self) -> u8
         ensures { result ≡ make_run_number self }
     {
         match self {
             MakeRunFault::RomLength => 1,
+            MakeRunFault::FrameLength { .. } => 2,
             MakeRunFault::Make(fault) => fault.number(),
+            MakeRunFault::Call { why, .. } => MakeFault::from(why).number(),
             MakeRunFault::ReadRom => 70,
+            MakeRunFault::ReadFrame => 71,
             MakeRunFault::Write => 73,
-        }
-    }
-}
-
-/// Why a run of the maker for frames wrote no certificate, or only a prefix of one.
-#[derive(Clone, Copy, Debug, PartialEq, Eq, Error)]
-pub enum FramesRunFault {
-    /// 1, 60 to 63, 70 and 73, with no frame to blame.
-    #[error("{0}")]
-    Plain(MakeRunFault),
-    /// 2: this frame, counted from 0, has a wrong length.
-    #[error("the frame has a wrong length")]
-    FrameLength { frame: usize },
-    /// 60 to 63: the entry is not made that this call needs.
-    #[error("{why}")]
-    Call { call: FrameCall, why: EntryFault },
-    /// 71: a frame's reader failed.
-    #[error("{}", RunFault::ReadFrame)]
-    ReadFrame,
-}
-
-impl FramesRunFault {
-    /// The number of the fault: 1, 2, 60 to 63, 70, 71 or 73.
-    pub fn number(self) -> u8
-        ensures { result ≡ frames_run_number self }
-    {
-        match self {
-            FramesRunFault::Plain(fault) => fault.number(),
-            FramesRunFault::FrameLength { .. } => 2,
-            FramesRunFault::Call { why, .. } => MakeFault::from(why).number(),
-            FramesRunFault::ReadFrame => 71,
         }
     }
 
@@ -121,57 +114,51 @@ impl FramesRunFault {
         ensures { result ≡ frame_blamed self }
     {
         match self {
-            FramesRunFault::FrameLength { frame } => Some(frame),
-            FramesRunFault::Call { call, .. } => Some(call.frame),
-            FramesRunFault::Plain(_) | FramesRunFault::ReadFrame => None,
+            MakeRunFault::FrameLength { frame } => Some(frame),
+            MakeRunFault::Call { call, .. } => Some(call.frame),
+            MakeRunFault::RomLength
+            | MakeRunFault::Make(_)
+            | MakeRunFault::ReadRom
+            | MakeRunFault::ReadFrame
+            | MakeRunFault::Write => None,
         }
     }
 }
 
-impl From<MakeRunFault> for FramesRunFault {
-    ghost from_gives = { λ plain fault. fault ≡ faults.Plain plain };
+impl From<WriteFault> for MakeRunFault {
+    ghost from_gives = { λ _ fault. fault ≡ maker.Write };
 
-    fn from(fault: MakeRunFault) -> FramesRunFault {
-        FramesRunFault::Plain(fault)
+    fn from(_fault: WriteFault) -> MakeRunFault {
+        MakeRunFault::Write
     }
 }
 
-impl From<WriteFault> for FramesRunFault {
-    ghost from_gives = { λ _ fault. fault ≡ faults.Plain maker.Write };
-
-    fn from(_fault: WriteFault) -> FramesRunFault {
-        FramesRunFault::Plain(MakeRunFault::Write)
-    }
-}
-
-impl From<FramesFault> for FramesRunFault {
+impl From<FramesFault> for MakeRunFault {
     ghost from_gives = { λ refusal fault. fault ≡ told_fault refusal.call refusal.why };
 
-    fn from(fault: FramesFault) -> FramesRunFault {
+    fn from(fault: FramesFault) -> MakeRunFault {
         match fault.call {
-            Some(call) => FramesRunFault::Call {
+            Some(call) => MakeRunFault::Call {
                 call,
                 why: fault.why,
             },
-            None => FramesRunFault::Plain(MakeRunFault::Make(fault.why.into())),
+            None => MakeRunFault::Make(fault.why.into()),
         }
     }
 }
 
-const NO_MEMORY: FramesRunFault = FramesRunFault::Plain(MakeRunFault::Make(MakeFault::Memory));
+impl From<AllocError> for MakeRunFault {
+    ghost from_gives = { λ _ fault. fault ≡ maker.Make making.Memory };
 
-impl From<AllocError> for FramesRunFault {
-    ghost from_gives = { λ _ fault. fault ≡ faults.Plain (maker.Make making.Memory) };
-
-    fn from(_error: AllocError) -> FramesRunFault {
-        NO_MEMORY
+    fn from(_error: AllocError) -> MakeRunFault {
+        MakeRunFault::Make(MakeFault::Memory)
     }
 }
 
-impl<T: Drop> From<AllocFailed<T>> for FramesRunFault {
-    ghost from_gives = { λ _ fault. fault ≡ faults.Plain (maker.Make making.Memory) };
+impl<T: Drop> From<AllocFailed<T>> for MakeRunFault {
+    ghost from_gives = { λ _ fault. fault ≡ maker.Make making.Memory };
 
-    fn from(_error: AllocFailed<T>) -> FramesRunFault {
-        NO_MEMORY
+    fn from(_error: AllocFailed<T>) -> MakeRunFault {
+        MakeRunFault::Make(MakeFault::Memory)
     }
 }

@@ -24,17 +24,17 @@ mod within;
 pub use arguments::{map_of, root_of, start_of};
 pub use dumps::{DumpLine, dump_line_of};
 pub use entry_line::EntryLine;
-pub use fault::{FramesRunFault, MakeRunFault, RunFault};
-pub use outcome::{FrameAnswer, FrameOutcome, Outcome, frame_outcome_of, outcome_of};
+pub use fault::{MakeRunFault, RunFault};
+pub use outcome::{FrameAnswer, Outcome, frame_outcome_of, outcome_of};
 pub use places::place_line_of;
 pub use remark::{RemarkKind, RemarkTally, remarks_line_of};
 pub use report::{
-    Report, entry_name, frame_report_of, hex_address, hex_word, make_frames_report_of,
-    make_line_of, make_report_of, report_of,
+    Caller, Report, entry_name, frame_report_of, hex_address, hex_word, make_line_of,
+    make_report_of, report_of,
 };
 pub use rules::{Rule, all_rules, own_rule_of, rule_of, text_of_rule, text_of_rules};
-pub use status::{frames_status_of, make_frames_status_of, make_status_of, message_of, status_of};
-pub use tally::{Summary, Tally, answer_number, push_count, summary_of};
+pub use status::{make_status_of, message_of, status_of};
+pub use tally::{Summary, Tally, answer_number, count, push_count, summary_of};
 pub use touched::touched_line_of;
 pub use window::window_of;
 pub use within::limit_of;

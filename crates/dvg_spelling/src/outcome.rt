@@ -1,22 +1,33 @@
 //! What runs reported.
 
 ghost use Rattle.std.specs.Prelude.{◌≡◌};
-ghost use Rattle.dvg_spelling.specs.Outcomes.{outcome_of, plain_outcome, refusal_outcome_of, frame_outcome_of, worse};
+ghost use Rattle.dvg_spelling.specs.Outcomes.{outcome_of, refusal_outcome_of, frame_outcome_of, worse};
 
 use dvg_cert::CertWhy;
 use dvg_check::{Refusal, Yes};
 use dvg_clocks::TimedYes;
 use dvg_make::{EntryFault, FrameRefusal};
 
-/// What was reported.
-#[derive(Clone, Copy, Debug, PartialEq, Eq)]
+/// What was reported, of one thing or of several: the worst, in this order.
+#[derive(Clone, Copy, Debug, PartialEq, Eq, PartialOrd, Ord)]
 pub enum Outcome {
     /// An accepted line.
     Accepted,
     /// A refusal.
     Refused,
-    /// A refusal because memory ran out for the certificate's entries, 16, or for their index, 50.
+    /// That memory was out. So it is with a refusal because memory ran out for the certificate's entries, 16, or for their index, 50.
     NoMemory,
+    /// That a frame or a recipe could not be read: the report of a run over several alone.
+    Unread,
+}
+
+impl Outcome {
+    /// The worse of two outcomes.
+    pub fn or_worse(self, other: Outcome) -> Outcome
+        ensures { result ≡ worse self other }
+    {
+        self.max(other)
+    }
 }
 
 /// What was reported by the line of a verdict.
@@ -44,63 +55,29 @@ pub enum FrameAnswer {
     Unread,
 }
 
-/// What was reported of one frame, or of several: the worst, in this order.
-#[derive(Clone, Copy, Debug, PartialEq, Eq, PartialOrd, Ord)]
-pub enum FrameOutcome {
-    /// An accepted line.
-    Accepted,
-    /// A refusal.
-    Refused,
-    /// That memory was out.
-    NoMemory,
-    /// That a frame could not be read.
-    Unread,
-}
-
-impl FrameOutcome {
-    /// The worse of two outcomes.
-    pub fn or_worse(self, other: FrameOutcome) -> FrameOutcome
-        ensures { result ≡ worse self other }
-    {
-        self.max(other)
-    }
-}
-
-impl From<Outcome> for FrameOutcome {
-    ghost from_gives = { λ plain outcome. outcome ≡ plain_outcome plain };
-
-    fn from(outcome: Outcome) -> FrameOutcome {
-        match outcome {
-            Outcome::Accepted => FrameOutcome::Accepted,
-            Outcome::Refused => FrameOutcome::Refused,
-            Outcome::NoMemory => FrameOutcome::NoMemory,
-        }
-    }
-}
-
 /// What was reported by the line of a refusal.
-fn refusal_outcome_of(refusal: &FrameRefusal) -> FrameOutcome
+fn refusal_outcome_of(refusal: &FrameRefusal) -> Outcome
     ensures { result ≡ refusal_outcome_of refusal.now }
 {
     match refusal {
-        FrameRefusal::NoMemory => FrameOutcome::NoMemory,
+        FrameRefusal::NoMemory => Outcome::NoMemory,
         FrameRefusal::Make {
             why: EntryFault::Memory,
             ..
-        } => FrameOutcome::NoMemory,
-        FrameRefusal::Check(Refusal::IndexMemory) => FrameOutcome::NoMemory,
-        FrameRefusal::Make { .. } | FrameRefusal::Check(_) => FrameOutcome::Refused,
+        } => Outcome::NoMemory,
+        FrameRefusal::Check(Refusal::IndexMemory) => Outcome::NoMemory,
+        FrameRefusal::Make { .. } | FrameRefusal::Check(_) => Outcome::Refused,
     }
 }
 
 /// What was reported by the line of an answer.
-pub fn frame_outcome_of(answer: &FrameAnswer) -> FrameOutcome
+pub fn frame_outcome_of(answer: &FrameAnswer) -> Outcome
     ensures { result ≡ frame_outcome_of answer.now }
 {
     match answer {
-        FrameAnswer::Judged(Ok(_)) | FrameAnswer::Timed(_) => FrameOutcome::Accepted,
+        FrameAnswer::Judged(Ok(_)) | FrameAnswer::Timed(_) => Outcome::Accepted,
         FrameAnswer::Judged(Err(refusal)) => refusal_outcome_of(refusal),
-        FrameAnswer::Slow { .. } => FrameOutcome::Refused,
-        FrameAnswer::Unread => FrameOutcome::Unread,
+        FrameAnswer::Slow { .. } => Outcome::Refused,
+        FrameAnswer::Unread => Outcome::Unread,
     }
 }

@@ -1,10 +1,10 @@
 //! The report: the one line that is written for a verdict.
 
 ghost use Rattle.std.specs.Prelude.{◌≡◌, ◌+◌, ◌≤◌, ◌<◌, ◌++◌, [], length, codes, decimal};
-ghost use Rattle.dvg_spelling.specs.Messages.{fault_message, make_message, frames_message, make_line_text};
-ghost use Rattle.dvg_spelling.specs.Report.{report_text, accepted_text, refusal_text, entry_text, hex_word, hex_address, call_fault_text, frame_refusal_text, answer_text, clocks_text, frame_line_text};
+ghost use Rattle.dvg_spelling.specs.Messages.{fault_message, make_message, make_line_text};
+ghost use Rattle.dvg_spelling.specs.Report.{report_text, counts_text, refusal_text, entry_text, hex_word, hex_address, unmade_text, frame_refusal_text, answer_text, clocks_text, frame_line_text};
 
-use crate::fault::{FramesRunFault, MakeRunFault, RunFault};
+use crate::fault::{MakeRunFault, RunFault};
 use crate::outcome::FrameAnswer;
 use crate::status::message_of;
 use arrayvec::ArrayVec;
@@ -16,6 +16,15 @@ use dvg_text::{address_digits, push_bytes};
 use dvg_words::{ADDRESS_END, ImageFault};
 use itoa::Buffer;
 use std::marker::Model;
+
+/// Whose call needs an entry.
+#[derive(Clone, Copy, Debug, PartialEq, Eq)]
+pub enum Caller {
+    /// The frame's, at this word address.
+    Frame(u16),
+    /// That of the recipe's line, counted from 1.
+    RecipeLine(u32),
+}
 
 /// A line of at most 96 bytes, its LF included: 64 where it tells no clocks.
 #[derive(Drop)]
@@ -34,7 +43,8 @@ impl Model for Report {
 }
 
 impl Report {
-    fn new() -> Report
+    /// A line of no byte so far.
+    pub fn new() -> Report
         ensures { result ≡ [] }
     {
         Report {
@@ -50,7 +60,8 @@ impl Report {
         self.line.as_slice()
     }
 
-    fn push(&mut self, text: &[u8])
+    /// Puts a text behind the line.
+    pub fn push(&mut self, text: &[u8])
         requires { length self.old + length text.now ≤ 96 }
         ensures { self.new ≡ self.old ++ text.now }
     {
@@ -66,7 +77,7 @@ impl Report {
     }
 
     /// A count behind its label.
-    fn push_count(&mut self, label: &[u8], count: u32)
+    pub fn push_count(&mut self, label: &[u8], count: u32)
         requires { length self.old + length label.now ≤ 54 }
         ensures text { self.new ≡ self.old ++ label.now ++ decimal count }
         ensures short { length self.new ≤ length self.old + length label.now + 10 }
@@ -76,7 +87,7 @@ impl Report {
     }
 
     /// A word address behind its label, in hexadecimal capitals.
-    fn push_address(&mut self, label: &[u8], word: u16)
+    pub fn push_address(&mut self, label: &[u8], word: u16)
         requires { length self.old + length label.now ≤ 59 }
         ensures text { self.new ≡ self.old ++ label.now ++ hex_address word }
         ensures short { length self.new ≤ length self.old + length label.now + 4 }
@@ -86,7 +97,7 @@ impl Report {
     }
 
     /// The name of an entry behind a label: its address, a slash and its key.
-    fn push_entry_name(&mut self, label: &[u8], addr: u16, key: Key)
+    pub fn push_entry_name(&mut self, label: &[u8], addr: u16, key: Key)
         requires { length self.old + length label.now ≤ 49 }
         ensures text { self.new ≡ self.old ++ label.now ++ entry_text addr key }
         ensures short { length self.new ≤ length self.old + length label.now + 15 }
@@ -99,8 +110,52 @@ impl Report {
         }
     }
 
+    /// The counts of what is accepted.
+    pub fn push_accepted(&mut self, shapes: u32, words: u32, depth: u8)
+        requires { length self.old ≤ 2 }
+        ensures text { self.new ≡ self.old ++ counts_text shapes words depth }
+        ensures short { length self.new ≤ 63 }
+    {
+        self.push_count(b"accepted shapes=", shapes);
+        self.push_count(b" words=", words);
+        self.push_count(b" depth=", u32::from(depth));
+    }
+
+    /// The clocks of what is accepted: just so many, or so many at most.
+    pub fn push_clocks(&mut self, clocks: &ClockRange)
+        requires { length self.old ≤ 63 }
+        ensures text { self.new ≡ self.old ++ clocks_text clocks.now }
+        ensures short { length self.new ≤ 95 }
+    {
+        self.push(if clocks.least == clocks.most {
+            b" clocks="
+        } else {
+            b" clocks<="
+        });
+        self.push(Buffer::new().format(clocks.most).as_bytes());
+    }
+
+    /// Why the entry is not made that a call needs, and whose call that is.
+    pub fn push_unmade(&mut self, why: EntryFault, caller: Caller)
+        requires { length self.old ≤ 2 }
+        ensures text { self.new ≡ self.old ++ unmade_text why caller }
+        ensures short { length self.new ≤ 63 }
+    {
+        match why {
+            EntryFault::Unstraight { word } => self.push_address(b"refused 60 at ", word),
+            EntryFault::Deep => self.push(b"refused 61"),
+            EntryFault::TooManyWords => self.push(b"refused 62"),
+            EntryFault::TooManyEntries => self.push(b"refused 62 by entries"),
+            EntryFault::Memory => return self.push(b"out of memory"),
+        }
+        match caller {
+            Caller::Frame(at) => self.push_address(b" for frame at ", at),
+            Caller::RecipeLine(line) => self.push_count(b" for recipe line ", line),
+        }
+    }
+
     /// With its LF.
-    fn ended(self) -> Report
+    pub fn ended(self) -> Report
         requires { length self ≤ 95 }
         ensures { result ≡ self ++ codes "\n" }
     {
@@ -153,18 +208,10 @@ pub fn report_of(verdict: &Result<Yes, Refusal>) -> Report
 {
     let mut report = Report::new();
     match verdict {
-        Ok(yes) => push_accepted(&mut report, yes),
+        Ok(yes) => report.push_accepted(yes.shapes, yes.words, yes.depth),
         Err(refusal) => push_refusal(&mut report, refusal),
     }
     report.ended()
-}
-
-/// The line on standard error of a run that made no certificate, with its LF: 64 bytes at most. Takes no memory.
-pub fn make_report_of(fault: &MakeRunFault) -> Report
-    ensures text { result ≡ make_message fault.now ++ codes "\n" }
-    ensures short { length result ≤ 64 }
-{
-    make_frames_report_of(&(*fault).into())
 }
 
 /// The line of an answer to a frame, from behind the frame's name on, with its LF: 96 bytes at most. Takes no memory.
@@ -178,28 +225,20 @@ pub fn frame_report_of(answer: &FrameAnswer) -> Report
     report.ended()
 }
 
-/// The line on standard error of a run of the maker for frames that made no certificate, with its LF: 64 bytes at most. Where
-/// the fault is a frame's, it is the line from behind the frame's name on. Takes no memory.
-pub fn make_frames_report_of(fault: &FramesRunFault) -> Report
-    ensures text { result ≡ frames_message fault.now ++ codes "\n" }
+/// The line on standard error of a run that made no certificate, with its LF: 64 bytes at most. Where the fault is a frame's, it is
+/// the line from behind the frame's name on. Takes no memory.
+pub fn make_report_of(fault: &MakeRunFault) -> Report
+    ensures text { result ≡ make_message fault.now ++ codes "\n" }
     ensures short { length result ≤ 64 }
 {
     let mut report = Report::new();
-    match fault {
-        FramesRunFault::Plain(fault) => push_make_fault(&mut report, fault),
-        FramesRunFault::FrameLength { .. } => report.push(b": refused 2"),
-        FramesRunFault::Call { call, why } => {
-            report.push(b": ");
-            push_call_fault(&mut report, call.at, *why);
-        }
-        FramesRunFault::ReadFrame => push_message(&mut report, &RunFault::ReadFrame),
-    }
+    push_make_fault(&mut report, fault);
     report.ended()
 }
 
 /// The line of a maker's answer, with its LF: how many entries it makes, or why it makes none. 64 bytes at most.
 /// Takes no memory.
-pub fn make_line_of(made: &Result<u32, FramesRunFault>) -> Report
+pub fn make_line_of(made: &Result<u32, MakeRunFault>) -> Report
     ensures text { result ≡ make_line_text made.now }
     ensures short { length result ≤ 64 }
 {
@@ -209,7 +248,7 @@ pub fn make_line_of(made: &Result<u32, FramesRunFault>) -> Report
             report.push_count(b"made entries=", *entries);
             report.ended()
         }
-        Err(fault) => make_frames_report_of(fault),
+        Err(fault) => make_report_of(fault),
     }
 }
 
@@ -220,13 +259,19 @@ fn push_make_fault(report: &mut Report, fault: &MakeRunFault)
 {
     match fault {
         MakeRunFault::RomLength => report.push(b"refused 1"),
+        MakeRunFault::FrameLength { .. } => report.push(b": refused 2"),
         MakeRunFault::Make(MakeFault::Unstraight { word }) => {
             report.push_address(b"refused 60 at ", *word)
         }
         MakeRunFault::Make(MakeFault::Deep) => report.push(b"refused 61"),
         MakeRunFault::Make(MakeFault::TooLarge) => report.push(b"refused 62"),
         MakeRunFault::Make(MakeFault::Memory) => push_message(report, &RunFault::Memory),
+        MakeRunFault::Call { call, why } => {
+            report.push(b": ");
+            report.push_unmade(*why, Caller::Frame(call.at));
+        }
         MakeRunFault::ReadRom => push_message(report, &RunFault::ReadRom),
+        MakeRunFault::ReadFrame => push_message(report, &RunFault::ReadFrame),
         MakeRunFault::Write => push_message(report, &RunFault::Write),
     }
 }
@@ -237,11 +282,11 @@ fn push_answer(report: &mut Report, answer: &FrameAnswer)
     ensures short { length report.new ≤ 95 }
 {
     match answer {
-        FrameAnswer::Judged(Ok(yes)) => push_accepted(report, yes),
+        FrameAnswer::Judged(Ok(yes)) => report.push_accepted(yes.shapes, yes.words, yes.depth),
         FrameAnswer::Judged(Err(refusal)) => push_frame_refusal(report, refusal),
         FrameAnswer::Timed(timed) => {
-            push_accepted(report, &timed.yes);
-            push_clocks(report, &timed.clocks);
+            report.push_accepted(timed.yes.shapes, timed.yes.words, timed.yes.depth);
+            report.push_clocks(&timed.clocks);
         }
         FrameAnswer::Slow { at } => report.push_address(b"refused 58 frame at ", *at),
         FrameAnswer::Unread => report.push(b"cannot read"),
@@ -254,27 +299,11 @@ fn push_frame_refusal(report: &mut Report, refusal: &FrameRefusal)
     ensures short { length report.new ≤ 63 }
 {
     match refusal {
-        FrameRefusal::Make { at, why } => push_call_fault(report, *at, *why),
+        FrameRefusal::Make { at, why } => report.push_unmade(*why, Caller::Frame(*at)),
         FrameRefusal::NoMemory => report.push(b"out of memory"),
         FrameRefusal::Check(Refusal::IndexMemory) => report.push(b"out of memory"),
         FrameRefusal::Check(refusal) => push_refusal(report, refusal),
     }
-}
-
-/// Why the entry is not made that a frame's call at this word address needs.
-fn push_call_fault(report: &mut Report, at: u16, why: EntryFault)
-    requires { length report.old ≤ 2 }
-    ensures text { report.new ≡ report.old ++ call_fault_text at why }
-    ensures short { length report.new ≤ 63 }
-{
-    match why {
-        EntryFault::Unstraight { word } => report.push_address(b"refused 60 at ", word),
-        EntryFault::Deep => report.push(b"refused 61"),
-        EntryFault::TooManyWords => report.push(b"refused 62"),
-        EntryFault::TooManyEntries => report.push(b"refused 62 by entries"),
-        EntryFault::Memory => return report.push(b"out of memory"),
-    }
-    report.push_address(b" for frame at ", at);
 }
 
 fn push_message(report: &mut Report, fault: &RunFault)
@@ -283,30 +312,6 @@ fn push_message(report: &mut Report, fault: &RunFault)
     ensures short { length report.new ≤ 63 }
 {
     report.push(message_of(fault).as_bytes());
-}
-
-fn push_accepted(report: &mut Report, yes: &Yes)
-    requires { length report.old ≤ 2 }
-    ensures text { report.new ≡ report.old ++ accepted_text yes.now }
-    ensures short { length report.new ≤ 63 }
-{
-    report.push_count(b"accepted shapes=", yes.shapes);
-    report.push_count(b" words=", yes.words);
-    report.push_count(b" depth=", u32::from(yes.depth));
-}
-
-/// The clocks of what is accepted: just so many, or so many at most.
-fn push_clocks(report: &mut Report, clocks: &ClockRange)
-    requires { length report.old ≤ 63 }
-    ensures text { report.new ≡ report.old ++ clocks_text clocks.now }
-    ensures short { length report.new ≤ 95 }
-{
-    report.push(if clocks.least == clocks.most {
-        b" clocks="
-    } else {
-        b" clocks<="
-    });
-    report.push(Buffer::new().format(clocks.most).as_bytes());
 }
 
 /// The number of a refusal, and where it stands.

@@ -2,41 +2,28 @@
 
 ghost use Rattle.std.specs.Prelude.{◌≡◌, ◌++◌, codes};
 ghost use Rattle.dvg_spelling.specs.Messages.{fault_message};
-ghost use Rattle.dvg_spelling.specs.Status.{outcome_status, fault_status, exit_status, make_exit_status, frames_exit_status, make_frames_exit_status};
+ghost use Rattle.dvg_spelling.specs.Status.{exit_status, make_exit_status};
 
-use crate::fault::{FramesRunFault, MakeRunFault, RunFault};
-use crate::outcome::{FrameOutcome, Outcome};
+use crate::fault::{MakeRunFault, RunFault};
+use crate::outcome::Outcome;
 use dvg_make::{EntryFault, MakeFault};
 
-/// The exit status of a run that reported this.
-fn outcome_status(outcome: FrameOutcome) -> u8
-    ensures { result ≡ outcome_status outcome }
-{
-    match outcome {
-        FrameOutcome::Accepted => 0,
-        FrameOutcome::Refused => 1,
-        FrameOutcome::NoMemory => 4,
-        FrameOutcome::Unread => 3,
-    }
-}
-
-/// The exit status of a run that ended with this fault.
-fn fault_status(fault: RunFault) -> u8
-    ensures { result ≡ fault_status fault }
-{
-    match fault {
-        RunFault::Memory => 4,
-        RunFault::ReadRom | RunFault::ReadFrame | RunFault::ReadCert | RunFault::Write => 3,
-    }
-}
-
-/// The exit status of a run: 0 accepted, 1 refused, 3 a failed read or write, 4 out of memory.
+/// The exit status of a run: 0 where all is accepted, else that of the worst: 1 refused, 4 out of memory, 3 a failed read or write.
 pub fn status_of(end: &Result<Outcome, RunFault>) -> u8
     ensures { result ≡ exit_status end.now }
 {
     match end {
-        Ok(outcome) => outcome_status((*outcome).into()),
-        Err(fault) => fault_status(*fault),
+        Ok(Outcome::Accepted) => 0,
+        Ok(Outcome::Refused) => 1,
+        Ok(Outcome::NoMemory) | Err(RunFault::Memory) => 4,
+        Ok(Outcome::Unread)
+        | Err(
+            RunFault::ReadRom
+            | RunFault::ReadFrame
+            | RunFault::ReadRecipe
+            | RunFault::ReadCert
+            | RunFault::Write,
+        ) => 3,
     }
 }
 
@@ -47,6 +34,7 @@ pub fn message_of(fault: &RunFault) -> &'static str
     match fault {
         RunFault::ReadRom => "dvgcheck: cannot read the ROM",
         RunFault::ReadFrame => "dvgcheck: cannot read the frame",
+        RunFault::ReadRecipe => "dvgcheck: cannot read the recipe",
         RunFault::ReadCert => "dvgcheck: cannot read the certificate",
         RunFault::Write => "dvgcheck: cannot write",
         RunFault::Memory => "dvgcheck: out of memory",
@@ -67,37 +55,19 @@ pub fn make_status_of(end: &Result<(), MakeRunFault>) -> u8
 {
     match end {
         Ok(()) => 0,
-        Err(MakeRunFault::Make(MakeFault::Memory)) => 4,
-        Err(MakeRunFault::RomLength | MakeRunFault::Make(_)) => 1,
-        Err(MakeRunFault::ReadRom | MakeRunFault::Write) => 3,
-    }
-}
-
-/// The exit status of a run over frames: 0 where all are accepted, else that of the worst, 1 refused, 4 out of memory, 3 a failed
-/// read or write.
-pub fn frames_status_of(end: &Result<FrameOutcome, RunFault>) -> u8
-    ensures { result ≡ frames_exit_status end.now }
-{
-    match end {
-        Ok(outcome) => outcome_status(*outcome),
-        Err(fault) => fault_status(*fault),
-    }
-}
-
-/// The exit status of a run of the maker for frames: 0 made, 1 refused, 3 a failed read or write, 4 out of memory.
-pub fn make_frames_status_of(end: &Result<(), FramesRunFault>) -> u8
-    ensures { result ≡ make_frames_exit_status end.now }
-{
-    match end {
-        Ok(()) => 0,
-        Err(FramesRunFault::Plain(fault)) => make_status_of(&Err(*fault)),
         Err(
-            FramesRunFault::Call {
+            MakeRunFault::Make(MakeFault::Memory)
+            | MakeRunFault::Call {
                 why: EntryFault::Memory,
                 ..
             },
         ) => 4,
-        Err(FramesRunFault::FrameLength { .. } | FramesRunFault::Call { .. }) => 1,
-        Err(FramesRunFault::ReadFrame) => 3,
+        Err(
+            MakeRunFault::RomLength
+            | MakeRunFault::FrameLength { .. }
+            | MakeRunFault::Make(_)
+            | MakeRunFault::Call { .. },
+        ) => 1,
+        Err(MakeRunFault::ReadRom | MakeRunFault::ReadFrame | MakeRunFault::Write) => 3,
     }
 }

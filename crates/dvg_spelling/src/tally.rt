@@ -4,7 +4,7 @@ ghost use Rattle.std.specs.Prelude.{◌≡◌, ◌+◌, ◌≤◌, ◌<◌, ◌+
 ghost use Rattle.dvg_text.specs.Devices.{count_after};
 ghost use Rattle.dvg_spelling.specs.Tally.{answer_number, no_lines, with_answer, refused_text, refused_texts, summary_text};
 
-use crate::outcome::{FrameAnswer, FrameOutcome, frame_outcome_of};
+use crate::outcome::{FrameAnswer, Outcome, frame_outcome_of};
 use arrayvec::ArrayVec;
 use dvg_make::{FrameRefusal, MakeFault};
 use dvg_text::push_bytes;
@@ -59,10 +59,10 @@ impl Tally {
         ensures { self.new ≡ with_answer self.old answer.now }
     {
         match frame_outcome_of(answer) {
-            FrameOutcome::Accepted => count(&mut self.accepted),
-            FrameOutcome::Refused => count(&mut self.refused[usize::from(answer_number(answer))]),
-            FrameOutcome::NoMemory => count(&mut self.no_memory),
-            FrameOutcome::Unread => count(&mut self.unread),
+            Outcome::Accepted => count(&mut self.accepted),
+            Outcome::Refused => count(&mut self.refused[usize::from(answer_number(answer))]),
+            Outcome::NoMemory => count(&mut self.no_memory),
+            Outcome::Unread => count(&mut self.unread),
         }
     }
 }

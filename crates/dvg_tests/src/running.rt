@@ -6,9 +6,8 @@ use crate::expecting::{FaultRow, expect, expect_faults, expect_same};
 use crate::inputs::{EMPTY, STROKE_FRAME, stroke_rom};
 use devices::SlowReader;
 use dvg_cmd::{
-    ASTEROIDS, Counted, Detail, EntryFault, FrameCall, FrameDetail, FrameOutcome, FramesRunFault,
-    Lines, Listing, Machine, MakeFault, MakeRunFault, Mode, NamedFrame, Outcome, OwnCertificates,
-    RunFault, SCREEN, frames_status_of, make_frames_report_of, make_frames_status_of,
+    ASTEROIDS, Counted, Detail, EntryFault, FrameCall, FrameDetail, Lines, Listing, Machine,
+    MakeFault, MakeRunFault, Mode, NamedFrame, Outcome, OwnCertificates, RunFault, SCREEN,
     make_report_of, make_status_of, map_of, message_of, run_check, run_frames, run_make, status_of,
 };
 use std::alloc::Global;
@@ -82,7 +81,7 @@ fn expect_line(
     rt: &impl Abort,
     alloc: Global,
     frame: Option<&'static [u8]>,
-    outcome: FrameOutcome,
+    outcome: Outcome,
     line: &str,
 ) {
     let rom = stroke_rom();
@@ -123,14 +122,14 @@ fn judges_one_frame(rt: HostRuntime) {
         &rt,
         rt.alloc(),
         Some(STROKE_FRAME),
-        FrameOutcome::Accepted,
+        Outcome::Accepted,
         "frame: accepted shapes=1 words=7 depth=1\n",
     );
     expect_line(
         &rt,
         rt.alloc(),
         None,
-        FrameOutcome::Unread,
+        Outcome::Unread,
         "frame: cannot read\n",
     );
 }
@@ -149,28 +148,15 @@ const STATUSES: &[(Outcome, u8)] = &[
     (Outcome::Accepted, 0),
     (Outcome::Refused, 1),
     (Outcome::NoMemory, 4),
-];
-
-/// Outcomes of runs over frames, and their statuses.
-const FRAME_STATUSES: &[(FrameOutcome, u8)] = &[
-    (FrameOutcome::Accepted, 0),
-    (FrameOutcome::Refused, 1),
-    (FrameOutcome::NoMemory, 4),
-    (FrameOutcome::Unread, 3),
+    (Outcome::Unread, 3),
 ];
 
 #[test]
 fn says_how_it_ended(rt: HostRuntime) {
     expect_statuses(&rt, STATUSES, |outcome: &Outcome| status_of(&Ok(*outcome)));
-    expect_statuses(
-        &rt,
-        FRAME_STATUSES,
-        |outcome: &FrameOutcome| frames_status_of(&Ok(*outcome)),
-    );
     for &(fault, _, _) in FAULTS {
         let status = if fault == RunFault::Memory { 4 } else { 3 };
-        let statuses = (status_of(&Err(fault)), frames_status_of(&Err(fault)));
-        expect_same(&rt, &statuses, &(status, status), &fault);
+        expect_same(&rt, &status_of(&Err(fault)), &status, &fault);
     }
 }
 
@@ -178,6 +164,7 @@ fn says_how_it_ended(rt: HostRuntime) {
 const FAULTS: &[FaultRow<RunFault>] = &[
     (RunFault::ReadRom, 70, "cannot read the ROM"),
     (RunFault::ReadFrame, 71, "cannot read the frame"),
+    (RunFault::ReadRecipe, 71, "cannot read the recipe"),
     (RunFault::ReadCert, 72, "cannot read the certificate"),
     (RunFault::Write, 73, "cannot write"),
     (RunFault::Memory, 74, "out of memory"),
@@ -278,57 +265,47 @@ const BLAMED: &[(EntryFault, u8, u8, &[u8])] = &[
 ];
 
 /// Other faults of the maker for frames.
-const FRAMES_FAULTS: &[(FramesRunFault, u8, u8, &[u8])] = &[
+const FRAMES_FAULTS: &[(MakeRunFault, u8, u8, &[u8])] = &[
+    (MakeRunFault::RomLength, 1, 1, b"refused 1\n"),
     (
-        FramesRunFault::Plain(MakeRunFault::RomLength),
-        1,
-        1,
-        b"refused 1\n",
-    ),
-    (
-        FramesRunFault::FrameLength { frame: 3 },
+        MakeRunFault::FrameLength { frame: 3 },
         2,
         1,
         b": refused 2\n",
     ),
     (
-        FramesRunFault::Plain(MakeRunFault::Make(MakeFault::Memory)),
+        MakeRunFault::Make(MakeFault::Memory),
         63,
         4,
         b"dvgcheck: out of memory\n",
     ),
     (
-        FramesRunFault::Plain(MakeRunFault::ReadRom),
+        MakeRunFault::ReadRom,
         70,
         3,
         b"dvgcheck: cannot read the ROM\n",
     ),
     (
-        FramesRunFault::ReadFrame,
+        MakeRunFault::ReadFrame,
         71,
         3,
         b"dvgcheck: cannot read the frame\n",
     ),
-    (
-        FramesRunFault::Plain(MakeRunFault::Write),
-        73,
-        3,
-        b"dvgcheck: cannot write\n",
-    ),
+    (MakeRunFault::Write, 73, 3, b"dvgcheck: cannot write\n"),
 ];
 
-fn is_told(fault: FramesRunFault, number: u8, status: u8, line: &[u8]) -> bool {
+fn is_told(fault: MakeRunFault, number: u8, status: u8, line: &[u8]) -> bool {
     fault.number() == number
-        && make_frames_status_of(&Err(fault)) == status
-        && make_frames_report_of(&fault).as_bytes() == line
+        && make_status_of(&Err(fault)) == status
+        && make_report_of(&fault).as_bytes() == line
         && fault.frame().is_some() == line.starts_with(b": ")
 }
 
 #[test]
 fn says_how_making_for_frames_ended(rt: HostRuntime) {
-    expect_same(&rt, &make_frames_status_of(&Ok(())), &0, &"made");
+    expect_same(&rt, &make_status_of(&Ok(())), &0, &"made");
     for &(why, number, status, line) in BLAMED {
-        let fault = FramesRunFault::Call { call: CALL, why };
+        let fault = MakeRunFault::Call { call: CALL, why };
         expect(&rt, is_told(fault, number, status, line), &fault);
     }
     for &(fault, number, status, line) in FRAMES_FAULTS {

@@ -1,7 +1,7 @@
 //! Why there are no frames, or none any more, where a list names them or files have them one behind another.
 
-use crate::input::InputFault;
-use dvg_cmd::{FrameOutcome, frames_status_of};
+use crate::input::is_no_memory;
+use dvg_cmd::{Outcome, status_of};
 use std::alloc::AllocError;
 use std::io;
 
@@ -29,21 +29,22 @@ impl FramesFault {
     }
 
     /// The exit status of a run that met this fault, and whose frames came to this.
-    pub fn status(self, frames: FrameOutcome) -> u8 {
+    pub fn status(self, frames: Outcome) -> u8 {
         let fault = match self {
             FramesFault::EmptyList | FramesFault::NoRecord => return 2,
-            FramesFault::UnreadableList => FrameOutcome::Unread,
-            FramesFault::OutOfMemory => FrameOutcome::NoMemory,
+            FramesFault::UnreadableList => Outcome::Unread,
+            FramesFault::OutOfMemory => Outcome::NoMemory,
         };
-        frames_status_of(&Ok(frames.or_worse(fault)))
+        status_of(&Ok(frames.or_worse(fault)))
     }
 }
 
 impl From<io::Error> for FramesFault {
     fn from(error: io::Error) -> FramesFault {
-        match InputFault::from(error) {
-            InputFault::Unreadable => FramesFault::UnreadableList,
-            InputFault::OutOfMemory => FramesFault::OutOfMemory,
+        if is_no_memory(&error) {
+            FramesFault::OutOfMemory
+        } else {
+            FramesFault::UnreadableList
         }
     }
 }

@@ -40,22 +40,9 @@ impl<'a> Input<'a> {
     }
 }
 
-/// Why there is nothing to be had from a file.
-#[derive(Clone, Copy)]
-pub enum InputFault {
-    /// It can't be opened or read.
-    Unreadable,
-    OutOfMemory,
-}
-
-impl From<io::Error> for InputFault {
-    fn from(error: io::Error) -> InputFault {
-        if error.kind() == io::ErrorKind::OutOfMemory {
-            InputFault::OutOfMemory
-        } else {
-            InputFault::Unreadable
-        }
-    }
+/// Whether a file could not be read because there was no memory for it.
+pub fn is_no_memory(error: &io::Error) -> bool {
+    error.kind() == io::ErrorKind::OutOfMemory
 }
 
 /// An open file that is read.

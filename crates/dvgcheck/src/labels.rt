@@ -1,6 +1,6 @@
 //! The file of labels.
 
-use crate::input::{Input, InputFault};
+use crate::input::{Input, is_no_memory};
 use dvg_cmd::{LabelFault, LabelWhy, Labels, MOST_LABEL_BYTES, read_labels};
 use std::alloc::{AllocError, Global};
 use std::io;
@@ -9,7 +9,9 @@ use std::io::Read;
 /// Why there are no labels to be had from a file.
 #[derive(Clone, Copy)]
 pub enum LabelsFault {
-    Input(InputFault),
+    /// It can't be opened or read.
+    Unreadable,
+    OutOfMemory,
     /// It has more bytes than a file of labels may have.
     TooLong,
     /// This line, counted from 1, is of none of the forms of such files.
@@ -22,12 +24,8 @@ impl LabelsFault {
     /// The line on standard error, without its LF.
     pub fn message(self, alloc: Global) -> Result<String, AllocError> {
         match self {
-            LabelsFault::Input(InputFault::Unreadable) => {
-                String::from_str(alloc, "dvgcheck: cannot read the labels")
-            }
-            LabelsFault::Input(InputFault::OutOfMemory) => {
-                String::from_str(alloc, "dvgcheck: out of memory")
-            }
+            LabelsFault::Unreadable => String::from_str(alloc, "dvgcheck: cannot read the labels"),
+            LabelsFault::OutOfMemory => String::from_str(alloc, "dvgcheck: out of memory"),
             LabelsFault::TooLong => {
                 format!(in alloc; "dvgcheck: bad labels: over {MOST_LABEL_BYTES} bytes")
             }
@@ -45,8 +43,8 @@ impl LabelsFault {
     /// The exit status.
     pub fn status(self) -> u8 {
         match self {
-            LabelsFault::Input(InputFault::Unreadable) => 3,
-            LabelsFault::Input(InputFault::OutOfMemory) => 4,
+            LabelsFault::Unreadable => 3,
+            LabelsFault::OutOfMemory => 4,
             LabelsFault::TooLong | LabelsFault::Form(_) | LabelsFault::TooMany(_) => 2,
         }
     }
@@ -54,7 +52,11 @@ impl LabelsFault {
 
 impl From<io::Error> for LabelsFault {
     fn from(error: io::Error) -> LabelsFault {
-        LabelsFault::Input(error.into())
+        if is_no_memory(&error) {
+            LabelsFault::OutOfMemory
+        } else {
+            LabelsFault::Unreadable
+        }
     }
 }
 
@@ -65,7 +67,7 @@ impl From<LabelFault> for LabelsFault {
             LabelFault::Line { line, why } => match why {
                 LabelWhy::Form => LabelsFault::Form(line),
                 LabelWhy::TooMany => LabelsFault::TooMany(line),
-                LabelWhy::Memory => LabelsFault::Input(InputFault::OutOfMemory),
+                LabelWhy::Memory => LabelsFault::OutOfMemory,
             },
         }
     }

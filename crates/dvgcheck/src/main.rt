@@ -27,16 +27,15 @@ use command::{
     Request, Usage, listing_by,
 };
 use dvg_cmd::{
-    ASTEROIDS, ClockOptions, Counted, CountedRead, CountedWrite, Detail, FrameOutcome,
-    FramesRunFault, KeptCertificates, Labels, Listing, MakeAnswer, MakeFault, MakeRunFault,
-    NamedFrame, Outcome, OwnCertificates, Remarking, RomMap, Rule, RunFault, ShapeStarts,
-    TimedCertificates, Window, all_rules, frames_status_of, load_cert, load_rom,
-    make_frames_status_of, message_of, run_check_in, run_comparison, run_explain_diff,
-    run_explain_make, run_frames, run_frames_given, run_make_frames, run_places, run_rule,
-    run_rules, status_of, write_make_answer, write_make_fault, write_message, write_text,
+    ASTEROIDS, ClockOptions, Counted, CountedRead, CountedWrite, Detail, KeptCertificates, Labels,
+    Listing, MakeAnswer, MakeFault, MakeRunFault, NamedFrame, Outcome, OwnCertificates, Remarking,
+    RomMap, Rule, RunFault, ShapeStarts, TimedCertificates, Window, all_rules, load_cert, load_rom,
+    make_status_of, message_of, run_check_in, run_comparison, run_explain_diff, run_explain_make,
+    run_frames, run_frames_given, run_make_frames, run_places, run_rule, run_rules, status_of,
+    write_make_answer, write_make_fault, write_message, write_text,
 };
 use frames_fault::FramesFault;
-use input::{Input, Source};
+use input::{Input, Source, is_no_memory};
 use list::List;
 use output::Output;
 use recipes::{run_belonging, run_print_of, run_recipe};
@@ -70,7 +69,7 @@ fn check(rt: &HostRuntime, args: &CheckArgs, detail: Detail) -> Result<Outcome, 
 /// Reads the ROM, and the certificate if one is given, and then judges frame after frame: each file is opened when the one before it
 /// is closed. Accounts of several frames by certificates of their own come when all frames are read.
 #[inline(never)]
-fn frames(rt: &HostRuntime, named: Vec<Named>, asked: &Asked) -> Result<FrameOutcome, RunFault> {
+fn frames(rt: &HostRuntime, named: Vec<Named>, asked: &Asked) -> Result<Outcome, RunFault> {
     match asked.certificates {
         Certificates::Made(map, clocks) if asked.has_account() && named.len() > 1 => {
             explain_together(rt, asked, map, clocks, named)
@@ -87,11 +86,11 @@ fn explain_together(
     map: RomMap,
     clocks: Option<ClockOptions>,
     named: Vec<Named>,
-) -> Result<FrameOutcome, RunFault> {
+) -> Result<Outcome, RunFault> {
     let rom = load_rom(&mut Counted::new(open(rt, asked.rom, RunFault::ReadRom)?))?;
-    let frames = read_frames(rt, named, asked.options.start).map_err(|_| RunFault::Memory)?;
+    let frames = read_frames(rt, named, asked.options.start)?;
     let alone = own_certificates(asked, rom.as_slice(), map, None);
-    let starts = starts_of(rt.alloc(), &alone, frames.as_slice()).map_err(|_| RunFault::Memory)?;
+    let starts = starts_of(rt.alloc(), &alone, frames.as_slice())?;
     let frames = frames.into_iter().map(ReadFrame::reopened);
     judge_by_own(
         rt,
@@ -114,7 +113,7 @@ fn judge_by_own<'a, R: CountedRead + Drop, I: Iterator<Item = NamedFrame<R>> + D
     others: Option<&'a ShapeStarts>,
     clocks: Option<ClockOptions>,
     frames: I,
-) -> Result<FrameOutcome, RunFault>
+) -> Result<Outcome, RunFault>
     requires can { I.can_next frames }
     requires ends { IsFinite (I.remaining frames) }
 {
@@ -165,11 +164,7 @@ fn own_certificates<'a>(
 
 /// Does the same with the frames that a list names, which is read name by name, beginning before the ROM is opened.
 #[inline(never)]
-fn listed_frames(
-    rt: &HostRuntime,
-    list: &mut List,
-    asked: &Asked,
-) -> Result<FrameOutcome, RunFault> {
+fn listed_frames(rt: &HostRuntime, list: &mut List, asked: &Asked) -> Result<Outcome, RunFault> {
     // No list has so many names.
     let frames = (0..u64::MAX).map_while(|_| list.next_frame(rt));
     judge_frames(rt, asked, frames)
@@ -181,7 +176,7 @@ fn recorded_frames(
     rt: &HostRuntime,
     records: &mut Records,
     asked: &Asked,
-) -> Result<FrameOutcome, RunFault> {
+) -> Result<Outcome, RunFault> {
     // No files have so many records.
     let frames = (0..u64::MAX).map_while(|_| records.step(rt)).flatten();
     judge_frames(rt, asked, frames)
@@ -202,7 +197,7 @@ fn judge_frames<R: CountedRead + Drop, I: Iterator<Item = NamedFrame<R>> + Drop>
     rt: &HostRuntime,
     asked: &Asked,
     frames: I,
-) -> Result<FrameOutcome, RunFault>
+) -> Result<Outcome, RunFault>
     requires can { I.can_next frames }
     requires ends { IsFinite (I.remaining frames) }
 {
@@ -239,11 +234,11 @@ fn judge_frames<R: CountedRead + Drop, I: Iterator<Item = NamedFrame<R>> + Drop>
 fn open_all(
     rt: &HostRuntime,
     args: &MakeArgs,
-) -> Result<(Counted<Source>, Vec<Counted<Source>>), FramesRunFault> {
+) -> Result<(Counted<Source>, Vec<Counted<Source>>), MakeRunFault> {
     let rom = open(rt, args.rom, MakeRunFault::ReadRom)?;
     let mut frames = Vec::new(rt.alloc());
     for frame in &args.frames {
-        let file = open(rt, frame.input, FramesRunFault::ReadFrame)?;
+        let file = open(rt, frame.input, MakeRunFault::ReadFrame)?;
         frames.push(Counted::new(file))?;
     }
     Ok((Counted::new(rom), frames))
@@ -251,7 +246,7 @@ fn open_all(
 
 /// Opens the ROM and the frames, and then the file for the certificate, if one was named, and runs the maker.
 #[inline(never)]
-fn make(rt: &HostRuntime, args: &MakeArgs) -> Result<(), FramesRunFault> {
+fn make(rt: &HostRuntime, args: &MakeArgs) -> Result<(), MakeRunFault> {
     let (mut rom, mut frames) = open_all(rt, args)?;
     match args.output {
         Some(path) => make_file(rt, args, &mut rom, &mut frames, path),
@@ -264,7 +259,7 @@ fn make(rt: &HostRuntime, args: &MakeArgs) -> Result<(), FramesRunFault> {
 
 /// Opens the ROM and the frames, and tells at which places calls of the shapes break no rule on this window.
 #[inline(never)]
-fn places(rt: &HostRuntime, args: &MakeArgs, window: Window) -> Result<(), FramesRunFault> {
+fn places(rt: &HostRuntime, args: &MakeArgs, window: Window) -> Result<(), MakeRunFault> {
     let (mut rom, mut frames) = open_all(rt, args)?;
     run_places(
         args.machine,
@@ -279,7 +274,7 @@ fn places(rt: &HostRuntime, args: &MakeArgs, window: Window) -> Result<(), Frame
 }
 
 /// The names of frames, as lines show them.
-fn names_of(rt: &HostRuntime, frames: &[Named]) -> Result<Vec<String>, FramesRunFault> {
+fn names_of(rt: &HostRuntime, frames: &[Named]) -> Result<Vec<String>, MakeRunFault> {
     let mut names = Vec::new(rt.alloc());
     for frame in frames {
         names.push(String::from_str(rt.alloc(), frame.name.as_str())?)?;
@@ -289,7 +284,7 @@ fn names_of(rt: &HostRuntime, frames: &[Named]) -> Result<Vec<String>, FramesRun
 
 /// Opens both ROMs and the frames, and tells what the change from the one ROM to the other touches.
 #[inline(never)]
-fn diff(rt: &HostRuntime, args: &MakeArgs, other: Input) -> Result<bool, FramesRunFault> {
+fn diff(rt: &HostRuntime, args: &MakeArgs, other: Input) -> Result<bool, MakeRunFault> {
     let (mut rom, mut frames) = open_all(rt, args)?;
     let other = open(rt, other, MakeRunFault::ReadRom)?;
     let names = names_of(rt, &args.frames)?;
@@ -308,7 +303,7 @@ fn diff(rt: &HostRuntime, args: &MakeArgs, other: Input) -> Result<bool, FramesR
 
 /// Opens both dumps, the good one first, and tells how they differ.
 #[inline(never)]
-fn explain_diff(rt: &HostRuntime, args: &DumpArgs) -> Result<bool, FramesRunFault> {
+fn explain_diff(rt: &HostRuntime, args: &DumpArgs) -> Result<bool, MakeRunFault> {
     let rom = open(rt, args.rom, MakeRunFault::ReadRom)?;
     let other = open(rt, args.other, MakeRunFault::ReadRom)?;
     run_explain_diff(
@@ -322,7 +317,7 @@ fn explain_diff(rt: &HostRuntime, args: &DumpArgs) -> Result<bool, FramesRunFaul
 }
 
 /// Opens the files as [`make`] does, and answers the maker's answer with its account.
-fn make_answer(rt: &HostRuntime, args: &MakeArgs) -> Result<MakeAnswer, FramesRunFault> {
+fn make_answer(rt: &HostRuntime, args: &MakeArgs) -> Result<MakeAnswer, MakeRunFault> {
     let (mut rom, mut frames) = open_all(rt, args)?;
     run_explain_make(
         args.machine,
@@ -342,7 +337,7 @@ fn explain_make(rt: &HostRuntime, args: &MakeArgs) -> u8 {
         Ok(answer) => {
             let name = name_of(&args.frames, answer.frame());
             let mut out = Counted::new(io::writer(rt));
-            tell_check(rt, &write_make_answer(name, &answer, &mut out))
+            tell_end(rt, &write_make_answer(name, &answer, &mut out))
         }
         Err(fault) => tell_make(rt, &args.frames, &Err(fault)),
     }
@@ -355,7 +350,7 @@ fn make_file(
     rom: &mut Counted<Source>,
     frames: &mut [Counted<Source>],
     path: &str,
-) -> Result<(), FramesRunFault> {
+) -> Result<(), MakeRunFault> {
     let output = Output::open(rt, path).map_err(|error| unwritten(&error))?;
     let made = run_maker(rt, args, rom, frames, &mut Counted::new(output.file()));
     match made {
@@ -368,12 +363,12 @@ fn make_file(
 }
 
 /// The fault of a file that could not be written.
-fn unwritten(error: &io::Error) -> FramesRunFault {
-    FramesRunFault::Plain(if error.kind() == io::ErrorKind::OutOfMemory {
+fn unwritten(error: &io::Error) -> MakeRunFault {
+    if is_no_memory(error) {
         MakeRunFault::Make(MakeFault::Memory)
     } else {
         MakeRunFault::Write
-    })
+    }
 }
 
 /// Runs the maker over open files.
@@ -383,7 +378,7 @@ fn run_maker<W: CountedWrite>(
     rom: &mut Counted<Source>,
     frames: &mut [Counted<Source>],
     out: &mut W,
-) -> Result<(), FramesRunFault> {
+) -> Result<(), MakeRunFault> {
     run_make_frames(
         args.machine,
         rt.alloc(),
@@ -402,7 +397,7 @@ fn rules(rt: &HostRuntime, rule: Option<Rule>) -> Result<(), RunFault> {
     match rule {
         Some(rule) => run_rule(rt.alloc(), &rule, &mut out),
         None => {
-            let rules = all_rules(rt.alloc()).map_err(|_| RunFault::Memory)?;
+            let rules = all_rules(rt.alloc())?;
             run_rules(rt.alloc(), &rules, &mut out)
         }
     }
@@ -413,20 +408,12 @@ fn say(rt: &HostRuntime, message: &str) {
     let _ = write_message(message, &mut Counted::new(rt.stderr()));
 }
 
-/// Tells how a check ended, by a fault's message and the exit status.
-fn tell_check(rt: &HostRuntime, end: &Result<Outcome, RunFault>) -> u8 {
+/// Tells how a run ended, by a fault's message and the exit status.
+fn tell_end(rt: &HostRuntime, end: &Result<Outcome, RunFault>) -> u8 {
     if let Err(fault) = end {
         say(rt, message_of(fault));
     }
     status_of(end)
-}
-
-/// Tells how a run over frames ended, by a fault's message and the exit status.
-fn tell_frames(rt: &HostRuntime, end: &Result<FrameOutcome, RunFault>) -> u8 {
-    if let Err(fault) = end {
-        say(rt, message_of(fault));
-    }
-    frames_status_of(end)
 }
 
 /// Judges frames, and tells how that ended.
@@ -436,37 +423,37 @@ fn run_over(rt: &HostRuntime, args: FramesArgs) -> u8 {
         asked,
     } = args;
     match names {
-        FrameNames::Given(named) => tell_frames(rt, &frames(rt, named, &asked)),
+        FrameNames::Given(named) => tell_end(rt, &frames(rt, named, &asked)),
         FrameNames::Listed(input, end) => match List::open(rt, input, end) {
             Ok(mut list) => {
                 let end = listed_frames(rt, &mut list, &asked);
-                tell_frames_until(rt, end, list.fault())
+                tell_end_until(rt, end, list.fault())
             }
-            Err(fault) => tell_fault(rt, fault, FrameOutcome::Accepted),
+            Err(fault) => tell_fault(rt, fault, Outcome::Accepted),
         },
         FrameNames::Records(files, length) => {
             let mut records = Records::new(files, length);
             let end = recorded_frames(rt, &mut records, &asked);
-            tell_frames_until(rt, end, records.fault())
+            tell_end_until(rt, end, records.fault())
         }
     }
 }
 
 /// Tells why there are no frames, or none any more behind frames that came to this, and answers the exit status.
-fn tell_fault(rt: &HostRuntime, fault: FramesFault, frames: FrameOutcome) -> u8 {
+fn tell_fault(rt: &HostRuntime, fault: FramesFault, frames: Outcome) -> u8 {
     say(rt, fault.message());
     fault.status(frames)
 }
 
 /// Tells how a run over frames ended, which met this fault.
-fn tell_frames_until(
+fn tell_end_until(
     rt: &HostRuntime,
-    end: Result<FrameOutcome, RunFault>,
+    end: Result<Outcome, RunFault>,
     fault: Option<FramesFault>,
 ) -> u8 {
     match (end, fault) {
         (Ok(outcome), Some(fault)) => tell_fault(rt, fault, outcome),
-        (end, _) => tell_frames(rt, &end),
+        (end, _) => tell_end(rt, &end),
     }
 }
 
@@ -483,16 +470,16 @@ fn name_of<'a>(frames: &'a [Named], frame: Option<usize>) -> &'a str {
 
 /// Tells how a run of the maker ended, by a fault's line, which begins with the name of its frame if it is one's, and the exit
 /// status.
-fn tell_make(rt: &HostRuntime, frames: &[Named], end: &Result<(), FramesRunFault>) -> u8 {
+fn tell_make(rt: &HostRuntime, frames: &[Named], end: &Result<(), MakeRunFault>) -> u8 {
     if let Err(fault) = end {
         let name = name_of(frames, fault.frame());
         let _ = write_make_fault(name, fault, &mut Counted::new(rt.stderr()));
     }
-    make_frames_status_of(end)
+    make_status_of(end)
 }
 
 /// Tells how a comparison ended: 1 if something is touched, or differs, and as [`tell_make`] does.
-fn tell_diff(rt: &HostRuntime, frames: &[Named], end: &Result<bool, FramesRunFault>) -> u8 {
+fn tell_diff(rt: &HostRuntime, frames: &[Named], end: &Result<bool, MakeRunFault>) -> u8 {
     match end {
         Ok(touched) => u8::from(*touched),
         Err(fault) => tell_make(rt, frames, &Err(*fault)),
@@ -503,7 +490,7 @@ fn tell_diff(rt: &HostRuntime, frames: &[Named], end: &Result<bool, FramesRunFau
 fn tell_text(rt: &HostRuntime, end: &Result<(), RunFault>) -> u8 {
     match end {
         Ok(()) => 0,
-        Err(fault) => tell_check(rt, &Err(*fault)),
+        Err(fault) => tell_end(rt, &Err(*fault)),
     }
 }
 
@@ -514,7 +501,7 @@ fn tell_message(rt: &HostRuntime, message: Result<String, AllocError>, status: u
             say(rt, message.as_str());
             status
         }
-        Err(_) => tell_check(rt, &Err(RunFault::Memory)),
+        Err(_) => tell_end(rt, &Err(RunFault::Memory)),
     }
 }
 
@@ -523,7 +510,7 @@ fn tell_message(rt: &HostRuntime, message: Result<String, AllocError>, status: u
 fn tell_usage(rt: &HostRuntime, usage: &Usage) -> u8 {
     match usage {
         Usage::Argument(fault) => tell_message(rt, fault.message(rt.alloc()), 2),
-        Usage::OutOfMemory => tell_check(rt, &Err(RunFault::Memory)),
+        Usage::OutOfMemory => tell_end(rt, &Err(RunFault::Memory)),
         Usage::Fault(text) => {
             let _ = write_text(text.as_str(), &mut Counted::new(rt.stderr()));
             2
@@ -555,7 +542,7 @@ fn run(rt: &HostRuntime) -> u8 {
 fn run_parsed<'a>(rt: &HostRuntime, parsed: Parsed<'a>, labels: &'a Option<Labels>) -> u8 {
     match parsed.request(rt, labels.as_ref()) {
         Ok(Request::Frames(args)) => run_over(rt, args),
-        Ok(Request::Check(args, detail)) => tell_check(rt, &check(rt, &args, detail)),
+        Ok(Request::Check(args, detail)) => tell_end(rt, &check(rt, &args, detail)),
         Ok(Request::Make(args)) => tell_make(rt, &args.frames, &make(rt, &args)),
         Ok(Request::Places(args, window)) => {
             tell_make(rt, &args.frames, &places(rt, &args, window))

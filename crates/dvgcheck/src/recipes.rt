@@ -3,17 +3,16 @@
 ghost use Rattle.std.specs.Iterator.{IsFinite};
 
 use crate::command::{FrameNames, Named};
-use crate::frames_fault::FramesFault;
-use crate::input::{Input, Source};
+use crate::input::{Source, is_no_memory};
 use crate::list::List;
 use crate::output::Output;
 use crate::recipe_arguments::{BelongsArgs, BelongsAsked, RecipeArgs};
 use crate::records::Records;
-use crate::{open, opened, say, tell_fault, tell_frames};
-use dvg_cmd::{Counted, CountedRead, FrameOutcome, Labels, NamedFrame, RunFault, load_rom};
+use crate::{open, opened, tell_end, tell_end_until, tell_fault};
+use dvg_cmd::{Counted, CountedRead, Labels, NamedFrame, Outcome, RunFault, load_rom};
 use dvg_recipe_cmd::{
-    NamedRecipe, RecipeAsked, RecipeRunFault, Recorded, WitnessEnd, load_recipe, recipe_message_of,
-    recipe_status_of, run_belongs, run_print, run_recipe_for_witness, run_recipes,
+    NamedRecipe, RecipeAsked, Recorded, WitnessEnd, load_recipe, run_belongs, run_print,
+    run_recipe_for_witness, run_recipes,
 };
 use std::io;
 
@@ -23,22 +22,14 @@ fn opened_recipe(rt: &HostRuntime, recipe: Named) -> NamedRecipe<Counted<Source>
     NamedRecipe { name, reader }
 }
 
-/// Tells how a run ended, by a fault's message and the exit status.
-fn tell(rt: &HostRuntime, end: &Result<FrameOutcome, RecipeRunFault>) -> u8 {
-    if let Err(fault) = end {
-        say(rt, recipe_message_of(fault));
-    }
-    recipe_status_of(end)
-}
-
 /// Judges recipes, and tells how that ended.
 pub fn run_recipe(rt: &HostRuntime, args: RecipeArgs) -> u8 {
-    tell_frames(rt, &judge(rt, args))
+    tell_end(rt, &judge(rt, args))
 }
 
 /// Reads the ROM, and then judges recipe after recipe: each file is opened when the one before it is closed.
 #[inline(never)]
-fn judge(rt: &HostRuntime, args: RecipeArgs) -> Result<FrameOutcome, RunFault> {
+fn judge(rt: &HostRuntime, args: RecipeArgs) -> Result<Outcome, RunFault> {
     let RecipeArgs {
         rom,
         recipes,
@@ -71,10 +62,10 @@ fn judge_for_witness(
     labels: Option<&Labels>,
     recipes: Vec<Named>,
     path: &str,
-) -> Result<FrameOutcome, RunFault> {
+) -> Result<Outcome, RunFault> {
     let mut recipes = recipes;
     let Some(recipe) = recipes.pop() else {
-        return Ok(FrameOutcome::Accepted);
+        return Ok(Outcome::Accepted);
     };
     let output = Output::open(rt, path).map_err(|error| unwritten(&error))?;
     let judged = run_recipe_for_witness(
@@ -100,7 +91,7 @@ fn judge_for_witness(
 
 /// The fault of a file that could not be written.
 fn unwritten(error: &io::Error) -> RunFault {
-    if error.kind() == io::ErrorKind::OutOfMemory {
+    if is_no_memory(error) {
         RunFault::Memory
     } else {
         RunFault::Write
@@ -109,16 +100,12 @@ fn unwritten(error: &io::Error) -> RunFault {
 
 /// Prints a recipe, and tells how that ended.
 pub fn run_print_of(rt: &HostRuntime, recipe: &Named, labels: Option<&Labels>) -> u8 {
-    tell(rt, &print(rt, recipe, labels))
+    tell_end(rt, &print(rt, recipe, labels))
 }
 
 #[inline(never)]
-fn print(
-    rt: &HostRuntime,
-    recipe: &Named,
-    labels: Option<&Labels>,
-) -> Result<FrameOutcome, RecipeRunFault> {
-    let file = open(rt, recipe.input, RecipeRunFault::ReadRecipe)?;
+fn print(rt: &HostRuntime, recipe: &Named, labels: Option<&Labels>) -> Result<Outcome, RunFault> {
+    let file = open(rt, recipe.input, RunFault::ReadRecipe)?;
     run_print(
         rt.alloc(),
         recipe.name.as_str(),
@@ -135,23 +122,23 @@ pub fn run_belonging(rt: &HostRuntime, args: BelongsArgs) -> u8 {
     match frames {
         FrameNames::Given(named) => {
             let frames = named.into_iter().map(|frame| opened(rt, frame));
-            tell(rt, &belong(rt, &asked, frames))
+            tell_end(rt, &belong(rt, &asked, frames))
         }
         FrameNames::Listed(input, end) => match List::open(rt, input, end) {
             Ok(mut list) => {
                 // No list has so many names.
                 let frames = (0..u64::MAX).map_while(|_| list.next_frame(rt));
                 let end = belong(rt, &asked, frames);
-                tell_until(rt, end, list.fault())
+                tell_end_until(rt, end, list.fault())
             }
-            Err(fault) => tell_fault(rt, fault, FrameOutcome::Accepted),
+            Err(fault) => tell_fault(rt, fault, Outcome::Accepted),
         },
         FrameNames::Records(files, length) => {
             let mut records = Records::new(files, length);
             // No files have so many records.
             let frames = (0..u64::MAX).map_while(|_| records.step(rt)).flatten();
             let end = belong(rt, &asked, frames);
-            tell_until(rt, end, records.fault())
+            tell_end_until(rt, end, records.fault())
         }
     }
 }
@@ -162,12 +149,12 @@ fn belong<R: CountedRead + Drop, I: Iterator<Item = NamedFrame<R>> + Drop>(
     rt: &HostRuntime,
     asked: &BelongsAsked,
     frames: I,
-) -> Result<FrameOutcome, RecipeRunFault>
+) -> Result<Outcome, RunFault>
     requires can { I.can_next frames }
     requires ends { IsFinite (I.remaining frames) }
 {
     let rom = load_rom(&mut Counted::new(open(rt, asked.rom, RunFault::ReadRom)?))?;
-    let file = open(rt, asked.recipe, RecipeRunFault::ReadRecipe)?;
+    let file = open(rt, asked.recipe, RunFault::ReadRecipe)?;
     let recipe = load_recipe(rt.alloc(), &mut Counted::new(file), asked.labels)?;
     let given = Recorded {
         rom: rom.as_slice(),
@@ -175,17 +162,5 @@ fn belong<R: CountedRead + Drop, I: Iterator<Item = NamedFrame<R>> + Drop>(
         recipe: &recipe,
     };
     let mut out = Counted::new(io::writer(rt));
-    Ok(run_belongs(rt.alloc(), &given, frames, asked.listing, &mut out)?)
-}
-
-/// Tells how a run over frames ended, which met this fault.
-fn tell_until(
-    rt: &HostRuntime,
-    end: Result<FrameOutcome, RecipeRunFault>,
-    fault: Option<FramesFault>,
-) -> u8 {
-    match (end, fault) {
-        (Ok(outcome), Some(fault)) => tell_fault(rt, fault, outcome),
-        (end, _) => tell(rt, &end),
-    }
+    run_belongs(rt.alloc(), &given, frames, asked.listing, &mut out)
 }

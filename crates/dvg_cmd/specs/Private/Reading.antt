@@ -2,9 +2,8 @@
 use Rattle.std.specs.Prelude.{◌≡◌, ◌<◌, ℕ, List, [], ◌∷◌, take, length, Option, IfSome}
 use Rattle.dvg_make.specs.declared.fault.MakeFault.TheVariants as making
 use Rattle.dvg_cmd.specs.Runs.{MOST_FRAME_READ}
-use Rattle.dvg_spelling.specs.declared.fault.MakeRunFault.TheVariants as maker
-use Rattle.dvg_cmd.specs.MakingFrames.{FramesRunFault, FirstWrong}
-use Rattle.dvg_spelling.specs.declared.fault.FramesRunFault.TheVariants as fault
+use Rattle.dvg_cmd.specs.MakingFrames.{MakeRunFault, FirstWrong}
+use Rattle.dvg_spelling.specs.declared.fault.MakeRunFault.TheVariants as fault
 use Rattle.dvg_text.specs.Stream.{Stream, Open, Refused}
 
 -- the first of the bytes, up to a limit
@@ -27,7 +26,7 @@ ArePrefixes (reader ∷ readers) (bytes ∷ rest) = IsPrefix MOST_FRAME_READ rea
 ArePrefixes readers rest = ⊥
 
 -- why bytes of several frames are not frames: the first has a wrong length, or memory was out, which no frames need
-abbrev pub RefusesLengths : List (List ℕ) → FramesRunFault → Type 0
+abbrev pub RefusesLengths : List (List ℕ) → MakeRunFault → Type 0
 RefusesLengths read (fault.FrameLength n) = FirstWrong read n
-RefusesLengths read (fault.Plain (maker.Make making.Memory)) = 0 < length read
+RefusesLengths read (fault.Make making.Memory) = 0 < length read
 RefusesLengths read f = ⊥

@@ -1,4 +1,4 @@
-use Rattle.dvg_cmd.proofs.Common.{arith, ◌<◌, [], ◌∷◌, length, refl, ap, subst, frames_run_number, of_each, ◌↔◌, IsTrue}
+use Rattle.dvg_cmd.proofs.Common.{arith, ◌<◌, [], ◌∷◌, length, refl, ap, subst, make_run_number, of_each, ◌↔◌, IsTrue}
 use Rattle.dvg_cmd.proofs.Whole.{wrong_length}
 use Rattle.dvg_cmd.proofs.FramesRuns.{rom_failed, told_err, frames_refused, compared}
 use Rattle.dvg_cmd.proofs.comparing.run_comparison.Goals as goal
@@ -19,7 +19,7 @@ returns-in_err-other_image-clause-refused g c =
     grind (
       arith,
       told_err,
-      frames_run_number,
+      make_run_number,
       of_each,
       (wrong_length c.args.map c.in_err-other_image.ensures.map (g.R1.Read.remaining c.args.other.now)
           c.in_ok-other_bytes.other_bytes.items c.in_ok-other_bytes.ensures.bytes c.args.machine c.args.roots.now
@@ -31,7 +31,7 @@ returns-in_err-images-clause-refused g c =
     grind (
       arith,
       told_err,
-      frames_run_number,
+      make_run_number,
       of_each,
       (c.in_err-images.ensures.refused _ _
           (record { rom_prefix = c.in_ok-rom.ensures.bytes; frame_prefixes = c.in_ok-frames.ensures.bytes }) c.args.roots.now),
@@ -43,7 +43,7 @@ returns-in_err-comparison-clause-refused g c =
     frames_refused c.in_ok-images.ensures.images
     (record { rom_prefix = c.in_ok-rom.ensures.bytes; frame_prefixes = c.in_ok-frames.ensures.bytes }) c.deref.ensures.value
     c.args.roots.now c.in_err-comparison.field-0.0 c.in_err-comparison.ensures.err c.in_err-comparison.ensures.told in
-    grind (arith, told_err, frames_run_number, of_each, refused)
+    grind (arith, told_err, make_run_number, of_each, refused)
 
 pub returns-in_err-write_comparison-clause-prefix : goal.returns-in_err-write_comparison-clause-prefix
 returns-in_err-write_comparison-clause-prefix g c =

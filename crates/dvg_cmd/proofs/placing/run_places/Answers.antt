@@ -1,20 +1,20 @@
-use Rattle.dvg_cmd.proofs.Common.{frames_run_number, of_each, joined, arith}
+use Rattle.dvg_cmd.proofs.Common.{make_run_number, of_each, joined, arith}
 use Rattle.dvg_cmd.proofs.FramesRuns.{told_err, frames_refused, places_made}
 use Rattle.dvg_cmd.proofs.placing.run_places.Goals as goal
 
 pub returns-in_err-bytes-clause-refused : goal.returns-in_err-bytes-clause-refused
-returns-in_err-bytes-clause-refused g c = grind (arith, told_err, frames_run_number, of_each)
+returns-in_err-bytes-clause-refused g c = grind (arith, told_err, make_run_number, of_each)
 
 pub returns-in_err-images-clause-refused : goal.returns-in_err-images-clause-refused
 returns-in_err-images-clause-refused g c =
-    grind (arith, told_err, frames_run_number, of_each, (c.in_err-images.ensures.refused _ _ c.in_ok-bytes.ensures.bytes c.args.roots.now))
+    grind (arith, told_err, make_run_number, of_each, (c.in_err-images.ensures.refused _ _ c.in_ok-bytes.ensures.bytes c.args.roots.now))
 
 pub returns-in_err-cert-clause-refused : goal.returns-in_err-cert-clause-refused
 returns-in_err-cert-clause-refused g c =
     grind (
       arith,
       (told_err c.from_residual-in_err-cert.result),
-      frames_run_number,
+      make_run_number,
       of_each,
       (frames_refused c.in_ok-images.ensures.images c.in_ok-bytes.ensures.bytes c.deref.ensures.value c.args.roots.now
           c.in_err-cert.field-0.0 c.in_err-cert.ensures.err c.in_err-cert.ensures.told),

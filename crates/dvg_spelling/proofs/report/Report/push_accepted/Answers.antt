@@ -1,5 +1,5 @@
-use Rattle.std.proofs.Common.{append_assoc}
-use Rattle.dvg_recipe_cmd.proofs.answer.push_yes.Goals as goal
+use Rattle.dvg_spelling.proofs.Common.{append_assoc}
+use Rattle.dvg_spelling.proofs.report.Report.push_accepted.Goals as goal
 
 pub returns-clause-text : goal.returns-clause-text
 returns-clause-text c =
