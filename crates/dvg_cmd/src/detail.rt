@@ -70,7 +70,7 @@ impl Behind {
     }
 
     /// The outcome of a line and of this text behind it.
-    pub fn outcome(&self, line: Outcome) -> Outcome
+    pub fn outcome_with(&self, line: Outcome) -> Outcome
         ensures { result ≡ outcome_behind self.now line }
     {
         match self {

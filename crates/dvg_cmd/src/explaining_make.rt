@@ -184,5 +184,5 @@ pub fn write_make_answer<W: CountedWrite>(
         Ok(_) => Outcome::Accepted,
         Err(_) => Outcome::Refused,
     };
-    Ok(answer.behind.outcome(outcome))
+    Ok(answer.behind.outcome_with(outcome))
 }

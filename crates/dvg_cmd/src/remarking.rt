@@ -80,11 +80,13 @@ impl BehindFrame {
     }
 
     /// The outcome of a frame's line and of this text behind it.
-    pub fn outcome(&self, line: Outcome) -> Outcome
+    pub fn outcome_with(&self, line: Outcome) -> Outcome
         ensures { result ≡ outcome_behind_frame self.now line }
     {
         match self {
-            BehindFrame::Answer(behind) | BehindFrame::Called(behind, _) => { behind.outcome(line) }
+            BehindFrame::Answer(behind) | BehindFrame::Called(behind, _) => {
+                behind.outcome_with(line)
+            }
             BehindFrame::Remarks(_) => line,
             BehindFrame::NoRemarks => line.or_worse(Outcome::NoMemory),
         }

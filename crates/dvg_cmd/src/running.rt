@@ -211,7 +211,7 @@ pub fn write_report<W: CountedWrite>(
 {
     let report = report_of(verdict);
     write_lines(report.as_bytes(), behind.text().as_bytes(), &[], out)?;
-    Ok(behind.outcome(outcome_of(verdict)))
+    Ok(behind.outcome_with(outcome_of(verdict)))
 }
 
 /// Reads a ROM, a frame and a certificate, in this order, and writes the report of the verdict on them, and an account of it if the

@@ -111,7 +111,7 @@ impl<'j, 'a, J: FrameJudge, R: CountedRead + Drop> Tell<NamedFrame<R>> for Frame
             reader,
             detail,
         );
-        let outcome = behind.outcome(frame_outcome_of(&answer));
+        let outcome = behind.outcome_with(frame_outcome_of(&answer));
         let report = frame_report_of(&answer);
         progress.write_line(
             outcome,

@@ -181,7 +181,7 @@ impl<'a, R: CountedRead + Drop> Tell<NamedFrame<R>> for MemberTeller<'a> {
             reader,
             self.listing.detail,
         );
-        let outcome = behind.outcome(membership_outcome_of(membership));
+        let outcome = behind.outcome_with(membership_outcome_of(membership));
         let line = membership_line_of(membership);
         progress.write_line(outcome, name.as_str(), line.as_bytes(), behind.text(), out)?;
         progress.tally.add(membership);
@@ -220,7 +220,7 @@ fn write_refusal<W: CountedWrite>(
     );
     let line = refusal_line_of(no);
     write_lines(line.as_bytes(), behind.text().as_bytes(), &[], out)?;
-    Ok(behind.outcome(refusal_outcome_of(no)))
+    Ok(behind.outcome_with(refusal_outcome_of(no)))
 }
 
 /// Tells of frames, one after another, whether they are one of a recipe's, and writes a line for each that the listing has: the name, which

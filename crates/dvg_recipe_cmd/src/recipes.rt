@@ -230,7 +230,7 @@ impl<'a, R: CountedRead + Drop> Tell<NamedRecipe<R>> for RecipeTeller<'a> {
             self.wanted,
         );
         self.witness = witness;
-        let outcome = behind.outcome(recipe_outcome_of(&answer));
+        let outcome = behind.outcome_with(recipe_outcome_of(&answer));
         let line = recipe_line_of(&answer);
         progress.write_line(outcome, name.as_str(), line.as_bytes(), behind.text(), out)?;
         progress.add(outcome);

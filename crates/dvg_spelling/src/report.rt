@@ -2,7 +2,7 @@
 
 ghost use Rattle.std.specs.Prelude.{◌≡◌, ◌+◌, ◌≤◌, ◌<◌, ◌++◌, [], length, codes, decimal};
 ghost use Rattle.dvg_spelling.specs.Messages.{fault_message, make_message, make_line_text};
-ghost use Rattle.dvg_spelling.specs.Report.{report_text, counts_text, refusal_text, entry_text, hex_word, hex_address, unmade_text, frame_refusal_text, answer_text, clocks_text, frame_line_text};
+ghost use Rattle.dvg_spelling.specs.Report.{report_text, counts_text, refusal_text, entry_text, hex_word, hex_address, caller_text, unmade_text, frame_refusal_text, answer_text, clocks_text, frame_line_text};
 
 use crate::fault::{MakeRunFault, RunFault};
 use crate::outcome::FrameAnswer;
@@ -135,6 +135,17 @@ impl Report {
         self.push(Buffer::new().format(clocks.most).as_bytes());
     }
 
+    fn push_caller(&mut self, caller: Caller)
+        requires { length self.old ≤ 25 }
+        ensures text { self.new ≡ self.old ++ caller_text caller }
+        ensures short { length self.new ≤ 63 }
+    {
+        match caller {
+            Caller::Frame(at) => self.push_address(b" for frame at ", at),
+            Caller::RecipeLine(line) => self.push_count(b" for recipe line ", line),
+        }
+    }
+
     /// Why the entry is not made that a call needs, and whose call that is.
     pub fn push_unmade(&mut self, why: EntryFault, caller: Caller)
         requires { length self.old ≤ 2 }
@@ -148,10 +159,7 @@ impl Report {
             EntryFault::TooManyEntries => self.push(b"refused 62 by entries"),
             EntryFault::Memory => return self.push(b"out of memory"),
         }
-        match caller {
-            Caller::Frame(at) => self.push_address(b" for frame at ", at),
-            Caller::RecipeLine(line) => self.push_count(b" for recipe line ", line),
-        }
+        self.push_caller(caller);
     }
 
     /// With its LF.
