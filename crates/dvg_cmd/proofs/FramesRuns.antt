@@ -165,6 +165,10 @@ module _ (machine : Machine) (rom : Option (List ℕ)) (map : MemoryMap) (roots 
   none_wrong [] n held wrong = wrong
   none_wrong (first ∷ rest) n held wrong = held
 
+  none_failed : (before after : List ℕ) (count : ℕ) → [] ≡ before ++ count ∷ after → ⊥
+  none_failed [] after count is = grind (arith)
+  none_failed (first ∷ before) after count is = grind (arith)
+
   fault_of_roots : (f : MakeRunFault) → FramesFaultMeans machine rom map roots [] f
       → FailedAfter (blames_a_frame {A = Unit {0}} (Err f)) [] [] → MakeFaultMeans machine rom map roots f
   fault_of_roots fault.RomLength h failed = h
@@ -174,7 +178,7 @@ module _ (machine : Machine) (rom : Option (List ℕ)) (map : MemoryMap) (roots 
   fault_of_roots (fault.Make f) h failed = subst (λ f. MakeFaultMeans machine rom map roots (fault.Make f)) h.1 (roots_refused h.0 h.2)
   fault_of_roots (fault.FrameLength n) h failed = none_wrong h.frame_bytes n h.frames_held h.wrong
   fault_of_roots (fault.Call call why) h failed = grind (arith)
-  fault_of_roots fault.ReadFrame h failed = grind (arith)
+  fault_of_roots fault.ReadFrame h failed = none_failed failed.before failed.after failed.count failed.old_is
 
   pub roots_fault : (r : Result (Unit {0}) MakeRunFault) → IfErr r (FramesFaultMeans machine rom map roots [])
       → FailedAfter (blames_a_frame r) [] [] → IfErr r (MakeFaultMeans machine rom map roots)
