@@ -37,14 +37,15 @@ fn four(rt: &impl Abort, alloc: Global) -> Inputs {
 #[test]
 fn cut_certificates(rt: HostRuntime) {
     let four = four(&rt, rt.alloc());
+    let text = four.text.as_slice();
     let mut line = 1usize;
-    for at in 0..four.text.len() {
+    for at in 0..text.len() {
         let report = format!(in rt.alloc(); "refused 13 certificate line {line}");
         let report = report.expect(&rt, "memory");
         let mut case = four.case(Machine::Profile);
-        case.text = &four.text[..at];
+        case.text = &text[..at];
         expect(&rt, case.is_reported(rt.alloc(), &report), &at);
-        if four.text[at] == b'\n' {
+        if text[at] == b'\n' {
             line = line.saturating_add(1);
         }
     }
