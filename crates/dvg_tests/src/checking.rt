@@ -1,4 +1,5 @@
-//! Verdicts on shapes and frames by calls that the rows don't ask: a shape with a lit stroke and a frame that calls it. And what faults show.
+//! Verdicts on shapes and frames by calls that the rows don't ask: a shape with a lit stroke and a frame that calls it. And what faults
+//! show.
 
 use crate::expecting::{expect, expect_same, expect_shown};
 use crate::inputs::{STROKE, STROKE_CERT, STROKE_FRAME, rom_of};

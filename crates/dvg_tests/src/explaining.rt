@@ -18,8 +18,8 @@ use std::process::Abort;
 /// A ROM with a stroke of one screen place to the right at 800, and RTSL.
 const SHORT: &str = "800 9000 7001 D000";
 
-/// Frames with a budget of three words and no entry: the word address of the refusal, its cause, and the words. Lines that begin with `;` say
-/// what rows show.
+/// Frames with a budget of three words and no entry: the word address of the refusal, its cause, and the words. Lines that begin with `;`
+/// say what rows show.
 const FRAMES: &str = "\
 ; a LABS whose second word is not there, RTSL, JMPL 000, and a lit stroke before any LABS
 000 Unmapped: A200
@@ -102,8 +102,8 @@ const WIDE_CERT: &[u8] =
 /// That stroke's ROM.
 const WIDE: &str = "800 9000 040A 9000 7014 D000";
 
-/// Frames that a board judges for the zone that it clips: the verdict's line, the word addresses of the items that light past the screen, and
-/// the words. Lines that begin with `;` say what rows show.
+/// Frames that a board judges for the zone that it clips: the verdict's line, the word addresses of the items that light past the screen,
+/// and the words. Lines that begin with `;` say what rows show.
 const CLIPPED_FRAMES: &str = "\
 ; strokes over the left, the right, the lower and the upper edge, one that stays on the screen, a dark move from -5 to the left edge, and a
 ; call at 4, whose box reaches to -6

@@ -106,8 +106,8 @@ fn counts_mixed(rt: HostRuntime) {
     }
 }
 
-/// The last words of the areas of a list at 000 of 9 words, of a jump to 100 with 15, and of one from there to 200 with one, each with a JMPL
-/// or a HALT.
+/// The last words of the areas of a list at 000 of 9 words, of a jump to 100 with 15, and of one from there to 200 with one, each with a
+/// JMPL or a HALT.
 #[test]
 fn counts_jumps(rt: HostRuntime) {
     for (list, [first, second], past) in [

@@ -10,8 +10,8 @@ use std::alloc::{AllocError, Global};
 use std::fmt::Write;
 use std::process::Abort;
 
-/// Texts, spelled as those of [`texts`](crate::recipes::texts) are, what their recipes say, and the lines of their pieces. Names of `LABELS` that
-/// they use are their own.
+/// Texts, spelled as those of [`texts`](crate::recipes::texts) are, what their recipes say, and the lines of their pieces. Names of `LABELS`
+/// that they use are their own.
 const SAYINGS: &str = "\
 dvgrecipe 1|; A game of rocks over examples/arcade.rom. It has two lists: one is shown while the other is written.|list 001 1FF|list 201 3FF|shapes DIGIT 8B4 8B5 8B9 8C1 8C8 8CF 8D0 8D8 8DD 8E5|shapes SHIP 8FD 904 911 918 925 92C 939 940 94D 952 95B 960 969 96E 977 97C|; SCORE at 48, 976, and HIGH SCORE at 600, 976, both at scale 1|words A3D0 1030 C9CA C8EC|repeat 1 6|  call DIGIT|end|words A3D0 1258 C9CF C8EC|repeat 1 6|  call DIGIT|end|; the ships that are left, each 24 places further to the right; the shots below are led to by dark moves|words A3AC 0034 C8FD|repeat 0 4|  words 9000 0018 C8FD|end|repeat 0 27|  place 0 1023 0 1023 scale 0 1 2|  call 985 994 9A4|end|repeat 0 1|  place 0 1023 0 1023 scale 1|  call SHIP|  place 0 1023 0 1023 scale 0|  words 9000 F000|  repeat 0 3|    vctr 9 x -1023 1023 y -1023 1023 bright 0 0|    words 9000 F000|  end|end|repeat 0 1|  place 0 1023 0 1023 scale 0 1|  call 9B3|end|call 9EF|halt|
 list 001 1FF, list 201 3FF, place 48 48 976 976 scale 1, call 9CA, call 8EC, [1 6: call 8B4 8B5 8B9 8C1 8C8 8CF 8D0 8D8 8DD 8E5], place 600 600 976 976 scale 1, call 9CF, call 8EC, [1 6: call 8B4 8B5 8B9 8C1 8C8 8CF 8D0 8D8 8DD 8E5], place 52 52 940 940 scale 0, call 8FD, [0 4: draw 2 9 x 24 24 y 0 0 bright 0 0, call 8FD], [0 27: place 0 1023 0 1023 scale 0 1 2, call 985 994 9A4], [0 1: place 0 1023 0 1023 scale 1, call 8FD 904 911 918 925 92C 939 940 94D 952 95B 960 969 96E 977 97C, place 0 1023 0 1023 scale 0, draw 2 9 x 0 0 y 0 0 bright 15 15, [0 3: draw 2 9 x -1023 1023 y -1023 1023 bright 0 0, draw 2 9 x 0 0 y 0 0 bright 15 15]], [0 1: place 0 1023 0 1023 scale 0 1, call 9B3], call 9EF, halt
