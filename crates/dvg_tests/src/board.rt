@@ -184,6 +184,11 @@ frame A000 03FE 8000 7001 8000 7001 B000
 board refused 46 frame at 004
 accepted shapes=0 words=7 depth=0
 
+the same two at the left edge, in a window of two places and where counts are exact
+frame A000 0000 8000 7001 8000 7001 B000
+window 0,1,0,1
+mode exact
+
 one draw of 2 there
 frame A000 03FE 8000 7002 B000
 board accepted shapes=0 words=5 depth=0

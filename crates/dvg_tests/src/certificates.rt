@@ -1,9 +1,10 @@
 //! Texts that are read and written, devices that fail, and what faults show.
 
-mod devices;
+mod counted;
 
 use crate::expecting::{expect, expect_same, expect_shown};
-use crate::inputs::{EMPTY, STROKE_AT_400, STROKE_CERT, STROKE_TWICE};
+use crate::inputs::{EMPTY, STROKE_CERT};
+use crate::table::text_of_lines;
 use dvg_cert::*;
 use dvg_text::*;
 use std::alloc::Global;
@@ -12,32 +13,25 @@ use std::process::Abort;
 /// What a reader answers: how many entries, or the refusal.
 pub type Answer = Result<usize, CertFault>;
 
-/// An entry past the ROM's last word.
-const PAST_7FF: &[u8] =
-    b"dvgcert 2\nrom 400 7FF\nshape 800 0 end rel 0 0 box none depth 0 words 3 scale 0\ndone 1\n";
-
-const KEYS_FALL: &[u8] =
-    b"dvgcert 1\nshape 800 any end lost box none depth 0 words 1 scale 0\nshape 800 15 end lost box none depth 0 words 1 scale 0\ndone 2\n";
-
-const LONGEST: &[u8] =
-    b"dvgcert 1\nshape BFF any end rel -2000000000000 -2000000000000 box -2000000000000 -2000000000000 -2000000000000 -2000000000000 depth 3 words 1000000 scale any\ndone 1\n";
-
-fn refused(line: u32, why: CertWhy) -> Answer {
-    Err(CertFault { line, why })
-}
-
-fn answer_of(read: Result<Cert, CertFault>) -> Answer {
-    match read {
-        Ok(cert) => Ok(cert.entries().len()),
-        Err(fault) => Err(fault),
-    }
+/// What was answered of a text. What is taken must be written back as it was.
+pub fn answer_of(
+    rt: &impl Abort,
+    alloc: Global,
+    text: &[u8],
+    read: Result<Cert, CertFault>,
+) -> Answer {
+    let cert = read?;
+    let mut out = Counted::new(Vec::new(alloc));
+    let is_written = write_cert(&cert, &mut out).is_ok();
+    expect(rt, is_written && out.into_inner().as_slice() == text, &text);
+    Ok(cert.entries().len())
 }
 
 /// Whether a reader that was refused answers the same to what comes after it, and at its end.
 fn is_refused_for_good(reader: CertReader, fault: CertFault) -> bool {
     let mut reader = reader;
     let fed = reader.feed(b"done 0\n");
-    fed == Err(fault) && answer_of(reader.finish()) == Err(fault)
+    fed == Err(fault) && reader.finish().err() == Some(fault)
 }
 
 /// Feeds pieces of one size after a first one. A refusal must stay, whatever comes.
@@ -54,168 +48,116 @@ pub fn fed(rt: &impl Abort, alloc: Global, text: &[u8], first: usize, size: usiz
         rest = after;
         most = size;
     }
-    answer_of(reader.finish())
+    answer_of(rt, alloc, text, reader.finish())
 }
 
-/// Whether this is the text that is written of a certificate.
-pub fn is_written(alloc: Global, cert: &Cert, text: &[u8]) -> bool {
-    let mut out = Counted::new(Vec::new(alloc));
-    write_cert(cert, &mut out).is_ok() && out.into_inner().as_slice() == text
-}
-
-/// Whether a text is refused, or is that of the certificate that it spells.
-fn is_read_back(alloc: Global, text: &[u8]) -> bool {
-    match read_cert(alloc, text) {
-        Ok(cert) => is_written(alloc, &cert, text),
-        Err(_) => true,
-    }
-}
-
-/// The answers to a text, cut everywhere, and its bytes again where it is taken.
+/// The answer to a text, in one piece, byte by byte, and cut everywhere.
 fn check_row(rt: &impl Abort, alloc: Global, text: &[u8], want: Answer) {
-    expect_same(
-        rt,
-        &answer_of(read_cert(alloc, text)),
-        &want,
-        &"in one piece",
-    );
-    expect_same(rt, &fed(rt, alloc, text, 1, 1), &want, &"byte by byte");
+    let whole = answer_of(rt, alloc, text, read_cert(alloc, text));
+    expect_same(rt, &whole, &want, &text);
+    expect_same(rt, &fed(rt, alloc, text, 1, 1), &want, &text);
     for at in 0..=text.len() {
-        expect_same(rt, &fed(rt, alloc, text, at, text.len()), &want, &at);
+        let cut = fed(rt, alloc, text, at, text.len());
+        expect_same(rt, &cut, &want, &(text, at));
     }
-    expect(rt, is_read_back(alloc, text), &want);
 }
 
-/// Texts that are taken, and how many entries they have.
-const TAKEN: &[(&[u8], usize)] = &[
-    (EMPTY, 0),
-    (STROKE_CERT, 1),
-    (LONGEST, 1),
-    (b"dvgcert 2\nrom 400 7FF\ndone 0\n", 0),
-    (b"dvgcert 2\nrom 400 BFF\ndone 0\n", 0),
-    (b"dvgcert 2\nrom BFF BFF\ndone 0\n", 0),
-    (STROKE_AT_400, 1),
-];
-
-/// Whole texts that are refused, the line of the refusal and its reason. Lines are counted from the first, and the line of the ROM
-/// counts.
-const REFUSED: &[(&[u8], u32, CertWhy)] = &[
-    (b"dvgcert 1\ndone 1\n", 2, CertWhy::Count),
-    (STROKE_TWICE, 3, CertWhy::Order),
-    (KEYS_FALL, 3, CertWhy::Order),
-    (b"dvgcert 1\ndone 0\n\n", 3, CertWhy::After),
-    (b"dvgcert 1\r\ndone 0\r\n", 1, CertWhy::Form),
-    (b"dvgcert 3\n", 1, CertWhy::Form),
-    (PAST_7FF, 3, CertWhy::Form),
-    (b"dvgcert 2\nrom 400 7FF\ndone 0\nx", 4, CertWhy::After),
-];
+/// Texts, with `|` for each LF. Before each stand `ok` and how many entries it has, or the reason and the line of its refusal. Lines are
+/// counted from the first, and the line of the ROM counts. Lines that begin with `;` say what rows show.
+const TEXTS: &str = "\
+ok 0: dvgcert 1|done 0|
+ok 1: dvgcert 1|shape 800 0 end rel 1047552 785408 box 0 1047552 0 785408 depth 0 words 3 scale 0|done 1|
+ok 1: dvgcert 1|shape BFF any end rel -2000000000000 -2000000000000 box -2000000000000 -2000000000000 -2000000000000 -2000000000000 depth 3 words 1000000 scale any|done 1|
+ok 0: dvgcert 2|rom 400 7FF|done 0|
+ok 0: dvgcert 2|rom 400 BFF|done 0|
+ok 0: dvgcert 2|rom BFF BFF|done 0|
+ok 1: dvgcert 2|rom 400 7FF|shape 400 0 end rel 1047552 785408 box 0 1047552 0 785408 depth 0 words 3 scale 0|done 1|
+Count 2: dvgcert 1|done 1|
+Order 3: dvgcert 1|shape 800 0 end rel 1047552 785408 box 0 1047552 0 785408 depth 0 words 3 scale 0|shape 800 0 end rel 1047552 785408 box 0 1047552 0 785408 depth 0 words 3 scale 0|done 2|
+Order 3: dvgcert 1|shape 800 any end lost box none depth 0 words 1 scale 0|shape 800 15 end lost box none depth 0 words 1 scale 0|done 2|
+After 3: dvgcert 1|done 0||
+Form 1: dvgcert 1\r|done 0\r|
+Form 1: dvgcert 3|
+; an entry past the ROM's last word
+Form 3: dvgcert 2|rom 400 7FF|shape 800 0 end rel 0 0 box none depth 0 words 3 scale 0|done 1|
+After 4: dvgcert 2|rom 400 7FF|done 0|x
+; lines of entries that are taken
+Unended 3: dvgcert 1|shape 800 0 end lost box none depth 3 words 1 scale any|
+Unended 3: dvgcert 1|shape 800 15 end abs 2000000000000 0 box 0 0 -1 -1 depth 0 words 1000000 scale 15|
+; lines that are not of the format, or not the second line behind `dvgcert 1`
+Form 2: dvgcert 1|done 00|
+Form 2: dvgcert 1|done 4097|
+Form 2: dvgcert 1|rom 400 7FF|
+Form 2: dvgcert 1|shape 800 0 end lost box none depth 4 words 1 scale 0|
+Form 2: dvgcert 1|shape 800 0 end lost box 1 0 0 0 depth 0 words 1 scale 0|
+Form 2: dvgcert 1|shape 800 0 end lost box 0 0 1 0 depth 0 words 1 scale 0|
+Form 2: dvgcert 1|shape 800 0 end lost box none depth 0 words 0 scale 0|
+Form 2: dvgcert 1|shape 800 0 end lost box none depth 0 words 1000001 scale 0|
+Form 2: dvgcert 1|shape 80a 0 end lost box none depth 0 words 1 scale 0|
+Form 2: dvgcert 1|shape 7FF 0 end lost box none depth 0 words 1 scale 0|
+Form 2: dvgcert 1|shape C00 0 end lost box none depth 0 words 1 scale 0|
+Form 2: dvgcert 1|shape 800 16 end lost box none depth 0 words 1 scale 0|
+Form 2: dvgcert 1|shape 800 00 end lost box none depth 0 words 1 scale 0|
+Form 2: dvgcert 1|shape 800 0 end rel -0 0 box none depth 0 words 1 scale 0|
+Form 2: dvgcert 1|shape 800 0 end rel +1 0 box none depth 0 words 1 scale 0|
+Form 2: dvgcert 1|shape 800 0 end rel 01 0 box none depth 0 words 1 scale 0|
+Form 2: dvgcert 1|shape 800 0 end rel 2000000000001 0 box none depth 0 words 1 scale 0|
+Form 2: dvgcert 1|shape 800 0 end rel 0 -2000000000001 box none depth 0 words 1 scale 0|
+Form 2: dvgcert 1|shape 800 0 end lost box none depth 0 words 1 scale 0\r|
+Form 2: dvgcert 1|shape 800 0  end lost box none depth 0 words 1 scale 0|
+Form 2: dvgcert 1|shape 800 0 end lost box none depth 0 words 1 scale 0 |
+; no second line behind `dvgcert 2`: no map, the usual map, ends swapped, a map that begins below the ROM's part of the memory, one that
+; ends above it, and small letters
+Form 2: dvgcert 2|done 0|
+Form 2: dvgcert 2|rom 800 BFF|
+Form 2: dvgcert 2|rom 7FF 400|
+Form 2: dvgcert 2|rom 3FF 7FF|
+Form 2: dvgcert 2|rom 400 C00|
+Form 2: dvgcert 2|rom 400 7ff|";
 
 #[test]
-fn whole_texts(rt: HostRuntime) {
-    for &(text, entries) in TAKEN {
-        check_row(&rt, rt.alloc(), text, Ok(entries));
-    }
-    for &(text, line, why) in REFUSED {
-        check_row(&rt, rt.alloc(), text, refused(line, why));
+fn texts(rt: HostRuntime) {
+    for row in TEXTS.lines() {
+        if !row.starts_with(";") {
+            let (want, lines) = row.split_once(": ").expect(&rt, "a row");
+            let text = text_of_lines(&rt, rt.alloc(), lines);
+            let answer = answer_of(&rt, rt.alloc(), &text, read_cert(rt.alloc(), &text));
+            let told = match answer {
+                Ok(entries) => format!(in rt.alloc(); "ok {entries}"),
+                Err(CertFault { line, why }) => format!(in rt.alloc(); "{why:?} {line}"),
+            };
+            expect_same(&rt, &told.expect(&rt, "memory").as_str(), &want, &lines);
+            check_row(&rt, rt.alloc(), &text, answer);
+        }
     }
 }
 
 /// Lines of 200 and of 199 bytes, with and without an end.
 #[test]
 fn long_lines(rt: HostRuntime) {
+    let refused = |why: CertWhy| Err(CertFault { line: 1, why });
     let mut line = [b'a'; 200];
-    check_row(&rt, rt.alloc(), &line, refused(1, CertWhy::TooLong));
-    check_row(&rt, rt.alloc(), &line[..199], refused(1, CertWhy::Unended));
+    check_row(&rt, rt.alloc(), &line, refused(CertWhy::TooLong));
+    check_row(&rt, rt.alloc(), &line[..199], refused(CertWhy::Unended));
     line[199] = b'\n';
-    check_row(&rt, rt.alloc(), &line, refused(1, CertWhy::Form));
+    check_row(&rt, rt.alloc(), &line, refused(CertWhy::Form));
 }
 
-/// A text of two lines, and one of three.
-const SHORT_TEXTS: [&[u8]; 2] = [EMPTY, b"dvgcert 2\nrom 400 7FF\ndone 0\n"];
-
-/// A text that is cut is refused at the line that is cut.
+/// A text of two lines, and one of three: cut, each is refused at the line that is cut.
 #[test]
 fn unended_texts(rt: HostRuntime) {
-    for text in SHORT_TEXTS {
+    let why = CertWhy::Unended;
+    let short_texts: [&[u8]; 2] = [EMPTY, b"dvgcert 2\nrom 400 7FF\ndone 0\n"];
+    for text in short_texts {
         let mut line = 1u32;
         for at in 0..text.len() {
-            check_row(
-                &rt,
-                rt.alloc(),
-                &text[..at],
-                refused(line, CertWhy::Unended),
-            );
+            check_row(&rt, rt.alloc(), &text[..at], Err(CertFault { line, why }));
             line = line.saturating_add(u32::from(text[at] == b'\n'));
         }
     }
     for at in 0..STROKE_CERT.len() - 7 {
         let answer = fed(&rt, rt.alloc(), &STROKE_CERT[..at], 7, 7);
         expect(&rt, answer.is_err(), &at);
-    }
-}
-
-/// Lines of entries that are taken.
-const TAKEN_LINES: &[&[u8]] = &[
-    b"shape 800 0 end lost box none depth 3 words 1 scale any",
-    b"shape 800 15 end abs 2000000000000 0 box 0 0 -1 -1 depth 0 words 1000000 scale 15",
-];
-
-/// Lines that are not of the format, or not the second line behind `dvgcert 1`.
-const WRONG_LINES: &[&[u8]] = &[
-    b"done 00",
-    b"done 4097",
-    b"rom 400 7FF",
-    b"shape 800 0 end lost box none depth 4 words 1 scale 0",
-    b"shape 800 0 end lost box 1 0 0 0 depth 0 words 1 scale 0",
-    b"shape 800 0 end lost box 0 0 1 0 depth 0 words 1 scale 0",
-    b"shape 800 0 end lost box none depth 0 words 0 scale 0",
-    b"shape 800 0 end lost box none depth 0 words 1000001 scale 0",
-    b"shape 80a 0 end lost box none depth 0 words 1 scale 0",
-    b"shape 7FF 0 end lost box none depth 0 words 1 scale 0",
-    b"shape C00 0 end lost box none depth 0 words 1 scale 0",
-    b"shape 800 16 end lost box none depth 0 words 1 scale 0",
-    b"shape 800 00 end lost box none depth 0 words 1 scale 0",
-    b"shape 800 0 end rel -0 0 box none depth 0 words 1 scale 0",
-    b"shape 800 0 end rel +1 0 box none depth 0 words 1 scale 0",
-    b"shape 800 0 end rel 01 0 box none depth 0 words 1 scale 0",
-    b"shape 800 0 end rel 2000000000001 0 box none depth 0 words 1 scale 0",
-    b"shape 800 0 end rel 0 -2000000000001 box none depth 0 words 1 scale 0",
-    b"shape 800 0 end lost box none depth 0 words 1 scale 0\r",
-    b"shape 800 0  end lost box none depth 0 words 1 scale 0",
-    b"shape 800 0 end lost box none depth 0 words 1 scale 0 ",
-];
-
-/// Lines that are no second line behind `dvgcert 2`: no map, the usual map, ends swapped, a map that begins below the ROM's part of
-/// the memory, one that ends above it, and small letters.
-const WRONG_MAPS: &[&[u8]] = &[
-    b"done 0",
-    b"rom 800 BFF",
-    b"rom 7FF 400",
-    b"rom 3FF 7FF",
-    b"rom 400 C00",
-    b"rom 400 7ff",
-];
-
-/// A text with this first and second line.
-fn text_with(rt: &impl Abort, alloc: Global, first: &[u8], line: &[u8]) -> Vec<u8> {
-    let mut text = Vec::from_slice(alloc, first).expect(rt, "memory");
-    text.push(b'\n').expect(rt, "memory");
-    text.extend_from_slice(line).expect(rt, "memory");
-    text.push(b'\n').expect(rt, "memory");
-    text
-}
-
-#[test]
-fn lines(rt: HostRuntime) {
-    for line in TAKEN_LINES {
-        let text = text_with(&rt, rt.alloc(), b"dvgcert 1", line);
-        check_row(&rt, rt.alloc(), &text, refused(3, CertWhy::Unended));
-    }
-    for (first, lines) in [(b"dvgcert 1", WRONG_LINES), (b"dvgcert 2", WRONG_MAPS)] {
-        for line in lines {
-            let text = text_with(&rt, rt.alloc(), first, line);
-            check_row(&rt, rt.alloc(), &text, refused(2, CertWhy::Form));
-        }
     }
 }
 

@@ -5,81 +5,72 @@
 //! `one_answer`), so they agree on every text, however it is cut (`cut_refusal`). A text that is taken is the only one of its
 //! list (`one_text`, `one_certificate`), so it is written back as it was (`read_back`). And `check` returns, whatever its bytes.
 
-use crate::certificates::is_written;
+use crate::certificates::{answer_of, fed};
 use crate::expecting::{expect, expect_same};
-use crate::inputs::{STROKE_CERT, stroke_rom};
-use crate::rows::Case;
-use crate::table::USUAL;
-use dvg_cert::{Cert, CertFault};
+use crate::inputs::{STROKE, STROKE_CERT, rom_of};
+use crate::table::{Inputs, read_rows};
 use dvg_check::{Refusal, Yes};
-use dvg_text::{CertReader, read_cert};
+use dvg_text::read_cert;
 use dvg_verdict::check;
-use dvg_words::SCREEN;
+use dvg_words::{Machine, SCREEN};
 use std::alloc::Global;
+use std::process::Abort;
 
-/// The ROM of four shapes that call one another, at 800, 802, 804 and 806: zeros but for `C802 D000 C804 D000 C806 D000 D000`.
-fn four_rom() -> [u8; 2048] {
-    let mut rom = [0; 2048];
-    rom[..14].copy_from_slice(&[
-        0x02, 0xC8, 0x00, 0xD0, 0x04, 0xC8, 0x00, 0xD0, 0x06, 0xC8, 0x00, 0xD0, 0x00, 0xD0,
-    ]);
-    rom
-}
+/// Four shapes that call one another, and a frame that calls the first.
+const FOUR: &str = "\
+four calls in one another
+rom 800 C802 D000 C804 D000 C806 D000 D000
+shape 800 0 end rel 0 0 box none depth 3 words 7 scale 0
+shape 802 0 end rel 0 0 box none depth 2 words 5 scale 0
+shape 804 0 end rel 0 0 box none depth 1 words 3 scale 0
+shape 806 0 end rel 0 0 box none depth 0 words 1 scale 0
+frame A000 0000 C800 B000";
 
-/// Their certificate.
-const FOUR_CERT: &[u8] =
-    b"dvgcert 1\nshape 800 0 end rel 0 0 box none depth 3 words 7 scale 0\nshape 802 0 end rel 0 0 box none depth 2 words 5 scale 0\nshape 804 0 end rel 0 0 box none depth 1 words 3 scale 0\nshape 806 0 end rel 0 0 box none depth 0 words 1 scale 0\ndone 4\n";
-
-/// A frame that calls the first: `A000 0000 C800 B000`.
-const FOUR_FRAME: &[u8] = &[0x00, 0xA0, 0x00, 0x00, 0x00, 0xC8, 0x00, 0xB0];
-
-/// Whether this is reported of these shapes with a text and a frame.
-fn is_reported(alloc: Global, text: &[u8], frame: &[u8], report: &str) -> bool {
-    let case = Case {
-        rom: &four_rom(),
-        text,
-        frame,
-        asked: USUAL,
-    };
-    case.is_reported(alloc, report)
+/// The inputs of these shapes.
+fn four(rt: &impl Abort, alloc: Global) -> Inputs {
+    let rows = read_rows(rt, alloc, FOUR);
+    rows.first().expect(rt, "a row").inputs(rt, alloc)
 }
 
 /// The certificate of the four shapes, cut after each of its bytes but the last, and before the first: refused at the line that is
 /// cut.
 #[test]
 fn cut_certificates(rt: HostRuntime) {
+    let four = four(&rt, rt.alloc());
+    let text = four.text.as_slice();
     let mut line = 1usize;
-    for at in 0..FOUR_CERT.len() {
+    for at in 0..text.len() {
         let report = format!(in rt.alloc(); "refused 13 certificate line {line}");
         let report = report.expect(&rt, "memory");
-        let is = is_reported(rt.alloc(), &FOUR_CERT[..at], FOUR_FRAME, &report);
-        expect(&rt, is, &at);
-        if FOUR_CERT[at] == b'\n' {
+        let mut case = four.case(Machine::Profile);
+        case.text = &text[..at];
+        expect(&rt, case.is_reported(rt.alloc(), &report), &at);
+        if text[at] == b'\n' {
             line = line.saturating_add(1);
         }
     }
 }
 
-/// The reports on the frame that calls them, cut after each of its words but the last, and whole.
+/// How many bytes are left of the frame that calls them, and the report. It is refused by its length where half a word or nothing is left.
 const CUT_FRAMES: &[(usize, &str)] = &[
+    (0, "refused 2"),
+    (1, "refused 2"),
     (2, "refused 40 frame at 000"),
+    (3, "refused 2"),
     (4, "refused 40 frame at 002"),
+    (5, "refused 2"),
     (6, "refused 40 frame at 003"),
+    (7, "refused 2"),
     (8, "accepted shapes=4 words=11 depth=4"),
 ];
 
-/// The frame cut at each place: refused by its length where half a word or nothing is left.
 #[test]
 fn cut_frames(rt: HostRuntime) {
-    for len in [0, 1, 3, 5, 7] {
-        let frame = FOUR_FRAME.get(..len).unwrap_or(FOUR_FRAME);
-        let is = is_reported(rt.alloc(), FOUR_CERT, frame, "refused 2");
-        expect(&rt, is, &len);
-    }
+    let four = four(&rt, rt.alloc());
     for &(len, report) in CUT_FRAMES {
-        let frame = FOUR_FRAME.get(..len).unwrap_or(&[]);
-        let is = is_reported(rt.alloc(), FOUR_CERT, frame, report);
-        expect(&rt, is, &len);
+        let mut case = four.case(Machine::Profile);
+        case.frame = four.frame.get(..len).expect(&rt, "a frame");
+        expect(&rt, case.is_reported(rt.alloc(), report), &len);
     }
 }
 
@@ -87,24 +78,11 @@ fn cut_frames(rt: HostRuntime) {
 const PLACE_CERT: &[u8; 86] =
     b"dvgcert 1\nshape 800 any end abs 409600 102400 box none depth 0 words 3 scale 0\ndone 1\n";
 
-fn read_by_bytes(alloc: Global, text: &[u8]) -> Result<Cert, CertFault> {
-    let mut reader = CertReader::new(alloc);
-    for byte in text {
-        reader.feed(&[*byte])?;
-    }
-    reader.finish()
-}
-
-/// Whether a text is taken; `None` where, read whole and byte by byte, it has two answers, or what is taken is not written back
-/// as it was.
-fn is_taken(alloc: Global, text: &[u8]) -> Option<bool> {
-    let (whole, fed) = (read_cert(alloc, text), read_by_bytes(alloc, text));
-    let is_right = match (&whole, &fed) {
-        (Ok(whole), Ok(fed)) => { is_written(alloc, whole, text) && is_written(alloc, fed, text) }
-        (Err(whole), Err(fed)) => whole == fed,
-        _ => false,
-    };
-    if is_right { Some(whole.is_ok()) } else { None }
+/// Whether a text is taken, read whole and byte by byte.
+fn is_taken(rt: &impl Abort, alloc: Global, text: &[u8]) -> bool {
+    let whole = answer_of(rt, alloc, text, read_cert(alloc, text));
+    expect_same(rt, &fed(rt, alloc, text, 1, 1), &whole, &text);
+    whole.is_ok()
 }
 
 /// Each byte of a certificate, replaced by each other value. Taken are another address (3 by its first digit, 15 by each other
@@ -117,9 +95,7 @@ fn changed_certificates(rt: HostRuntime) {
         let byte = text[at];
         for other in 0..=255u8 {
             text[at] = other;
-            let is_taken = is_taken(rt.alloc(), &text);
-            expect(&rt, is_taken.is_some(), &(at, other));
-            if other != byte && is_taken == Some(true) {
+            if is_taken(&rt, rt.alloc(), &text) && other != byte {
                 taken = taken.saturating_add(1);
             }
         }
@@ -162,7 +138,7 @@ fn number_of(verdict: Result<Yes, Refusal>) -> u8 {
 /// Each word as the first of a frame.
 #[test]
 fn each_first_word(rt: HostRuntime) {
-    let rom = stroke_rom();
+    let rom = rom_of(&rt, rt.alloc(), STROKE);
     for word in 0..=0xFFFFu16 {
         let [low, high] = word.to_le_bytes();
         let frame = [low, high, 0x00, 0xB0];

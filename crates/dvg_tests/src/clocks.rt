@@ -4,12 +4,11 @@
 mod examples;
 
 use crate::clocks::examples::{ARCADE, OTHERS};
-use crate::expecting::{expect, expect_same};
-use crate::inputs::rom_bytes;
+use crate::expecting::expect_same;
 use crate::table::{Row, read_rows};
 use dvg_cert::MOST_WORDS;
 use dvg_check::frame_of;
-use dvg_clocks::{ClockRange, DVG_STATES, TimedRefusal, TimedYes, Timing, judge_timed};
+use dvg_clocks::{DVG_STATES, TimedRefusal, TimedYes, Timing, judge_timed};
 use dvg_make::FrameRefusal;
 use dvg_text::read_cert;
 use dvg_words::{ASTEROIDS, FrameImage, Machine, RomImage, SCREEN};
@@ -207,25 +206,20 @@ fn counts_examples(rt: HostRuntime) {
 /// The frame calls a shape, which calls another one by a tail jump, and halts.
 #[test]
 fn needs_memory(rt: HostRuntime) {
-    let words = rom_bytes(&[(0x800, &[0x9000, 0x7001, 0xE803, 0x8000, 0x7001, 0xD000])]);
+    let mut words = [0; 2048];
+    words[..12].copy_from_slice(&[
+        0x00, 0x90, 0x01, 0x70, 0x03, 0xE8, 0x00, 0x80, 0x01, 0x70, 0x00, 0xD0,
+    ]);
     let rom = RomImage::from_bytes_on(Machine::Board, &words, ASTEROIDS).expect(&rt, "a ROM");
-    let frame = rom_bytes(&[(0x000, &[0xA000, 0x0000, 0xC800, 0xB000])]);
-    let frame = FrameImage::from_bytes(&frame).expect(&rt, "a frame");
+    let frame = FrameImage::from_bytes(&[0x00, 0xA0, 0x00, 0x00, 0x00, 0xC8, 0x00, 0xB0]);
+    let frame = frame.expect(&rt, "a frame");
     let timing = Timing {
         states: DVG_STATES,
         limit: 1564,
     };
-    match judge_timed(rt.alloc(), &rom, &frame, 100, SCREEN, &timing) {
-        Ok(timed) => {
-            let clocks = ClockRange {
-                least: 1564,
-                most: 1564,
-            };
-            expect_same(&rt, &timed.clocks, &clocks, &"the tail jump");
-        }
-        Err(refusal) => {
-            let is_memory = refusal == TimedRefusal::Judged(FrameRefusal::NoMemory);
-            expect(&rt, is_memory, &refusal);
-        }
+    let answer = judge_timed(rt.alloc(), &rom, &frame, 100, SCREEN, &timing);
+    let clocks = answer.map(|timed| (timed.clocks.least, timed.clocks.most));
+    if clocks != Err(TimedRefusal::Judged(FrameRefusal::NoMemory)) {
+        expect_same(&rt, &clocks, &Ok((1564, 1564)), &"the tail jump");
     }
 }

@@ -9,71 +9,31 @@ use dvg_words::ASTEROIDS;
 use std::alloc::Global;
 use std::process::Abort;
 
-/// What the rows call each token, and how it is told that it was expected.
-const EXPECTED: &[(&str, &str)] = &[
-    ("Version", "`dvgcert 1` or `dvgcert 2`; then the line's end"),
-    ("Rom", "`rom`; then a space"),
-    (
-        "RomFirst",
-        "the word address of the ROM's first word, three of 0-9 and A-F, 400 to BFF; then a space",
-    ),
-    (
-        "RomLast",
-        "the word address of the ROM's last word, three of 0-9 and A-F, from its first to BFF, but not 800 and BFF; then the line's end",
-    ),
-    ("Kind", "`shape` or `done`; then a space"),
-    (
-        "Address",
-        "a word address of the ROM, three of 0-9 and A-F; then a space",
-    ),
-    (
-        "Key",
-        "the scale of the call, 0 to 15 or `any`; then a space",
-    ),
-    ("End", "`end`; then a space"),
-    ("EndKind", "`rel`, `abs` or `lost`; then a space"),
-    (
-        "EndX",
-        "X of the end, a whole number of 1/1024 places, -2000000000000 to 2000000000000; then a space",
-    ),
-    (
-        "EndY",
-        "Y of the end, a whole number of 1/1024 places, -2000000000000 to 2000000000000; then a space",
-    ),
-    ("Box", "`box`; then a space"),
-    (
-        "BoxLeft",
-        "`none`, or a box's left side, a whole number of 1/1024 places, -2000000000000 to 2000000000000; then a space",
-    ),
-    (
-        "BoxRight",
-        "a box's right side, at least its left side, a whole number of 1/1024 places, -2000000000000 to 2000000000000; then a space",
-    ),
-    (
-        "BoxBottom",
-        "a box's lower side, a whole number of 1/1024 places, -2000000000000 to 2000000000000; then a space",
-    ),
-    (
-        "BoxTop",
-        "a box's upper side, at least its lower side, a whole number of 1/1024 places, -2000000000000 to 2000000000000; then a space",
-    ),
-    ("Depth", "`depth`; then a space"),
-    ("DepthNumber", "the depth, 0 to 3; then a space"),
-    ("Words", "`words`; then a space"),
-    (
-        "WordsNumber",
-        "the number of words, 1 to 1000000; then a space",
-    ),
-    ("Scale", "`scale`; then a space"),
-    (
-        "ScaleKey",
-        "the scale that is left behind, 0 to 15 or `any`; then the line's end",
-    ),
-    (
-        "Count",
-        "the number of entries, 0 to 4096; then the line's end",
-    ),
-];
+/// What the rows call each token, and behind it how it is told that it was expected.
+const EXPECTED: &str = "\
+Version `dvgcert 1` or `dvgcert 2`; then the line's end
+Rom `rom`; then a space
+RomFirst the word address of the ROM's first word, three of 0-9 and A-F, 400 to BFF; then a space
+RomLast the word address of the ROM's last word, three of 0-9 and A-F, from its first to BFF, but not 800 and BFF; then the line's end
+Kind `shape` or `done`; then a space
+Address a word address of the ROM, three of 0-9 and A-F; then a space
+Key the scale of the call, 0 to 15 or `any`; then a space
+End `end`; then a space
+EndKind `rel`, `abs` or `lost`; then a space
+EndX X of the end, a whole number of 1/1024 places, -2000000000000 to 2000000000000; then a space
+EndY Y of the end, a whole number of 1/1024 places, -2000000000000 to 2000000000000; then a space
+Box `box`; then a space
+BoxLeft `none`, or a box's left side, a whole number of 1/1024 places, -2000000000000 to 2000000000000; then a space
+BoxRight a box's right side, at least its left side, a whole number of 1/1024 places, -2000000000000 to 2000000000000; then a space
+BoxBottom a box's lower side, a whole number of 1/1024 places, -2000000000000 to 2000000000000; then a space
+BoxTop a box's upper side, at least its lower side, a whole number of 1/1024 places, -2000000000000 to 2000000000000; then a space
+Depth `depth`; then a space
+DepthNumber the depth, 0 to 3; then a space
+Words `words`; then a space
+WordsNumber the number of words, 1 to 1000000; then a space
+Scale `scale`; then a space
+ScaleKey the scale that is left behind, 0 to 15 or `any`; then the line's end
+Count the number of entries, 0 to 4096; then the line's end";
 
 /// First lines. Each row is what is expected, and a line without its end, with `|` where it leaves the form.
 const FIRST_LINES: &[&str] = &[
@@ -172,7 +132,8 @@ fn cut(row: &str) -> Option<(&str, &str, &str)> {
 
 /// How it is told that what has this name was expected.
 fn expected_of(rt: &impl Abort, name: &str) -> &'static str {
-    for &(known, told) in EXPECTED {
+    for line in EXPECTED.lines() {
+        let (known, told) = line.split_once(' ').expect(rt, "a name");
         if known == name {
             return told;
         }

@@ -1,6 +1,6 @@
 //! What tests expect. Each is one function in the place of many assertions, which would be proved wherever they stand.
 
-use std::alloc::Global;
+use std::alloc::{AllocError, Global};
 use std::fmt::{Debug, Display};
 use std::process::Abort;
 
@@ -42,4 +42,21 @@ pub fn expect_faults<F: Display + Debug, N: Fn(&F) -> u8>(
         expect_same(rt, &number_of(fault), number, text);
         expect_shown(rt, alloc, fault, "", text);
     }
+}
+
+/// Stops the test unless there are as many values as a table has lines, and each value's line, which this gives, is its own.
+pub fn expect_lines<T: Debug, L: Fn(&T) -> Result<String, AllocError>>(
+    rt: &impl Abort,
+    values: &[T],
+    table: &str,
+    line_of: L,
+)
+    requires { L.IsAlwaysCallable line_of }
+{
+    let mut lines = table.lines();
+    for value in values {
+        let line = line_of(value).expect(rt, "memory for a line");
+        expect_same(rt, &Some(line.as_str()), &lines.next(), value);
+    }
+    expect_same(rt, &lines.next(), &None, &table);
 }

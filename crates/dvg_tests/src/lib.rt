@@ -17,6 +17,8 @@ mod clocks;
 #[cfg(test)]
 mod columns;
 #[cfg(test)]
+mod devices;
+#[cfg(test)]
 mod expecting;
 #[cfg(test)]
 mod explaining;

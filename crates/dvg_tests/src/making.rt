@@ -2,7 +2,8 @@
 //! tests/make-command-line.
 
 use crate::expecting::{FaultRow, expect_faults, expect_same};
-use crate::inputs::{Part, STROKE, rom_bytes};
+use crate::inputs::{STROKE, rom_of};
+use crate::table::text_of_entries;
 use dvg_cert::{End, Key, ListIndex};
 use dvg_check::{ShapeWhy, check_shapes_exact};
 use dvg_items::Known;
@@ -12,54 +13,50 @@ use dvg_words::{ASTEROIDS, RomImage, SCREEN};
 use std::alloc::Global;
 use std::process::Abort;
 
-/// The root of most rows.
-const ZERO: (u16, Key) = (0x800, Key::At(0));
-
-/// The same shape where the scale is not known.
-const ANY: (u16, Key) = (0x800, Key::Any);
-
-/// Words at an address, a root and the certificate of what is made.
-const ONE_SHAPE: &[(Part, (u16, Key), &str)] = &[
+/// Words at 800, and the entry that is made of them, at whose scale they are the root.
+const ONE_SHAPE: &[(&str, &str)] = &[
     (
         STROKE,
-        ZERO,
-        "dvgcert 1\nshape 800 0 end rel 1047552 785408 box 0 1047552 0 785408 depth 0 words 3 scale 0\ndone 1\n",
+        "shape 800 0 end rel 1047552 785408 box 0 1047552 0 785408 depth 0 words 3 scale 0",
     ),
     (
-        (0x800, &[0xFA70, 0xF672, 0xD000]),
-        ZERO,
-        "dvgcert 1\nshape 800 0 end rel 4096 4096 box 0 4096 0 8192 depth 0 words 3 scale 0\ndone 1\n",
+        "800 FA70 F672 D000",
+        "shape 800 0 end rel 4096 4096 box 0 4096 0 8192 depth 0 words 3 scale 0",
     ),
     (
-        (0x800, &[0xA064, 0x0190, 0xD000]),
-        ANY,
-        "dvgcert 1\nshape 800 any end abs 409600 102400 box none depth 0 words 3 scale 0\ndone 1\n",
+        "800 A064 0190 D000",
+        "shape 800 any end abs 409600 102400 box none depth 0 words 3 scale 0",
     ),
     (
-        (0x800, &[0xA000, 0x03FF, 0x9000, 0x7001, 0xD000]),
-        ZERO,
-        "dvgcert 1\nshape 800 0 end abs 1048576 0 box none depth 0 words 5 scale 0\ndone 1\n",
+        "800 A000 03FF 9000 7001 D000",
+        "shape 800 0 end abs 1048576 0 box none depth 0 words 5 scale 0",
     ),
 ];
 
-/// Stops the test unless the entries that are made are those of the text, with exact counts. The checker accepts them but where
-/// they light off the screen.
-fn expect_made(rt: &impl Abort, alloc: Global, part: Part, root: (u16, Key), text: &str) {
-    let bytes = rom_bytes(&[part]);
+/// Stops the test unless the entry that is made is this one, with exact counts. The checker accepts it but where it lights off the
+/// screen.
+fn expect_made(rt: &impl Abort, alloc: Global, words: &str, entry: &str) {
+    let bytes = rom_of(rt, alloc, words);
     let rom = RomImage::from_bytes(&bytes, ASTEROIDS).expect(rt, "a ROM");
-    let cert = make(alloc, &rom, &[root]).expect(rt, "a certificate");
-    let wanted = read_cert(alloc, text.as_bytes()).expect(rt, "a certificate");
-    expect_same(rt, &cert.entries(), &wanted.entries(), &text);
-    expect_same(rt, &cert.rom(), &wanted.rom(), &text);
+    let text = text_of_entries(rt, alloc, "800 BFF", entry);
+    let wanted = read_cert(alloc, &text).expect(rt, "a certificate");
+    let key = if entry.starts_with("shape 800 any ") {
+        Key::Any
+    } else {
+        Key::At(0)
+    };
+    let cert = make(alloc, &rom, &[(0x800, key)]).expect(rt, "a certificate");
+    expect_same(rt, &cert.entries(), &wanted.entries(), &entry);
+    expect_same(rt, &cert.rom(), &wanted.rom(), &entry);
     if let Err(fault) = check_shapes_exact(&rom, &cert, &ListIndex::new(&cert), &SCREEN) {
-        expect_same(rt, &fault.why, &ShapeWhy::OffScreen, &text);
+        expect_same(rt, &fault.why, &ShapeWhy::OffScreen, &entry);
     }
 }
 
 #[test]
 fn makes_one_shape(rt: HostRuntime) {
-    for &(part, root, text) in ONE_SHAPE {
-        expect_made(&rt, rt.alloc(), part, root, text);
+    for &(words, entry) in ONE_SHAPE {
+        expect_made(&rt, rt.alloc(), words, entry);
     }
 }
 
@@ -69,7 +66,7 @@ const OVER_15: &[(u16, Key)] = &[(0x7FF, Key::At(16)), (0x800, Key::At(16))];
 /// The refusal names the root's word, and the account its scale.
 #[test]
 fn refuses_scales_over_15(rt: HostRuntime) {
-    let bytes = rom_bytes(&[STROKE]);
+    let bytes = rom_of(&rt, rt.alloc(), STROKE);
     let rom = RomImage::from_bytes(&bytes, ASTEROIDS).expect(&rt, "a ROM");
     for &(word, scale) in OVER_15 {
         let roots = [(word, scale)];

@@ -1,13 +1,15 @@
 //! Worked rows, judged over both indexes and by runs. The reports were found by hand.
 
-mod worked;
+pub mod worked;
 
+use crate::devices::slow;
 use crate::expecting::expect;
 use crate::rows::worked::WORKED;
-use crate::running::devices::SlowReader;
-use crate::table::{Asked, Row, read_rows};
+use crate::table::{Asked, Inputs, Row, read_rows};
 use dvg_cert::ListIndex;
-use dvg_check::{JudgedShapes, Mode, Refusal, Yes, check_parts, check_parts_exact, frame_of};
+use dvg_check::{
+    JudgedShapes, Mode, Refusal, Yes, check_parts, check_parts_exact, check_rom, frame_of,
+};
 use dvg_cmd::{report_of, run_check};
 use dvg_text::{Counted, read_cert};
 use dvg_verdict::{check, check_exact, check_on};
@@ -26,19 +28,25 @@ pub struct Case<'a> {
 
 impl Case<'_> {
     /// The verdict on bytes.
-    fn judge_bytes(&self, alloc: Global) -> Result<Yes, Refusal> {
+    pub fn judge_bytes(&self, alloc: Global) -> Result<Yes, Refusal> {
         let (rom, text, frame) = (self.rom, self.text, self.frame);
-        let Asked {
-            machine,
-            budget,
-            window,
-            mode,
-        } = self.asked;
-        match (machine, mode) {
+        let (asked, budget, window) = (self.asked, self.asked.budget, self.asked.window);
+        match (asked.machine, asked.mode) {
             (Machine::Profile, Mode::Bound) => check(alloc, rom, text, frame, budget, window),
             (Machine::Profile, Mode::Exact) => check_exact(alloc, rom, text, frame, budget, window),
-            _ => check_on(machine, alloc, rom, text, frame, budget, window, mode),
+            (machine, mode) => check_on(machine, alloc, rom, text, frame, budget, window, mode),
         }
+    }
+
+    /// The verdict on the ROM's bytes, by a certificate and a frame that were read before.
+    fn judge_rom(&self, alloc: Global) -> Result<Yes, Refusal> {
+        let (machine, mode) = (self.asked.machine, self.asked.mode);
+        let (budget, window) = (self.asked.budget, self.asked.window);
+        let frame = frame_of(self.frame, budget)?;
+        let cert = read_cert(alloc, self.text)?;
+        check_rom(
+            machine, alloc, self.rom, &frame, &cert, budget, window, mode,
+        )
     }
 
     /// The verdict over an index that searches the list, where `check_parts` has one that hashes.
@@ -59,16 +67,11 @@ impl Case<'_> {
 
     /// The verdict on images and entries that are at hand.
     fn judge_parts(&self, alloc: Global) -> Result<Yes, Refusal> {
-        let Asked {
-            machine,
-            budget,
-            window,
-            mode,
-        } = self.asked;
+        let (asked, budget, window) = (self.asked, self.asked.budget, self.asked.window);
         let frame = frame_of(self.frame, budget)?;
         let cert = read_cert(alloc, self.text)?;
-        let rom = RomImage::from_bytes_on(machine, self.rom, cert.map())?;
-        match mode {
+        let rom = RomImage::from_bytes_on(asked.machine, self.rom, cert.map())?;
+        match asked.mode {
             Mode::Bound => check_parts(alloc, &rom, &frame, &cert, budget, window),
             Mode::Exact => check_parts_exact(alloc, &rom, &frame, &cert, budget, window),
         }
@@ -79,9 +82,9 @@ impl Case<'_> {
         let mut line = Vec::new(alloc);
         let _ = run_check(
             alloc,
-            &mut Counted::new(SlowReader::new(self.rom, 1)),
-            &mut Counted::new(SlowReader::new(self.text, 1)),
-            &mut Counted::new(SlowReader::new(self.frame, 1)),
+            &mut slow(alloc, self.rom, 1),
+            &mut slow(alloc, self.text, 1),
+            &mut slow(alloc, self.frame, 1),
             self.asked.budget,
             self.asked.window,
             self.asked.mode,
@@ -98,30 +101,38 @@ impl Case<'_> {
         }
     }
 
-    /// Whether this is the report over both indexes, of the call over bytes and of a run.
+    /// Whether this is the report over both indexes, of the calls over bytes and of a run.
     pub fn is_reported(&self, alloc: Global, report: &str) -> bool {
         let verdict = self.judge_bytes(alloc);
         let line = report_of(&verdict);
         verdict == self.judge_parts(alloc)
             && verdict == self.judge_by_list(alloc)
+            && verdict == self.judge_rom(alloc)
             && self.is_run(alloc, line.as_bytes())
             && line.as_bytes().strip_suffix(b"\n") == Some(report.as_bytes())
+    }
+}
+
+impl Inputs {
+    /// What is judged on a machine.
+    pub fn case(&self, machine: Machine) -> Case<'_> {
+        Case {
+            rom: &self.rom,
+            text: &self.text,
+            frame: &self.frame,
+            asked: Asked {
+                machine,
+                ..self.asked
+            },
+        }
     }
 }
 
 /// Stops the test unless a machine reports this of a row.
 fn expect_reported(rt: &impl Abort, alloc: Global, row: &Row, machine: Machine, report: &str) {
     let inputs = row.inputs(rt, alloc);
-    let case = Case {
-        rom: &inputs.rom,
-        text: &inputs.text,
-        frame: &inputs.frame,
-        asked: Asked {
-            machine,
-            ..inputs.asked
-        },
-    };
-    expect(rt, case.is_reported(alloc, report), &(machine, row.lines));
+    let is = inputs.case(machine).is_reported(alloc, report);
+    expect(rt, is, &(machine, row.lines));
 }
 
 /// Stops the test unless the reports of each row of a table are those of its inputs.

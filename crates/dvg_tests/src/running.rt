@@ -1,33 +1,25 @@
 //! How far inputs are read, and what the statuses and messages of runs are.
 
-pub mod devices;
-
-use crate::expecting::{FaultRow, expect, expect_faults, expect_same};
-use crate::inputs::{EMPTY, STROKE_FRAME, stroke_rom};
-use devices::SlowReader;
+use crate::devices::slow;
+use crate::expecting::{FaultRow, expect, expect_faults, expect_lines, expect_same};
+use crate::inputs::{EMPTY, STROKE, STROKE_FRAME, rom_of};
 use dvg_cmd::{
     ASTEROIDS, Counted, Detail, EntryFault, FrameCall, FrameDetail, Lines, Listing, Machine,
     MakeFault, MakeRunFault, Mode, NamedFrame, Outcome, OwnCertificates, RunFault, SCREEN,
     make_report_of, make_status_of, map_of, message_of, run_check, run_frames, run_make, status_of,
 };
-use std::alloc::Global;
+use std::alloc::{AllocError, Global};
 use std::fmt::Debug;
 use std::iter;
 use std::process::Abort;
 
-/// How often a reader was read, and how many bytes nobody read.
-type Told = (u32, usize);
-
-fn told_of(reader: Counted<SlowReader>) -> Told {
-    reader.into_inner().told()
-}
-
-/// Reads a ROM, a frame and a certificate in a run, by readers that give so many bytes a read, and tells of the three.
+/// Reads a ROM, a frame and a certificate in a run, by readers that give so many bytes a read, and tells of the three how often each was
+/// read, and how many bytes nobody read.
 fn told_of_readers(alloc: Global, inputs: [&[u8]; 3], most: usize) -> ([u32; 3], [usize; 3]) {
     let [rom, frame, cert] = inputs;
-    let mut rom = Counted::new(SlowReader::new(rom, most));
-    let mut frame = Counted::new(SlowReader::new(frame, most));
-    let mut cert = Counted::new(SlowReader::new(cert, most));
+    let mut rom = slow(alloc, rom, most);
+    let mut frame = slow(alloc, frame, most);
+    let mut cert = slow(alloc, cert, most);
     let _ = run_check(
         alloc,
         &mut rom,
@@ -38,8 +30,9 @@ fn told_of_readers(alloc: Global, inputs: [&[u8]; 3], most: usize) -> ([u32; 3],
         Mode::Bound,
         &mut Counted::new(Vec::new(alloc)),
     );
-    let (rom, frame, cert) = (told_of(rom), told_of(frame), told_of(cert));
-    ([rom.0, frame.0, cert.0], [rom.1, frame.1, cert.1])
+    let (rom, frame, cert) = (rom.into_inner(), frame.into_inner(), cert.into_inner());
+    let left = [rom.rest.len(), frame.rest.len(), cert.rest.len()];
+    ([rom.calls, frame.calls, cert.calls], left)
 }
 
 /// Each row has the lengths of a ROM, a frame and a certificate of zeros; how many bytes a read gives; how often each input is read; and how
@@ -84,7 +77,7 @@ fn expect_line(
     outcome: Outcome,
     line: &str,
 ) {
-    let rom = stroke_rom();
+    let rom = rom_of(rt, alloc, STROKE);
     let mut judge = OwnCertificates {
         machine: Machine::Profile,
         rom: &rom,
@@ -95,7 +88,7 @@ fn expect_line(
     };
     let frame = NamedFrame {
         name: format!(in alloc; "frame").expect(rt, "memory for a name"),
-        reader: frame.map(|bytes| Counted::new(SlowReader::new(bytes, 1))),
+        reader: frame.map(|bytes| slow(alloc, bytes, 1)),
     };
     let listing = Listing {
         detail: FrameDetail::Answer(Detail::Line),
@@ -178,61 +171,46 @@ fn shows_faults(rt: HostRuntime) {
         let shown = message_of(fault).strip_prefix("dvgcheck: ");
         expect_same(&rt, &shown, &Some(*text), fault);
     }
-    expect_faults(
-        &rt,
-        rt.alloc(),
-        MAKE_FAULTS,
-        |fault: &MakeRunFault| fault.number(),
-    );
 }
 
 const UNSTRAIGHT: MakeRunFault = MakeRunFault::Make(MakeFault::Unstraight { word: 0x0AB });
 
-/// Faults of the maker, the statuses that they end with, and what is written of them.
-const MAKE_ENDS: &[(MakeRunFault, u8, &[u8])] = &[
-    (MakeRunFault::RomLength, 1, b"refused 1\n"),
-    (UNSTRAIGHT, 1, b"refused 60 at 0AB\n"),
-    (MakeRunFault::Make(MakeFault::Deep), 1, b"refused 61\n"),
-    (MakeRunFault::Make(MakeFault::TooLarge), 1, b"refused 62\n"),
-    (
-        MakeRunFault::Make(MakeFault::Memory),
-        4,
-        b"dvgcheck: out of memory\n",
-    ),
-    (MakeRunFault::ReadRom, 3, b"dvgcheck: cannot read the ROM\n"),
-    (MakeRunFault::Write, 3, b"dvgcheck: cannot write\n"),
+/// Faults of the maker.
+const MAKE_FAULTS: &[MakeRunFault] = &[
+    MakeRunFault::RomLength,
+    UNSTRAIGHT,
+    MakeRunFault::Make(MakeFault::Deep),
+    MakeRunFault::Make(MakeFault::TooLarge),
+    MakeRunFault::Make(MakeFault::Memory),
+    MakeRunFault::ReadRom,
+    MakeRunFault::Write,
 ];
 
-/// The same faults, their numbers and their texts.
-const MAKE_FAULTS: &[FaultRow<MakeRunFault>] = &[
-    (MakeRunFault::RomLength, 1, "the ROM has a wrong length"),
-    (UNSTRAIGHT, 60, "no shape can have the item at 0AB"),
-    (
-        MakeRunFault::Make(MakeFault::Deep),
-        61,
-        "the shapes call too deep",
-    ),
-    (
-        MakeRunFault::Make(MakeFault::TooLarge),
-        62,
-        "the shapes are too large for a certificate",
-    ),
-    (
-        MakeRunFault::Make(MakeFault::Memory),
-        63,
-        "there is no memory for the certificate",
-    ),
-    (MakeRunFault::ReadRom, 70, "cannot read the ROM"),
-    (MakeRunFault::Write, 73, "cannot write"),
-];
+/// Their numbers and texts, the statuses that they end with, and what is written of them.
+const MAKE_ENDS: &str = "\
+1, the ROM has a wrong length; 1, refused 1
+60, no shape can have the item at 0AB; 1, refused 60 at 0AB
+61, the shapes call too deep; 1, refused 61
+62, the shapes are too large for a certificate; 1, refused 62
+63, there is no memory for the certificate; 4, dvgcheck: out of memory
+70, cannot read the ROM; 3, dvgcheck: cannot read the ROM
+73, cannot write; 3, dvgcheck: cannot write";
+
+/// A line without its end.
+fn line_of(report: &[u8]) -> &str {
+    let line = report.strip_suffix(b"\n").unwrap_or(b"no line");
+    str::from_utf8(line).unwrap_or("no text")
+}
 
 #[test]
 fn says_how_making_ended(rt: HostRuntime) {
     assert_eq!(rt; make_status_of(&Ok(())), 0);
-    for &(fault, status, line) in MAKE_ENDS {
-        expect_same(&rt, &make_status_of(&Err(fault)), &status, &fault);
-        expect(&rt, make_report_of(&fault).as_bytes() == line, &fault);
-    }
+    expect_lines(&rt, MAKE_FAULTS, MAKE_ENDS, |fault: &MakeRunFault| {
+        let (number, status) = (fault.number(), make_status_of(&Err(*fault)));
+        let report = make_report_of(fault);
+        let line = line_of(report.as_bytes());
+        format!(in rt.alloc(); "{number}, {fault}; {status}, {line}")
+    });
 }
 
 const CALL: FrameCall = FrameCall {
@@ -240,77 +218,68 @@ const CALL: FrameCall = FrameCall {
     at: 0x03E,
 };
 
-/// Why the maker has no entry for the call of a frame, with number, status and line.
-const BLAMED: &[(EntryFault, u8, u8, &[u8])] = &[
-    (
-        EntryFault::Unstraight { word: 0x418 },
-        60,
-        1,
-        b": refused 60 at 418 for frame at 03E\n",
-    ),
-    (EntryFault::Deep, 61, 1, b": refused 61 for frame at 03E\n"),
-    (
-        EntryFault::TooManyWords,
-        62,
-        1,
-        b": refused 62 for frame at 03E\n",
-    ),
-    (
-        EntryFault::TooManyEntries,
-        62,
-        1,
-        b": refused 62 by entries for frame at 03E\n",
-    ),
-    (EntryFault::Memory, 63, 4, b": out of memory\n"),
+/// Why the maker has no entry for the call of a frame.
+const BLAMED: &[EntryFault] = &[
+    EntryFault::Unstraight { word: 0x418 },
+    EntryFault::Deep,
+    EntryFault::TooManyWords,
+    EntryFault::TooManyEntries,
+    EntryFault::Memory,
 ];
+
+/// Its number and status, and its line behind the frame's name.
+const BLAMED_ENDS: &str = "\
+60, 1: refused 60 at 418 for frame at 03E
+61, 1: refused 61 for frame at 03E
+62, 1: refused 62 for frame at 03E
+62, 1: refused 62 by entries for frame at 03E
+63, 4: out of memory";
 
 /// Other faults of the maker for frames.
-const FRAMES_FAULTS: &[(MakeRunFault, u8, u8, &[u8])] = &[
-    (MakeRunFault::RomLength, 1, 1, b"refused 1\n"),
-    (
-        MakeRunFault::FrameLength { frame: 3 },
-        2,
-        1,
-        b": refused 2\n",
-    ),
-    (
-        MakeRunFault::Make(MakeFault::Memory),
-        63,
-        4,
-        b"dvgcheck: out of memory\n",
-    ),
-    (
-        MakeRunFault::ReadRom,
-        70,
-        3,
-        b"dvgcheck: cannot read the ROM\n",
-    ),
-    (
-        MakeRunFault::ReadFrame,
-        71,
-        3,
-        b"dvgcheck: cannot read the frame\n",
-    ),
-    (MakeRunFault::Write, 73, 3, b"dvgcheck: cannot write\n"),
+const FRAMES_FAULTS: &[MakeRunFault] = &[
+    MakeRunFault::RomLength,
+    MakeRunFault::FrameLength { frame: 3 },
+    MakeRunFault::Make(MakeFault::Memory),
+    MakeRunFault::ReadRom,
+    MakeRunFault::ReadFrame,
+    MakeRunFault::Write,
 ];
 
-fn is_told(fault: MakeRunFault, number: u8, status: u8, line: &[u8]) -> bool {
-    fault.number() == number
-        && make_status_of(&Err(fault)) == status
-        && make_report_of(&fault).as_bytes() == line
-        && fault.frame().is_some() == line.starts_with(b": ")
+/// Their numbers and statuses, and their lines, of one behind the frame's name.
+const FRAMES_ENDS: &str = "\
+1, 1, refused 1
+2, 1: refused 2
+63, 4, dvgcheck: out of memory
+70, 3, dvgcheck: cannot read the ROM
+71, 3, dvgcheck: cannot read the frame
+73, 3, dvgcheck: cannot write";
+
+/// What is told of a fault: its line behind a comma, if it names no frame.
+fn end_of(alloc: Global, fault: &MakeRunFault) -> Result<String, AllocError> {
+    let (number, status) = (fault.number(), make_status_of(&Err(*fault)));
+    let report = make_report_of(fault);
+    let line = line_of(report.as_bytes());
+    match fault.frame() {
+        Some(_) => format!(in alloc; "{number}, {status}{line}"),
+        None => format!(in alloc; "{number}, {status}, {line}"),
+    }
 }
 
 #[test]
 fn says_how_making_for_frames_ended(rt: HostRuntime) {
-    expect_same(&rt, &make_status_of(&Ok(())), &0, &"made");
-    for &(why, number, status, line) in BLAMED {
-        let fault = MakeRunFault::Call { call: CALL, why };
-        expect(&rt, is_told(fault, number, status, line), &fault);
-    }
-    for &(fault, number, status, line) in FRAMES_FAULTS {
-        expect(&rt, is_told(fault, number, status, line), &fault);
-    }
+    expect_lines(&rt, BLAMED, BLAMED_ENDS, |why: &EntryFault| {
+        let fault = MakeRunFault::Call {
+            call: CALL,
+            why: *why,
+        };
+        end_of(rt.alloc(), &fault)
+    });
+    expect_lines(
+        &rt,
+        FRAMES_FAULTS,
+        FRAMES_ENDS,
+        |fault: &MakeRunFault| end_of(rt.alloc(), fault),
+    );
 }
 
 /// Maps, how many zeros the ROM has, and what is written where there is no root.
@@ -328,7 +297,7 @@ fn makes_nothing_of_no_roots(rt: HostRuntime) {
         let map = map_of(map).expect(&rt, "a map");
         let mut told = Vec::new(rt.alloc());
         let rom = zeros.get(..bytes).unwrap_or(&zeros);
-        let mut reader = Counted::new(SlowReader::new(rom, 512));
+        let mut reader = slow(rt.alloc(), rom, 512);
         let end = run_make(
             rt.alloc(),
             &mut reader,

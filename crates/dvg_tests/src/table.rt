@@ -18,9 +18,10 @@
 //! another name stops the test. tests/command-line reads the rows of `rows::worked` in the same way.
 
 use crate::expecting::expect;
+use crate::inputs::{bytes_from, bytes_of, hex};
 use dvg_check::Mode;
 use dvg_cmd::window_of;
-use dvg_words::{Machine, SCREEN, Window};
+use dvg_words::{Machine, Window};
 use std::alloc::Global;
 use std::process::Abort;
 
@@ -32,14 +33,6 @@ pub struct Asked {
     pub window: Window,
     pub mode: Mode,
 }
-
-/// What the program asks where its options are left out.
-pub const USUAL: Asked = Asked {
-    machine: Machine::Profile,
-    budget: 20000,
-    window: SCREEN,
-    mode: Mode::Bound,
-};
 
 /// A row: what stands behind the names of its lines.
 #[derive(Clone, Copy)]
@@ -197,10 +190,12 @@ impl<'a> Row<'a> {
 
     /// The bytes of the row's words and texts.
     pub fn inputs(&self, rt: &impl Abort, alloc: Global) -> Inputs {
-        let mut rom = rom_bytes(rt, alloc, self.rom, self.map);
-        if let Ok(length) = self.bytes.parse::<usize>() {
-            rom.resize(length, 0).expect(rt, "memory");
-        }
+        let (first, last) = self.map.split_once(' ').expect(rt, "a map");
+        let (first, last) = (hex(rt, first), hex(rt, last));
+        let length = 2 * (usize::from(last.saturating_sub(first)) + 1);
+        let mut rom = bytes_from(rt, alloc, first, self.rom);
+        rom.resize(self.bytes.parse::<usize>().unwrap_or(length), 0)
+            .expect(rt, "memory");
         let text = match self.text {
             "" => text_of_entries(rt, alloc, self.map, self.entries),
             text => text_of_lines(rt, alloc, text),
@@ -214,47 +209,6 @@ impl<'a> Row<'a> {
     }
 }
 
-fn hex(rt: &impl Abort, word: &str) -> u16 {
-    u16::from_str_radix(word, 16).expect(rt, "a word in hexadecimal")
-}
-
-/// Appends words that stand between commas, the low byte of each first.
-fn push_words(rt: &impl Abort, bytes: &mut Vec<u8>, words: &str) {
-    for word in words.split(',') {
-        let pair = hex(rt, word).to_le_bytes();
-        let spelled = if word.len() == 2 { 1 } else { 2 };
-        bytes
-            .extend_from_slice(&pair[..spelled])
-            .expect(rt, "memory");
-    }
-}
-
-/// The words of a text as bytes. `CBFF*3` is a word three times, `9000,03FF*3` two words three times, and `CB` a byte alone.
-fn bytes_of(rt: &impl Abort, alloc: Global, words: &str) -> Vec<u8> {
-    let mut bytes = Vec::new(alloc);
-    for words in words.split_whitespace() {
-        let (words, times) = words.split_once('*').unwrap_or((words, "1"));
-        for _ in 0..times.parse::<u16>().expect(rt, "a count") {
-            push_words(rt, &mut bytes, words);
-        }
-    }
-    bytes
-}
-
-/// The bytes of a ROM at a map, of zeros but for the words from a word address on, which comes first.
-fn rom_bytes(rt: &impl Abort, alloc: Global, words: &str, map: &str) -> Vec<u8> {
-    let (first, last) = map.split_once(' ').expect(rt, "a map");
-    let (first, last) = (hex(rt, first), hex(rt, last));
-    let (at, words) = words.split_once(' ').unwrap_or((words, ""));
-    let before = usize::from(hex(rt, at).saturating_sub(first));
-    let mut bytes = vec![in alloc; 0u8; 2 * before].expect(rt, "memory");
-    let given = bytes_of(rt, alloc, words);
-    bytes.extend_from_slice(&given).expect(rt, "memory");
-    let length = 2 * (usize::from(last.saturating_sub(first)) + 1);
-    bytes.resize(length, 0).expect(rt, "memory");
-    bytes
-}
-
 /// Appends pieces of a text, one after another.
 fn push_all(rt: &impl Abort, text: &mut Vec<u8>, pieces: &[&str]) {
     for piece in pieces {
@@ -264,7 +218,7 @@ fn push_all(rt: &impl Abort, text: &mut Vec<u8>, pieces: &[&str]) {
 }
 
 /// The text of the certificate with the entries among these lines, for a ROM of this map.
-fn text_of_entries(rt: &impl Abort, alloc: Global, map: &str, lines: &str) -> Vec<u8> {
+pub fn text_of_entries(rt: &impl Abort, alloc: Global, map: &str, lines: &str) -> Vec<u8> {
     let mut text = Vec::new(alloc);
     match map {
         "800 BFF" => push_all(rt, &mut text, &["dvgcert 1\n"]),

@@ -2,11 +2,10 @@
 //! scale 9 and global scale 0 a draw's sizes are whole places.
 
 use crate::expecting::expect_same;
-use crate::inputs::Part;
-use crate::recipes::building::{draw_to, row, span, straight};
-use crate::recipes::members::{Row as Member, expect_rows};
-use crate::recipes::verdicts::{ROM, expect_told, read_lines};
-use dvg_recipe::PlaceSpan;
+use crate::recipes::building::{row, span, straight};
+use crate::recipes::members::expect_members;
+use crate::recipes::verdicts::{ROM, expect_told};
+use dvg_recipe::{DrawRange, PieceKind, PlaceSpan};
 use dvg_words::Format;
 use std::alloc::Global;
 use std::process::Abort;
@@ -192,12 +191,17 @@ fn expect_rectangle(
     (x, y): ((i16, i16), (i16, i16)),
     fits: bool,
 ) {
-    let to = PlaceSpan {
-        x: span(x.0, x.1),
-        y: span(y.0, y.1),
-    };
-    let sizes = (span(0, 0), span(0, 0));
-    let draw = draw_to(format, lscale, sizes, span(7, 7), Some(to));
+    let draw = PieceKind::Draw(DrawRange {
+        format,
+        lscale,
+        dx: span(0, 0),
+        dy: span(0, 0),
+        bright: span(7, 7),
+        to: Some(PlaceSpan {
+            x: span(x.0, x.1),
+            y: span(y.0, y.1),
+        }),
+    });
     let body = row(alloc, 0, draw).expect(rt, "memory for a row");
     let recipe = straight(alloc, &[(0x000, 0x0FF)], body, 1).expect(rt, "memory for the recipe");
     expect_same(rt, &recipe.is_some(), &fits, &(x, y));
@@ -213,98 +217,49 @@ fn limits_rectangles(rt: HostRuntime) {
 }
 
 /// Hills that stay in their bounds up to a draw, and hills that don't.
-const HILLS: &[Member] = &[
-    (
-        0x00B,
-        &[(
-            0,
-            &[
-                0xA0C8, 0x0000, 0x903C, 0x700C, 0x903C, 0x700C, 0x943C, 0x700C, 0x943C, 0x700C,
-                0xB000,
-            ],
-        )],
-        None,
-    ),
-    // to Y 320, and one place further; to Y 80, and one place further
-    (
-        0x009,
-        &[(
-            0,
-            &[
-                0xA0C8, 0x0000, 0x903C, 0x700C, 0x903C, 0x700C, 0x9001, 0x700C, 0xB000,
-            ],
-        )],
-        Some((0x006, &[1, 2])),
-    ),
-    (
-        0x009,
-        &[(
-            0,
-            &[
-                0xA0C8, 0x0000, 0x943C, 0x700C, 0x943C, 0x700C, 0x9401, 0x700C, 0xB000,
-            ],
-        )],
-        Some((0x006, &[1, 2])),
-    ),
-    // a size out of its range
-    (
-        0x005,
-        &[(0, &[0xA0C8, 0x0000, 0x903D, 0x700C, 0xB000])],
-        Some((0x002, &[1, 2])),
-    ),
-];
-
-/// A place at 100, 100, a call, and a dark draw of no size.
-const CALLS: &[[u16; 6]] = &[
-    [0xA064, 0x0064, 0xC8B0, 0x9000, 0x0000, 0xB000],
-    [0xA064, 0x0064, 0xC840, 0x9000, 0x0000, 0xB000],
-    [0xA064, 0x0064, 0xC870, 0x9000, 0x0000, 0xB000],
-];
-
-/// Where the draw leads behind each of the calls: a shape that goes 30 places to the left, one that goes to 512, 512, and one whose entry
-/// can't be made.
-const ENDS: &[&str] = &["70 70 100 100", "512 512 512 512", "100 100 100 100"];
-
-/// Stops the test unless these frames belong to the recipe of these lines, over the shapes of `ROM`, or leave it, as their rows say.
-fn expect_members(rt: &impl Abort, alloc: Global, lines: &str, rows: &[Member]) {
-    let read = read_lines(rt, alloc, lines);
-    expect_rows(rt, alloc, ROM, &read.recipe, rows);
-}
+const HILLS: &str = "\
+place 0 0 200 200 scale 0, repeat 0 85, vctr 9 x 12 12 y -60 60 bright 7 7 to 0 1023 80 320, end
+belongs: 000 A0C8 0000 903C 700C 903C 700C 943C 700C 943C 700C B000
+; to Y 320, and one place further; to Y 80, and one place further
+leaves 006 at 1 2: 000 A0C8 0000 903C 700C 903C 700C 9001 700C B000
+leaves 006 at 1 2: 000 A0C8 0000 943C 700C 943C 700C 9401 700C B000
+; a size out of its range
+leaves 002 at 1 2: 000 A0C8 0000 903D 700C B000";
 
 #[test]
 fn tells_hills(rt: HostRuntime) {
-    let lines =
-        "place 0 0 200 200 scale 0, repeat 0 85, vctr 9 x 12 12 y -60 60 bright 7 7 to 0 1023 80 320, end";
-    expect_members(&rt, rt.alloc(), lines, HILLS);
+    expect_members(&rt, rt.alloc(), ROM, HILLS);
 }
 
-/// Stops the test unless behind just one of the calls the draw leads to this place.
-fn expect_end(rt: &impl Abort, alloc: Global, at: usize, end: &str) {
-    let lines = format!(in alloc;
-        "place 100 100 100 100 scale 0, call 8B0 840 870, vctr 9 x 0 0 y 0 0 bright 0 0 to {end}"
-    ).expect(rt, "memory for the lines");
-    for (index, words) in CALLS.iter().enumerate() {
-        let leaves: Option<(u16, &[u16])> = if index == at {
-            None
-        } else {
-            Some((0x003, &[2]))
-        };
-        let parts: [Part; 1] = [(0x000, words)];
-        expect_members(rt, alloc, &lines, &[(6, &parts, leaves)]);
-    }
-}
+/// A place at 100, 100, a call, and a dark draw of no size. It leads behind a shape that goes 30 places to the left to 70, 100, behind one
+/// that goes to 512, 512 to that place, and behind one whose entry can't be made to 100, 100.
+const ENDS_OF_CALLS: &str = "\
+place 100 100 100 100 scale 0, call 8B0 840 870, vctr 9 x 0 0 y 0 0 bright 0 0 to 70 70 100 100
+belongs: 000 A064 0064 C8B0 9000 0000 B000
+leaves 003 at 2: 000 A064 0064 C840 9000 0000 B000
+leaves 003 at 2: 000 A064 0064 C870 9000 0000 B000
+
+place 100 100 100 100 scale 0, call 8B0 840 870, vctr 9 x 0 0 y 0 0 bright 0 0 to 512 512 512 512
+leaves 003 at 2: 000 A064 0064 C8B0 9000 0000 B000
+belongs: 000 A064 0064 C840 9000 0000 B000
+leaves 003 at 2: 000 A064 0064 C870 9000 0000 B000
+
+place 100 100 100 100 scale 0, call 8B0 840 870, vctr 9 x 0 0 y 0 0 bright 0 0 to 100 100 100 100
+leaves 003 at 2: 000 A064 0064 C8B0 9000 0000 B000
+leaves 003 at 2: 000 A064 0064 C840 9000 0000 B000
+belongs: 000 A064 0064 C870 9000 0000 B000";
 
 #[test]
 fn tells_ends_of_calls(rt: HostRuntime) {
-    for (at, end) in ENDS.iter().enumerate() {
-        expect_end(&rt, rt.alloc(), at, end);
-    }
+    expect_members(&rt, rt.alloc(), ROM, ENDS_OF_CALLS);
 }
+
+/// At word 000 neither place nor scale is known.
+const LOST_PLACES: &str = "\
+vctr 9 x -1 1 y -1 1 bright 7 7 to -2048 2047 -2048 2047
+leaves 000 at 0: 000 9000 0000 B000";
 
 #[test]
 fn tells_lost_places(rt: HostRuntime) {
-    // at word 000 neither place nor scale is known
-    let rows: &[Member] = &[(3, &[(0, &[0x9000, 0x0000, 0xB000])], Some((0x000, &[0])))];
-    let lines = "vctr 9 x -1 1 y -1 1 bright 7 7 to -2048 2047 -2048 2047";
-    expect_members(&rt, rt.alloc(), lines, rows);
+    expect_members(&rt, rt.alloc(), ROM, LOST_PLACES);
 }

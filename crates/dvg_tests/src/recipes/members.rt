@@ -1,250 +1,108 @@
 //! Which frames belong to a recipe, and where the others leave it: rows that a program in Python, written apart from this one, gave. And
 //! which values are no recipe.
+//!
+//! A table's lines are those of a recipe, as in [`verdicts`](crate::recipes::verdicts), and behind them those of the frames that are asked
+//! for: what is told of one, a colon, and its words. An empty line stands before the next recipe.
 
 use crate::expecting::expect_same;
-use crate::inputs::{Part as Words, rom_bytes};
-use crate::recipes::building::{
-    call, draw, either, fixed, nested, pair, place, repeat, row, shapes, span, straight,
-};
-use dvg_recipe::{Area, Jump, NotMember, Part, PieceKind, Recipe, belongs};
-use dvg_words::{ASTEROIDS, Format, FrameImage, Machine, RomImage};
+use crate::inputs::{bytes_from, rom_of};
+use crate::recipes::building::{nested, repeat, row, shape, straight};
+use crate::recipes::verdicts::Asked;
+use dvg_recipe::{Area, NotMember, Part, PieceKind, Recipe, belongs};
+use dvg_words::{ASTEROIDS, FrameImage, Machine, RomImage};
 use std::alloc::{AllocError, Global};
+use std::fmt::Write;
 use std::process::Abort;
 
-/// A frame's number of words, those of its words that are not 0, and where it leaves the recipe, with the pieces that could stand there.
-pub type Row<'a> = (usize, &'a [Words<'a>], Option<(u16, &'a [u16])>);
+/// Two lists, with a part to which each of them jumps: a place, then a call, or one to three draws, each with a dot, or no more than two
+/// calls; and at 200 a stroke of an SVEC, and a call at 512, 512.
+const MEMBERS: &str = "\
+list 000 0FF, list 101 1FF, place 0 1023 -8 8 scale 0 2, either, call 800 810, or, either
+repeat 1 3, vctr 9 x -4 4 y 0 2 bright 0 7, words F0F4, end, or, repeat 0 2, call 820, end, end, end
+jump 200 2FF, svec 1 x -3 3 y -1 0 bright 5 6, words A200 0200 C800
+belongs: 000 AFFD 0000 E200, 200 FD67 A200 0200 C800 B000
+belongs: 000 E101, 101 A002 23FF 9002 7004 F0F0 E200, 200 FD61 A200 0200 C800 B000
+belongs: 000 AFF8 2000 9002 0001 F0F0 9001 7404 F0F0 9002 7403 F0F0 E200, 200 FD63 A200 0200 C800 B000
+leaves 000 at 0: 000 E111, 101 AFF8 0000 E200, 200 F856 A200 0200 C800 B000
+leaves 201 at 7: 000 E101, 101 AFF8 22D7 C800 E200, 200 F866 C800 0200 C800 B000
+leaves 104 at 5: 000 E101, 101 A000 20BA C810 E240, 200 F851 A200 0200 C800 B000
+leaves 200 at 6: 000 AFF8 032A C800 E200, 0D9 0000
+leaves 203 at 8: 000 E101, 101 AFF8 00BA 9000 2004 F0F0 9002 0004 F0F0 E200, 200 FD50 A200 0200 C840 B000
+leaves 103 at 1 2 4 5: 000 E101, 101 AFF8 03FF F0F4 E200, 200 F850 F0F4 0200 C800 B000
+leaves 003 at 4 5: 000 A008 03FC C820 C828 E200, 200 F867 A200 C800 C800 B000
+leaves 105 at 3: 000 E101, 101 A002 2135 9000 0002 F1F0 E200, 200 F867 A200 0200 C800 B000
+leaves 003 at 5: 000 AFF8 23FF C800 C820, 200 F863 A200 0200 C800 B000
+leaves 204 at 9: 000 A008 03FF C810 E200, 200 F851 A200 0200 C800 E101
+leaves 008 at 2 5: 000 AFFB 0000 9002 0402 F0F0 9002 1401 F0F0 2898 7002 F0F0 E200, 200 B000 A200 0200 C800 B000";
 
-const ROWS: &[Row] = &[
-    (
-        0x205,
-        &[
-            (0x000, &[0xAFFD, 0x0000, 0xE200]),
-            (0x200, &[0xFD67, 0xA200, 0x0200, 0xC800, 0xB000]),
-        ],
-        None,
-    ),
-    (
-        0x205,
-        &[
-            (0x000, &[0xE101]),
-            (0x101, &[0xA002, 0x23FF, 0x9002, 0x7004, 0xF0F0, 0xE200]),
-            (0x200, &[0xFD61, 0xA200, 0x0200, 0xC800, 0xB000]),
-        ],
-        None,
-    ),
-    (
-        0x205,
-        &[
-            (
-                0x000,
-                &[
-                    0xAFF8, 0x2000, 0x9002, 0x0001, 0xF0F0, 0x9001, 0x7404, 0xF0F0, 0x9002, 0x7403,
-                    0xF0F0, 0xE200,
-                ],
-            ),
-            (0x200, &[0xFD63, 0xA200, 0x0200, 0xC800, 0xB000]),
-        ],
-        None,
-    ),
-    (
-        0x205,
-        &[
-            (0x000, &[0xE111]),
-            (0x101, &[0xAFF8, 0x0000, 0xE200]),
-            (0x200, &[0xF856, 0xA200, 0x0200, 0xC800, 0xB000]),
-        ],
-        Some((0x000, &[0])),
-    ),
-    (
-        0x205,
-        &[
-            (0x000, &[0xE101]),
-            (0x101, &[0xAFF8, 0x22D7, 0xC800, 0xE200]),
-            (0x200, &[0xF866, 0xC800, 0x0200, 0xC800, 0xB000]),
-        ],
-        Some((0x201, &[7])),
-    ),
-    (
-        0x205,
-        &[
-            (0x000, &[0xE101]),
-            (0x101, &[0xA000, 0x20BA, 0xC810, 0xE240]),
-            (0x200, &[0xF851, 0xA200, 0x0200, 0xC800, 0xB000]),
-        ],
-        Some((0x104, &[5])),
-    ),
-    (
-        0x0DA,
-        &[(0x000, &[0xAFF8, 0x032A, 0xC800, 0xE200])],
-        Some((0x200, &[6])),
-    ),
-    (
-        0x205,
-        &[
-            (0x000, &[0xE101]),
-            (
-                0x101,
-                &[
-                    0xAFF8, 0x00BA, 0x9000, 0x2004, 0xF0F0, 0x9002, 0x0004, 0xF0F0, 0xE200,
-                ],
-            ),
-            (0x200, &[0xFD50, 0xA200, 0x0200, 0xC840, 0xB000]),
-        ],
-        Some((0x203, &[8])),
-    ),
-    (
-        0x205,
-        &[
-            (0x000, &[0xE101]),
-            (0x101, &[0xAFF8, 0x03FF, 0xF0F4, 0xE200]),
-            (0x200, &[0xF850, 0xF0F4, 0x0200, 0xC800, 0xB000]),
-        ],
-        Some((0x103, &[1, 2, 4, 5])),
-    ),
-    (
-        0x205,
-        &[
-            (0x000, &[0xA008, 0x03FC, 0xC820, 0xC828, 0xE200]),
-            (0x200, &[0xF867, 0xA200, 0xC800, 0xC800, 0xB000]),
-        ],
-        Some((0x003, &[4, 5])),
-    ),
-    (
-        0x205,
-        &[
-            (0x000, &[0xE101]),
-            (0x101, &[0xA002, 0x2135, 0x9000, 0x0002, 0xF1F0, 0xE200]),
-            (0x200, &[0xF867, 0xA200, 0x0200, 0xC800, 0xB000]),
-        ],
-        Some((0x105, &[3])),
-    ),
-    (
-        0x205,
-        &[
-            (0x000, &[0xAFF8, 0x23FF, 0xC800, 0xC820]),
-            (0x200, &[0xF863, 0xA200, 0x0200, 0xC800, 0xB000]),
-        ],
-        Some((0x003, &[5])),
-    ),
-    (
-        0x205,
-        &[
-            (0x000, &[0xA008, 0x03FF, 0xC810, 0xE200]),
-            (0x200, &[0xF851, 0xA200, 0x0200, 0xC800, 0xE101]),
-        ],
-        Some((0x204, &[9])),
-    ),
-    (
-        0x205,
-        &[
-            (
-                0x000,
-                &[
-                    0xAFFB, 0x0000, 0x9002, 0x0402, 0xF0F0, 0x9002, 0x1401, 0xF0F0, 0x2898, 0x7002,
-                    0xF0F0, 0xE200,
-                ],
-            ),
-            (0x200, &[0xB000, 0xA200, 0x0200, 0xC800, 0xB000]),
-        ],
-        Some((0x008, &[2, 5])),
-    ),
-];
-
-/// A place; then a call, or one to three draws, each with a dot, or no more than two calls.
-fn body(alloc: Global) -> Result<Part, AllocError> {
-    let sizes = (span(-4, 4), span(0, 2));
-    let draws = pair(
-        alloc,
-        row(alloc, 2, draw(Format::Long, 9, sizes, span(0, 7)))?,
-        row(alloc, 3, fixed(0xF0F4, 0))?,
-    )?;
-    let calls = row(alloc, 4, call(alloc, &[0x820])?)?;
-    let some = either(
-        alloc,
-        repeat(alloc, 1, 3, draws)?,
-        repeat(alloc, 0, 2, calls)?,
-    )?;
-    let shapes = row(alloc, 1, call(alloc, &[0x800, 0x810])?)?;
-    let start = row(alloc, 0, place())?;
-    pair(alloc, start, either(alloc, shapes, some)?)
-}
-
-/// At 200 a stroke of an SVEC, and a call at 512, 512.
-fn jump(alloc: Global) -> Result<Jump, AllocError> {
-    let sizes = (span(-768, 768), span(-256, 0));
-    let stroke = row(alloc, 6, draw(Format::Short, 3, sizes, span(5, 6)))?;
-    let middle = pair(
-        alloc,
-        row(alloc, 7, fixed(0xA200, 0x0200))?,
-        row(alloc, 8, fixed(0xC800, 0))?,
-    )?;
-    Ok(Jump {
-        number: 5,
-        area: Area {
-            first: 0x200,
-            last: 0x2FF,
-        },
-        body: pair(alloc, stroke, middle)?,
-    })
-}
-
-/// The recipe of two lists, with a part to which each of them jumps.
-fn recipe(alloc: Global, second: u16) -> Result<Option<Recipe>, AllocError> {
-    let mut lists = Vec::new(alloc);
-    for (first, last) in [(0, 0x0FF), (second, 0x1FF)] {
-        lists.push(Area { first, last })?;
-    }
-    let mut jumps = Vec::new(alloc);
-    jumps.push(jump(alloc)?)?;
-    Ok(Recipe::new(lists, body(alloc)?, jumps, 9))
-}
-
-/// Stops the test unless each frame belongs to the recipe over the ROM of these words at 800 to BFF, or leaves it, as its row says.
-pub fn expect_rows(rt: &impl Abort, alloc: Global, rom: &[Words], recipe: &Recipe, rows: &[Row]) {
-    let bytes = rom_bytes(rom);
-    let rom = RomImage::from_bytes_on(Machine::Board, &bytes, ASTEROIDS).expect(rt, "a ROM");
-    for (words, parts, leaves) in rows {
-        let bytes = rom_bytes(parts);
-        let frame = FrameImage::from_bytes(&bytes[..2 * (*words % 1025)]);
-        let frame = frame.expect(rt, "a frame");
-        match belongs(alloc, &rom, recipe, &frame) {
-            Ok(()) => expect_same(rt, &None, leaves, parts),
-            Err(NotMember::Leaves(leaving)) => {
-                expect_same(
-                    rt,
-                    &Some((leaving.at, leaving.pieces.as_slice())),
-                    leaves,
-                    parts,
-                );
+/// What an answer tells, in words.
+fn told(alloc: Global, answer: &Result<(), NotMember>) -> Result<String, AllocError> {
+    match answer {
+        Ok(()) => format!(in alloc; "belongs"),
+        Err(NotMember::Leaves(leaving)) => {
+            let mut line = format!(in alloc; "leaves {:03X} at", leaving.at)?;
+            for piece in &leaving.pieces {
+                write!(line, " {piece}")?;
             }
-            Err(NotMember::Memory) => assert!(rt; false, "out of memory"),
+            Ok(line)
+        }
+        Err(NotMember::Memory) => format!(in alloc; "out of memory"),
+    }
+}
+
+/// Stops the test unless this is told of a frame of these words and a recipe.
+pub fn expect_member(
+    rt: &impl Abort,
+    alloc: Global,
+    rom: &RomImage,
+    recipe: &Recipe,
+    (want, words): (&str, &str),
+) {
+    let bytes = bytes_from(rt, alloc, 0, words);
+    let frame = FrameImage::from_bytes(&bytes).expect(rt, "a frame");
+    let line = told(alloc, &belongs(alloc, rom, recipe, &frame));
+    let line = line.expect(rt, "memory for a line");
+    expect_same(rt, &line.as_str(), &want, &words);
+}
+
+/// Stops the test unless this is told of the frames of a table, over the ROM of these words at 800 to BFF.
+pub fn expect_members(rt: &impl Abort, alloc: Global, rom: &str, table: &str) {
+    let bytes = rom_of(rt, alloc, rom);
+    let rom = RomImage::from_bytes_on(Machine::Board, &bytes, ASTEROIDS).expect(rt, "a ROM");
+    let mut asked = Asked::new(alloc);
+    for line in table.lines() {
+        match line.split_once(": ") {
+            Some(frame) => {
+                let recipe = asked.read(rt, alloc).recipe;
+                expect_member(rt, alloc, &rom, &recipe, frame);
+            }
+            None if line.is_empty() => asked = Asked::new(alloc),
+            None => asked.take(rt, line),
         }
     }
 }
 
 #[test]
 fn tells_members(rt: HostRuntime) {
-    let recipe = recipe(rt.alloc(), 0x101).expect(&rt, "memory for the recipe");
-    let recipe = recipe.expect(&rt, "a recipe");
-    expect_rows(&rt, rt.alloc(), &[], &recipe, ROWS);
+    expect_members(&rt, rt.alloc(), "800", MEMBERS);
 }
 
 /// 20 calls, and 20 calls with one more behind another item.
-const NESTED_ROWS: &[Row] = &[
-    (0x015, &[(0x000, &[0xC820; 20]), (0x014, &[0xB000])], None),
-    (
-        0x017,
-        &[(0x000, &[0xC820; 20]), (0x014, &[0xC810, 0xC820, 0xB000])],
-        Some((0x014, &[0, 1])),
-    ),
+const NESTED: &[(&str, &str)] = &[
+    ("belongs", "000 C820*20 B000"),
+    ("leaves 014 at 0 1", "000 C820*20 C810 C820 B000"),
 ];
 
-/// Stops the test unless the frames of `NESTED_ROWS` are told, by so many repeats of at least so many turns, one in another.
+/// Stops the test unless this is told of the frames of `NESTED`, by so many repeats of at least so many turns, one in another.
 fn expect_nested(rt: &impl Abort, alloc: Global, levels: u16, least: u16) {
+    let bytes = rom_of(rt, alloc, "800");
+    let rom = RomImage::from_bytes_on(Machine::Board, &bytes, ASTEROIDS).expect(rt, "a ROM");
     let body = nested(alloc, levels, least, 1023).expect(rt, "memory for the body");
     let recipe = straight(alloc, &[(0, 0x0FF)], body, 1).expect(rt, "memory for the recipe");
     let recipe = recipe.expect(rt, "a recipe");
-    expect_rows(rt, alloc, &[], &recipe, NESTED_ROWS);
+    for row in NESTED {
+        expect_member(rt, alloc, &rom, &recipe, *row);
+    }
 }
 
 #[test]
@@ -255,13 +113,6 @@ fn ends_in_nested_repeats(rt: HostRuntime) {
 #[test]
 fn ends_in_most_nested(rt: HostRuntime) {
     expect_nested(&rt, rt.alloc(), 16, 1);
-}
-
-#[test]
-fn keeps_limits(rt: HostRuntime) {
-    // a second list that begins in the first one's area
-    let recipe = recipe(rt.alloc(), 0x0FF).expect(&rt, "memory for the recipe");
-    assert!(rt; recipe.is_none());
 }
 
 /// The recipe of a call of so many word addresses, up to 1,023 times.
@@ -283,23 +134,45 @@ fn limits_options(rt: HostRuntime) {
     }
 }
 
-/// Stops the test unless a recipe of this body is within the limits, or not.
-fn expect_limits(rt: &impl Abort, alloc: Global, body: Part, halt: u16, fits: bool) {
-    let recipe = straight(alloc, &[(0, 0x3FF)], body, halt).expect(rt, "memory for the recipe");
-    expect_same(rt, &recipe.is_some(), &fits, &halt);
+/// Stops the test unless a recipe of lists in these areas and of this body is within the limits, or not.
+fn expect_limits(
+    rt: &impl Abort,
+    alloc: Global,
+    areas: &[(u16, u16)],
+    body: Result<Part, AllocError>,
+    fits: bool,
+) {
+    let body = body.expect(rt, "memory for the body");
+    let recipe = straight(alloc, areas, body, 1).expect(rt, "memory for the recipe");
+    expect_same(rt, &recipe.is_some(), &fits, &areas);
+}
+
+#[test]
+fn keeps_limits(rt: HostRuntime) {
+    // a second list that begins behind the first one's area, or in it
+    for (second, fits) in [(0x100, true), (0x0FF, false)] {
+        let areas = [(0, 0x0FF), (second, 0x1FF)];
+        expect_limits(&rt, rt.alloc(), &areas, shape(rt.alloc(), 0), fits);
+    }
+}
+
+/// A repeat of nothing or a call.
+fn repeated_branches(alloc: Global) -> Result<Part, AllocError> {
+    let nothing = Box::new(alloc, Part::Row(Vec::new(alloc)))?;
+    let call = Box::new(alloc, shape(alloc, 0)?)?;
+    repeat(alloc, 0, 1, Part::Either(nothing, call))
 }
 
 #[test]
 fn limits_repeats(rt: HostRuntime) {
     let alloc = rt.alloc();
+    let areas = [(0, 0x3FF)];
     for (levels, fits) in [(16, true), (17, false)] {
-        let body = nested(alloc, levels, 1, 1023).expect(&rt, "memory for the body");
-        expect_limits(&rt, alloc, body, 1, fits);
+        let body = nested(alloc, levels, 1, 1023);
+        expect_limits(&rt, alloc, &areas, body, fits);
     }
     let empty = repeat(alloc, 0, 1, Part::Row(Vec::new(alloc))).expect(&rt, "memory for the body");
-    expect_limits(&rt, alloc, empty, 0, false);
-    let call = shapes(alloc, &[0]).expect(&rt, "memory for a row");
-    let some = either(alloc, Part::Row(Vec::new(alloc)), call).expect(&rt, "memory for branches");
-    let some = repeat(alloc, 0, 1, some).expect(&rt, "memory for the body");
-    expect_limits(&rt, alloc, some, 1, true);
+    let recipe = straight(alloc, &areas, empty, 0).expect(&rt, "memory for the recipe");
+    assert!(rt; recipe.is_none());
+    expect_limits(&rt, alloc, &areas, repeated_branches(alloc), true);
 }

@@ -1,14 +1,10 @@
 //! Texts of recipes that are read or refused: rows that a program in Python, written apart from this one, gave.
 
 use crate::expecting::expect_same;
-use crate::table::text_of_lines;
 use dvg_labels::read_labels;
-use dvg_recipe_text::{RecipeTextFault, RecipeTextWhy, read_recipe};
+use dvg_recipe_text::{RecipeTextWhy, read_recipe};
 use std::alloc::{AllocError, Global};
 use std::process::Abort;
-
-/// The first two lines of most texts.
-pub const H: &[u8] = b"dvgrecipe 1\nlist 001 3FF\n";
 
 /// Labels at 980, 9B3 and 005; one stands at two words.
 pub const LABELS: &[u8] =
@@ -167,235 +163,146 @@ ok 1 dvgrecipe 1|list 000 000|list 001 001|list 002 002|list 003 003|list 004 00
 51 4 +halt|x\t|
 53 4 +halt|x";
 
-/// A line of 38 words.
-const W: &[u8] =
-    b"words F000 F000 F000 F000 F000 F000 F000 F000 F000 F000 F000 F000 F000 F000 F000 F000 F000 F000 F000 F000 F000 F000 F000 F000 F000 F000 F000 F000 F000 F000 F000 F000 F000 F000 F000 F000 F000 F000\n";
+/// Texts with what stands there more than once: `{a*196}` is `a` so many times, `^` a line of 38 words, and `?` a byte that is no UTF-8.
+const REPEATED: &str = "\
+53 1
+ok 1 +; {a*196}|halt|
+ok 1 +; {a*197}|halt|
+55 3 +; {a*198}|halt|
+55 3 +{x*300}
+ok 2 +{repeat 0 1|*16}call 800{|end*16}|halt|
+55 19 +{repeat 0 1|*17}
+ok 1 +{;|*4093}halt|
+55 4097 +{;|*4094}halt|
+ok 4067 +{^*107}halt|
+55 110 +{^*108}halt|
+51 3 +?|
+ok 1 +shapes {a*80} 800|halt|
+51 3 +shapes {a*81} 800|
+51 3 +place {9*20} 0 0 0 scale 1|
+55 35 +{either|call 800|*17}
+ok 2 +{either|*16}call 800{|end*16}|halt|
+51 19 +{repeat 0 1|*16}repeat 0 0|
+55 4 +halt|{x*200}|
+55 4 +halt|{x*200}
+51 3 +call|{x*200}
+55 4 +|{x*200}|
+55 1 {x*200}
+53 1 {x*199}
+55 1 {x*200}|
+ok 4096 +{^*107}words{ F000*29}|halt|
+55 111 +{^*107}words{ F000*30}|halt|
+51 110 +{^*107}words{ F000*34} B000|
+52 111 +{^*107}words{ F000*30}|call NONE|
+55 111 dvgrecipe 1|list 000 000|{^*107}words{ F000*30}|jump 001 001|
+53 4097 +{;|*4094}
+53 4097 +{;|*4094}x
+51 4096 +{;|*4093}x|
+55 4097 +{;|*4095}
+51 3 +{?*199}|
+55 3 +{?*200}|
+55 4097 +{;|*4094}\t|
+55 4097 +halt{|;*4093}|x|
+55 4 +halt|{\t*200}
+ok 402 +call 800{|repeat 0 2|repeat 1 2|call 801|end|either|call 802|or|words 9000 F000|call 803|end|end*100}|halt|";
 
-/// A text, as pieces that stand there so many times, and what is answered.
-type Row<'a> = (&'a [(&'a [u8], usize)], Result<usize, (u8, u32)>);
-
-/// Texts of pieces that stand there more than once, and those that are no UTF-8 or empty.
-const REPEATED: &[Row] = &[
-    (&[], Err((53, 1))),
-    (&[(H, 1), (b"; ", 1), (b"a", 196), (b"\nhalt\n", 1)], Ok(1)),
-    (&[(H, 1), (b"; ", 1), (b"a", 197), (b"\nhalt\n", 1)], Ok(1)),
-    (
-        &[(H, 1), (b"; ", 1), (b"a", 198), (b"\nhalt\n", 1)],
-        Err((55, 3)),
-    ),
-    (&[(H, 1), (b"x", 300)], Err((55, 3))),
-    (
-        &[
-            (H, 1),
-            (b"repeat 0 1\n", 16),
-            (b"call 800", 1),
-            (b"\nend", 16),
-            (b"\nhalt\n", 1),
-        ],
-        Ok(2),
-    ),
-    (&[(H, 1), (b"repeat 0 1\n", 17)], Err((55, 19))),
-    (&[(H, 1), (b";\n", 4093), (b"halt\n", 1)], Ok(1)),
-    (&[(H, 1), (b";\n", 4094), (b"halt\n", 1)], Err((55, 4097))),
-    (&[(H, 1), (W, 107), (b"halt\n", 1)], Ok(4067)),
-    (&[(H, 1), (W, 108), (b"halt\n", 1)], Err((55, 110))),
-    (&[(H, 1), (b"\x80\n", 1)], Err((51, 3))),
-    (
-        &[(H, 1), (b"shapes ", 1), (b"a", 80), (b" 800\nhalt\n", 1)],
-        Ok(1),
-    ),
-    (
-        &[(H, 1), (b"shapes ", 1), (b"a", 81), (b" 800\n", 1)],
-        Err((51, 3)),
-    ),
-    (
-        &[(H, 1), (b"place ", 1), (b"9", 20), (b" 0 0 0 scale 1\n", 1)],
-        Err((51, 3)),
-    ),
-    (&[(H, 1), (b"either\ncall 800\n", 17)], Err((55, 35))),
-    (
-        &[
-            (H, 1),
-            (b"either\n", 16),
-            (b"call 800", 1),
-            (b"\nend", 16),
-            (b"\nhalt\n", 1),
-        ],
-        Ok(2),
-    ),
-    (
-        &[(H, 1), (b"repeat 0 1\n", 16), (b"repeat 0 0\n", 1)],
-        Err((51, 19)),
-    ),
-    (
-        &[(H, 1), (b"halt\n", 1), (b"x", 200), (b"\n", 1)],
-        Err((55, 4)),
-    ),
-    (&[(H, 1), (b"halt\n", 1), (b"x", 200)], Err((55, 4))),
-    (&[(H, 1), (b"call\n", 1), (b"x", 200)], Err((51, 3))),
-    (&[(H, 1), (b"\n", 1), (b"x", 200), (b"\n", 1)], Err((55, 4))),
-    (&[(b"x", 200)], Err((55, 1))),
-    (&[(b"x", 199)], Err((53, 1))),
-    (&[(b"x", 200), (b"\n", 1)], Err((55, 1))),
-    (
-        &[
-            (H, 1),
-            (W, 107),
-            (b"words", 1),
-            (b" F000", 29),
-            (b"\nhalt\n", 1),
-        ],
-        Ok(4096),
-    ),
-    (
-        &[
-            (H, 1),
-            (W, 107),
-            (b"words", 1),
-            (b" F000", 30),
-            (b"\nhalt\n", 1),
-        ],
-        Err((55, 111)),
-    ),
-    (
-        &[
-            (H, 1),
-            (W, 107),
-            (b"words", 1),
-            (b" F000", 34),
-            (b" B000\n", 1),
-        ],
-        Err((51, 110)),
-    ),
-    (
-        &[
-            (H, 1),
-            (W, 107),
-            (b"words", 1),
-            (b" F000", 30),
-            (b"\ncall NONE\n", 1),
-        ],
-        Err((52, 111)),
-    ),
-    (
-        &[
-            (b"dvgrecipe 1\nlist 000 ", 1),
-            (
-                b"000\nwords F000 F000 F000 F000 F000 F000 F000 F000 F000 F000 F000 F000 F000 F000 F000 F000 F000 F000 F000 F000 F000 F000 F000 F000 F000 F000 F000 F000 F000 F000 F000 F000 F000 F000 F000 F000 F000 F",
-                107,
-            ),
-            (b"000\nwords", 1),
-            (b" F000", 30),
-            (b"\njump 001 001\n", 1),
-        ],
-        Err((55, 111)),
-    ),
-    (&[(H, 1), (b";\n", 4094)], Err((53, 4097))),
-    (&[(H, 1), (b";\n", 4094), (b"x", 1)], Err((53, 4097))),
-    (&[(H, 1), (b";\n", 4093), (b"x\n", 1)], Err((51, 4096))),
-    (&[(H, 1), (b";\n", 4095)], Err((55, 4097))),
-    (&[(H, 1), (b"\x80", 199), (b"\n", 1)], Err((51, 3))),
-    (&[(H, 1), (b"\x80", 200), (b"\n", 1)], Err((55, 3))),
-    (&[(H, 1), (b";\n", 4094), (b"\t\n", 1)], Err((55, 4097))),
-    (
-        &[(H, 1), (b"halt", 1), (b"\n;", 4093), (b"\nx\n", 1)],
-        Err((55, 4097)),
-    ),
-    (&[(H, 1), (b"halt\n", 1), (b"\t", 200)], Err((55, 4))),
-    (
-        &[
-            (H, 1),
-            (b"call 800", 1),
-            (
-                b"\nrepeat 0 2\nrepeat 1 2\ncall 801\nend\neither\ncall 802\nor\nwords 9000 F000\ncall 803\nend\nend",
-                100,
-            ),
-            (b"\nhalt\n", 1),
-        ],
-        Ok(402),
-    ),
-];
-
-/// The text of a row.
-pub fn text_of(alloc: Global, parts: &[(&[u8], usize)]) -> Result<Vec<u8>, AllocError> {
-    let mut text = Vec::new(alloc);
-    for (part, times) in parts {
-        for _ in 0..*times {
-            text.extend_from_slice(part)?;
+/// Appends what a piece of a spelling stands for.
+fn push_piece(text: &mut Vec<u8>, piece: &str) -> Result<(), AllocError> {
+    for byte in piece.as_bytes() {
+        match *byte {
+            b'|' => text.push(b'\n')?,
+            b'?' => text.push(0x80)?,
+            b'^' => {
+                text.extend_from_slice(b"words")?;
+                for _ in 0..38 {
+                    text.extend_from_slice(b" F000")?;
+                }
+                text.push(b'\n')?;
+            }
+            byte => text.push(byte)?,
         }
     }
-    Ok(text)
+    Ok(())
 }
 
-/// What is answered of a text: the number of its recipe's pieces, or the number and the line of its refusal.
-fn answer_to(alloc: Global, text: &[u8]) -> Result<usize, (u8, u32)> {
-    match read_recipe(alloc, text, None) {
-        Ok(read) => Ok(read.lines.len()),
-        Err(fault) => Err((fault.number(), fault.line)),
+/// Appends a piece as often as there stands behind it.
+fn push_repeated(rt: &impl Abort, text: &mut Vec<u8>, repeated: &str) {
+    let (piece, times) = repeated.split_once('*').expect(rt, "a piece and a count");
+    for _ in 0..times.parse::<u16>().expect(rt, "a count") {
+        push_piece(text, piece).expect(rt, "memory for the text");
     }
 }
 
-/// The text that a row of `TEXTS` spells.
-fn spelled(rt: &impl Abort, alloc: Global, spelling: &str) -> Vec<u8> {
-    let behind = spelling.strip_prefix("+").unwrap_or(spelling);
-    let lines = text_of_lines(rt, alloc, behind);
-    if spelling.starts_with("+") {
-        text_of(alloc, &[(H, 1), (lines.as_slice(), 1)]).expect(rt, "memory for the text")
-    } else {
-        lines
+/// The text of a spelling.
+pub fn text_of(rt: &impl Abort, alloc: Global, spelling: &str) -> Vec<u8> {
+    let (first, behind) = match spelling.strip_prefix("+") {
+        Some(behind) => ("dvgrecipe 1|list 001 3FF|", behind),
+        None => ("", spelling),
+    };
+    let mut text = Vec::new(alloc);
+    push_piece(&mut text, first).expect(rt, "memory for the text");
+    for piece in behind.split('{') {
+        let behind = match piece.split_once('}') {
+            Some((repeated, behind)) => {
+                push_repeated(rt, &mut text, repeated);
+                behind
+            }
+            None => piece,
+        };
+        push_piece(&mut text, behind).expect(rt, "memory for the text");
+    }
+    text
+}
+
+/// What is answered of a text, in words.
+fn told(alloc: Global, text: &[u8]) -> Result<String, AllocError> {
+    match read_recipe(alloc, text, None) {
+        Ok(read) => format!(in alloc; "ok {}", read.lines.len()),
+        Err(fault) => format!(in alloc; "{} {}", fault.number(), fault.line),
+    }
+}
+
+/// Stops the test unless each text of a table is answered as its row says.
+fn expect_answers(rt: &impl Abort, alloc: Global, table: &str) {
+    for row in table.lines() {
+        let (first, rest) = row.split_once(' ').expect(rt, "a row");
+        let (second, spelling) = rest.split_once(' ').unwrap_or((rest, ""));
+        let text = text_of(rt, alloc, spelling);
+        let told = told(alloc, &text).expect(rt, "memory for a line");
+        let want = told.split_once(' ');
+        expect_same(rt, &want, &Some((first, second)), &row);
     }
 }
 
 #[test]
 fn answers_texts(rt: HostRuntime) {
-    for row in TEXTS.lines() {
-        let (first, rest) = row.split_once(' ').expect(&rt, "a row");
-        let (second, spelling) = rest.split_once(' ').expect(&rt, "a row");
-        let text = spelled(&rt, rt.alloc(), spelling);
-        let want: Result<usize, (u8, u32)> = match first {
-            "ok" => Ok(second.parse::<usize>().expect(&rt, "a count")),
-            _ => Err((
-                first.parse::<u8>().expect(&rt, "a number"),
-                second.parse::<u32>().expect(&rt, "a line"),
-            )),
-        };
-        expect_same(&rt, &answer_to(rt.alloc(), &text), &want, &row);
-    }
+    expect_answers(&rt, rt.alloc(), TEXTS);
 }
 
 #[test]
 fn answers_repeated(rt: HostRuntime) {
-    for (at, (parts, want)) in REPEATED.iter().enumerate() {
-        let text = text_of(rt.alloc(), parts).expect(&rt, "memory for the text");
-        expect_same(&rt, &answer_to(rt.alloc(), &text), want, &at);
-    }
+    expect_answers(&rt, rt.alloc(), REPEATED);
 }
 
-/// Why a text is refused that has this behind its first two lines, with the labels of `LABELS`.
-fn refusal(rt: &impl Abort, alloc: Global, behind: &[u8]) -> Option<RecipeTextFault> {
-    let labels = read_labels(alloc, LABELS).expect(rt, "labels");
-    let text = text_of(alloc, &[(H, 1), (behind, 1)]).expect(rt, "memory for the text");
-    read_recipe(alloc, &text, Some(&labels)).err()
-}
+/// A text whose second name is that of a shape above.
+const NAMED_TWICE: &str = "+shapes ROCK ROCK|shapes ROCK 800|";
+
+/// Texts that name labels of `LABELS`, and the line and the reason of their refusal.
+const NAMING: &[(&str, Option<(u32, RecipeTextWhy)>)] = &[
+    ("+call ROCK LIST|halt|", None),
+    ("+call TWICE|halt|", Some((3, RecipeTextWhy::Several))),
+    ("+call NONE|halt|", Some((3, RecipeTextWhy::Undefined))),
+    ("+shapes TWICE 800|call TWICE|halt|", None),
+    (NAMED_TWICE, Some((4, RecipeTextWhy::DefinedTwice))),
+];
 
 #[test]
 fn names_labels(rt: HostRuntime) {
-    let fault = |line: u32, why: RecipeTextWhy| Some(RecipeTextFault { line, why });
-    assert_eq!(rt; refusal(&rt, rt.alloc(), b"call ROCK LIST\nhalt\n"), None);
-    assert_eq!(rt;
-        refusal(&rt, rt.alloc(), b"call TWICE\nhalt\n"),
-        fault(3, RecipeTextWhy::Several)
-    );
-    assert_eq!(rt;
-        refusal(&rt, rt.alloc(), b"call NONE\nhalt\n"),
-        fault(3, RecipeTextWhy::Undefined)
-    );
-    assert_eq!(rt;
-        refusal(&rt, rt.alloc(), b"shapes TWICE 800\ncall TWICE\nhalt\n"),
-        None
-    );
-    assert_eq!(rt;
-        refusal(&rt, rt.alloc(), b"shapes ROCK ROCK\nshapes ROCK 800\n"),
-        fault(4, RecipeTextWhy::DefinedTwice)
-    );
+    let labels = read_labels(rt.alloc(), LABELS).expect(&rt, "labels");
+    for (spelling, want) in NAMING {
+        let text = text_of(&rt, rt.alloc(), spelling);
+        let fault = read_recipe(rt.alloc(), &text, Some(&labels)).err();
+        let refused = fault.map(|fault| (fault.line, fault.why));
+        expect_same(&rt, &refused, want, spelling);
+    }
 }

@@ -10,7 +10,7 @@ ghost use Rattle.dvg_words.specs.declared.machine.Machine.TheVariants.{Board};
 ghost use Rattle.dvg_cert.specs.declared.limits.TheConstants.{MOST_WORDS};
 
 use crate::expecting::{expect, expect_same};
-use crate::inputs::{Part, rom_bytes};
+use crate::inputs::rom_of;
 use dvg_cert::MOST_WORDS;
 use dvg_cmd::window_of;
 use dvg_recipe::{
@@ -23,7 +23,7 @@ use std::process::Abort;
 
 /// What a row asks: the lines of its recipe, each with a comma behind it, how many words its frames may take, and where they may light.
 #[derive(Drop)]
-struct Asked {
+pub struct Asked {
     lines: String,
     budget: u32,
     window: Window,
@@ -31,7 +31,7 @@ struct Asked {
 
 impl Asked {
     /// What a row asks before its first line.
-    fn new(alloc: Global) -> Asked {
+    pub fn new(alloc: Global) -> Asked {
         Asked {
             lines: String::new(alloc),
             budget: 20_000,
@@ -40,7 +40,7 @@ impl Asked {
     }
 
     /// Takes a line of the row, other than its last.
-    fn take(&mut self, rt: &impl Abort, line: &str) {
+    pub fn take(&mut self, rt: &impl Abort, line: &str) {
         let (word, words) = line.split_once(' ').unwrap_or((line, ""));
         match word {
             ";" => {}
@@ -51,6 +51,12 @@ impl Asked {
                 self.lines.push_str(", ").expect(rt, "memory");
             }
         }
+    }
+
+    /// The recipe of the row.
+    pub fn read(&self, rt: &impl Abort, alloc: Global) -> ReadRecipe {
+        let lines = self.lines.as_str();
+        read_lines(rt, alloc, lines.strip_suffix(", ").unwrap_or(lines))
     }
 }
 
@@ -140,7 +146,7 @@ fn expect_answer(rt: &impl Abort, alloc: Global, rom: &RomImage, asked: &Asked, 
     requires board { rom.now.machine ≡ Board }
 {
     let lines = asked.lines.as_str();
-    let read = read_lines(rt, alloc, lines.strip_suffix(", ").unwrap_or(lines));
+    let read = asked.read(rt, alloc);
     let budget = asked.budget.min(MOST_WORDS);
     let answer = judge_recipe(alloc, rom, &read.recipe, budget, asked.window);
     let told = told(alloc, &answer).expect(rt, "memory for a line");
@@ -150,8 +156,8 @@ fn expect_answer(rt: &impl Abort, alloc: Global, rom: &RomImage, asked: &Asked, 
 }
 
 /// Stops the test unless each recipe of a table, over the ROM of these words at 800 to BFF, is told of as its row says.
-pub fn expect_told(rt: &impl Abort, alloc: Global, words: &[Part], table: &str) {
-    let bytes = rom_bytes(words);
+pub fn expect_told(rt: &impl Abort, alloc: Global, words: &str, table: &str) {
+    let bytes = rom_of(rt, alloc, words);
     let rom = RomImage::from_bytes_on(Machine::Board, &bytes, ASTEROIDS).expect(rt, "a ROM");
     let mut asked = Asked::new(alloc);
     for line in table.lines() {
@@ -165,55 +171,25 @@ pub fn expect_told(rt: &impl Abort, alloc: Global, words: &[Part], table: &str) 
 }
 
 /// Shapes of a vector ROM.
-pub const ROM: &[Part] = &[
-    // a dot
-    (0x800, &[0xF070, 0xD000]),
-    // a box, 16 places to the right and up
-    (
-        0x810,
-        &[
-            0x9000, 0x7010, 0x9010, 0x7000, 0x9000, 0x7410, 0x9410, 0x7000, 0xD000,
-        ],
-    ),
-    // a dark move, and a tail jump to the box
-    (0x820, &[0x9000, 0x000A, 0xE810]),
-    // these, one behind the other
-    (0x830, &[0xC800, 0xC820, 0xC810, 0xD000]),
-    // a place at scale 2
-    (0x840, &[0xA200, 0x2200, 0xD000]),
-    // a stroke at scale 1, past the right edge of the screen
-    (0x850, &[0xA014, 0x13E8, 0x8000, 0x7018, 0xD000]),
-    // a stroke in the middle
-    (0x860, &[0xA1F4, 0x01F4, 0x9008, 0x7008, 0xD000]),
-    // a HALT
-    (0x870, &[0xB000]),
-    // a dark move, and a HALT
-    (0x878, &[0x9000, 0x0000, 0xB000]),
-    // a call of itself
-    (0x880, &[0xC880, 0xD000]),
-    // calls, four deep
-    (0x890, &[0xC898, 0xD000]),
-    (0x898, &[0xC8A0, 0xD000]),
-    (0x8A0, &[0xC8A8, 0xD000]),
-    (0x8A8, &[0xC800, 0xD000]),
-    // a dark move to the left
-    (0x8B0, &[0x9000, 0x041E, 0xD000]),
-    // a dot in the corner, and a tail jump to the place at scale 2
-    (0x8B8, &[0xA000, 0x0000, 0xC800, 0xE840]),
-    // a stroke at scale 15, at the corner of the zone
-    (0x8C0, &[0xAC00, 0xFC00, 0xF97A, 0xD000]),
-    // a place at scale 5
-    (0x8D0, &[0xA384, 0x5064, 0xD000]),
-    // 1,020,201 words
-    (0x900, &[0xC970; 100]),
-    (0x964, &[0xD000]),
-    // 10,201 words
-    (0x970, &[0xC9E0; 100]),
-    (0x9D4, &[0xD000]),
-    // 101 words
-    (0x9E0, &[0xF000; 100]),
-    (0xA44, &[0xD000]),
-];
+pub const ROM: &str = "\
+800 F070 D000 ; a dot
+810 9000 7010 9010 7000 9000 7410 9410 7000 D000 ; a box, 16 places to the right and up
+820 9000 000A E810 ; a dark move, and a tail jump to the box
+830 C800 C820 C810 D000 ; these, one behind the other
+840 A200 2200 D000 ; a place at scale 2
+850 A014 13E8 8000 7018 D000 ; a stroke at scale 1, past the right edge of the screen
+860 A1F4 01F4 9008 7008 D000 ; a stroke in the middle
+870 B000 ; a HALT
+878 9000 0000 B000 ; a dark move, and a HALT
+880 C880 D000 ; a call of itself
+890 C898 D000, 898 C8A0 D000, 8A0 C8A8 D000, 8A8 C800 D000 ; calls, four deep
+8B0 9000 041E D000 ; a dark move to the left
+8B8 A000 0000 C800 E840 ; a dot in the corner, and a tail jump to the place at scale 2
+8C0 AC00 FC00 F97A D000 ; a stroke at scale 15, at the corner of the zone
+8D0 A384 5064 D000 ; a place at scale 5
+900 C970*100 D000 ; 1,020,201 words
+970 C9E0*100 D000 ; 10,201 words
+9E0 F000*100 D000 ; 101 words";
 
 /// Places and sizes at edges, intensities and scales.
 const JUDGES_PLACES: &str = "\

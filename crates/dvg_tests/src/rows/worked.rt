@@ -187,6 +187,11 @@ the same of a short draw, behind which the shape runs past the ROM
 rom BFF F000
 refused 20 shape BFF/0 at C00
 
+an odd LABS of a shape
+rom 800 A400
+shape 800 0 end lost box none depth 0 words 1 scale 0
+refused 21 shape 800/0 at 800
+
 a lit stroke after a call that leaves the scale unknown
 rom 806 D000
 shape 806 any end rel 0 0 box none depth 0 words 1 scale any

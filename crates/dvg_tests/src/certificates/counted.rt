@@ -1,93 +1,19 @@
-//! Devices that count their calls and fail once: each counted call is one call of the device, whatever that answers.
+//! Counted calls of devices that fail.
 
+use crate::devices::{Device, Fails, fake};
 use crate::expecting::{expect, expect_same};
 use crate::inputs::{EMPTY, STROKE_CERT};
 use dvg_cert::*;
 use dvg_text::*;
 use std::alloc::Global;
-use std::io;
 use std::io::{Read, Write};
 use std::process::Abort;
-
-/// How a device fails: at one call alone, and it works again after that.
-#[derive(Clone, Copy, Debug, PartialEq, Eq)]
-enum Fails {
-    Never,
-    /// That call answers an error.
-    Error(u32),
-    /// That call gives or takes nothing.
-    Idle(u32),
-}
-
-/// A device that counts its calls, and gives or takes so many bytes a call.
-#[derive(Drop)]
-struct Device {
-    rest: &'static [u8],
-    taken: Vec<u8>,
-    most: usize,
-    fails: Fails,
-    calls: u32,
-    flushes: u32,
-}
-
-/// A device that holds these bytes.
-fn fake(alloc: Global, rest: &'static [u8], most: usize, fails: Fails) -> Device {
-    Device {
-        rest,
-        taken: Vec::new(alloc),
-        most,
-        fails,
-        calls: 0,
-        flushes: 0,
-    }
-}
-
-impl Device {
-    /// Counts a call, and gives how many bytes it may go on with.
-    fn call(&mut self) -> io::Result<usize> {
-        let call = self.calls;
-        self.calls = call.saturating_add(1);
-        match self.fails {
-            Fails::Error(at) if at == call => Err(io::ErrorKind::Interrupted.into()),
-            Fails::Idle(at) if at == call => Ok(0),
-            _ => Ok(self.most),
-        }
-    }
-}
-
-impl Read for Device {
-    fn read(&mut self, buf: &mut [u8]) -> io::Result<usize> {
-        let most = self.call()?;
-        let count = self.rest.len().min(most).min(buf.len());
-        let (front, rest) = self.rest.split_at(count);
-        buf[..count].copy_from_slice(front);
-        self.rest = rest;
-        Ok(count)
-    }
-}
-
-impl Write for Device {
-    fn write(&mut self, buf: &[u8]) -> io::Result<usize> {
-        let most = self.call()?;
-        let count = buf.len().min(most);
-        self.taken.extend_from_slice(&buf[..count])?;
-        Ok(count)
-    }
-
-    fn flush(&mut self) -> io::Result<()> {
-        self.flushes = self.flushes.saturating_add(1);
-        match self.fails {
-            Fails::Error(_) => Err(io::ErrorKind::Interrupted.into()),
-            _ => Ok(()),
-        }
-    }
-}
 
 /// What a call answered, the failures that were counted, and the calls of the device.
 type Told = (Option<usize>, u32, u32);
 
 /// Reads so often by a buffer of four bytes, and tells of the last read.
-fn read_told(alloc: Global, rest: &'static [u8], most: usize, fails: Fails, reads: u32) -> Told {
+fn read_told(alloc: Global, rest: &[u8], most: usize, fails: Fails, reads: u32) -> Told {
     let mut reader = Counted::new(fake(alloc, rest, most, fails));
     let mut buf = [0; 4];
     let mut last = None;
@@ -228,13 +154,19 @@ fn plain_calls_are_the_devices(rt: HostRuntime) {
 /// the device.
 type Sent = (bool, u32, u32);
 
-/// Sends the text without entries to a device that takes so many bytes a write, and gives what it took, too.
-fn send_empty(alloc: Global, most: usize, fails: Fails) -> (Sent, Vec<u8>) {
-    let mut out = Counted::new(fake(alloc, b"", most, fails));
-    let is_sent = write_bytes(EMPTY, &mut out).is_ok();
+/// Stops the test unless a sending to a device ended like this, with just the first `len` bytes of a text taken.
+fn expect_sent(
+    rt: &impl Abort,
+    out: Counted<Device>,
+    is_sent: bool,
+    sent: Sent,
+    (text, len): (&[u8], usize),
+) {
     let failures = CountedWrite::failures(&out);
     let device = out.into_inner();
-    ((is_sent, failures, device.calls), device.taken)
+    expect_same(rt, &(is_sent, failures, device.calls), &sent, &len);
+    let is_prefix = text.get(..len) == Some(device.taken.as_slice());
+    expect(rt, is_prefix, &(sent, len));
 }
 
 /// How many bytes are taken a write, how writes fail, what is told, and how many bytes are taken.
@@ -254,50 +186,39 @@ const SENDINGS: &[(usize, Fails, Sent, usize)] = &[
 #[test]
 fn sends_bytes_once(rt: HostRuntime) {
     for &(most, fails, sent, len) in SENDINGS {
-        let (told, taken) = send_empty(rt.alloc(), most, fails);
-        expect_same(&rt, &told, &sent, &(most, fails));
-        let is_prefix = EMPTY.get(..len) == Some(taken.as_slice());
-        expect(&rt, is_prefix, &(most, fails));
+        let mut out = Counted::new(fake(rt.alloc(), b"", most, fails));
+        let is_sent = write_bytes(EMPTY, &mut out).is_ok();
+        expect_sent(&rt, out, is_sent, sent, (EMPTY, len));
     }
 }
 
-/// Stops the test unless writing a certificate to such a device ends like this, with just the first `len` bytes of its text taken.
+/// Stops the test unless writing a certificate to a device ends like this, with just the first `len` bytes of its text taken.
 fn expect_written(
     rt: &impl Abort,
-    alloc: Global,
-    (cert, text): (&Cert, &[u8]),
-    (most, fails): (usize, Fails),
+    cert: &Cert,
+    device: Device,
     sent: Sent,
-    len: usize,
+    (text, len): (&[u8], usize),
 ) {
-    let mut out = Counted::new(fake(alloc, b"", most, fails));
+    let mut out = Counted::new(device);
     let is_sent = write_cert(cert, &mut out).is_ok();
-    let failures = CountedWrite::failures(&out);
-    let device = out.into_inner();
-    expect_same(
-        rt,
-        &(is_sent, failures, device.calls),
-        &sent,
-        &(most, fails),
-    );
-    let is_prefix = text.get(..len) == Some(device.taken.as_slice());
-    expect(rt, is_prefix, &(most, fails));
+    expect_sent(rt, out, is_sent, sent, (text, len));
 }
 
 /// A certificate of one entry is written byte by byte, up to the one byte that fails.
 #[test]
 fn sends_a_certificate_once(rt: HostRuntime) {
     let cert = read_cert(rt.alloc(), STROKE_CERT).expect(&rt, "a certificate");
-    let written = (&cert, STROKE_CERT);
-    let len = STROKE_CERT.len();
-    for at in 0..=len as u32 {
-        let sent = if at as usize == len {
+    let len = STROKE_CERT.len() as u32;
+    for at in 0..=len {
+        let sent = if at == len {
             (true, 0, at)
         } else {
             (false, 1, at.saturating_add(1))
         };
         for fails in [Fails::Error(at), Fails::Idle(at)] {
-            expect_written(&rt, rt.alloc(), written, (1, fails), sent, at as usize);
+            let device = fake(rt.alloc(), b"", 1, fails);
+            expect_written(&rt, &cert, device, sent, (STROKE_CERT, at as usize));
         }
     }
 }
@@ -342,22 +263,15 @@ fn sends_many_lines_a_write(rt: HostRuntime) {
     let text = text.as_bytes();
     let cert = read_cert(rt.alloc(), text).expect(&rt, "a certificate");
     for &(most, calls) in WHOLE_WRITES {
-        let device = (most, Fails::Never);
-        expect_written(
-            &rt,
-            rt.alloc(),
-            (&cert, text),
-            device,
-            (true, 0, calls),
-            text.len(),
-        );
+        let device = fake(rt.alloc(), b"", most, Fails::Never);
+        expect_written(&rt, &cert, device, (true, 0, calls), (text, text.len()));
     }
     for at in 0..61u32 {
         let lines = if at == 0 { 0 } else { 68 * at as usize + 1 };
         let len = heading(text, lines);
         for fails in [Fails::Error(at), Fails::Idle(at)] {
-            let sent = (false, 1, at + 1);
-            expect_written(&rt, rt.alloc(), (&cert, text), (4096, fails), sent, len);
+            let device = fake(rt.alloc(), b"", 4096, fails);
+            expect_written(&rt, &cert, device, (false, 1, at + 1), (text, len));
         }
     }
 }
