@@ -5,7 +5,7 @@ use crate::options::CommandOption::{
     Print, Records, Remarks, Start, Summary, Window, Within,
 };
 use crate::options::{CommandOption, Known, Subject};
-use clap::{Arg, Command, arg, value_parser};
+use clap::{Arg, Command, value_parser};
 use std::alloc::{AllocError, Global};
 
 /// What `--version` says behind the program's name: its version, and the logic with which it is proved.
@@ -171,7 +171,8 @@ const EXPLAIN_HELP: &str =
 impl Argument {
     /// The argument as `clap` takes it.
     fn arg<'a>(self, alloc: Global) -> Result<Arg<'a>, AllocError> {
-        let arg = self.text(alloc);
+        let (name, help) = self.text();
+        let arg = Arg::new(alloc, name).help(help);
         match self {
             Argument::RomOfRecipes => arg.required_unless_present("print"),
             Argument::Recipes => arg.num_args(1..).required_unless_present("print"),
@@ -188,24 +189,37 @@ impl Argument {
     }
 
     /// Its name, and what the help says of it.
-    fn text<'a>(self, alloc: Global) -> Arg<'a> {
+    fn text(self) -> (&'static str, &'static str) {
         match self {
-            Argument::Rom | Argument::RomOfRecipes => arg!(in alloc; [ROM]
-                "The vector ROM: two bytes for each of its words, low byte first"),
-            Argument::Certificate => arg!(in alloc; [CERT] "The certificate of the ROM's shapes"),
-            Argument::OneFrame | Argument::Frames | Argument::ManyFrames => arg!(in alloc; [FRAME]
-                "The frame: 2 to 2048 bytes of vector RAM, from word 000 on"),
-            Argument::OneRecipe | Argument::Recipes | Argument::ManyRecipes =>
-                arg!(in alloc; [RECIPE]
-                "The recipe: a text that says what frames a game builds"),
-            Argument::OtherRom => arg!(in alloc; [OTHER]
-                "The ROM with which it is compared, at the same addresses"),
-            Argument::Dump => arg!(in alloc; [OTHER]
-                "The dump that is compared with it, of 1 to 4096 bytes"),
-            Argument::Roots => arg!(in alloc; [ROOT]
-                "A shape that a program calls: its address, a slash, and a scale of 0 to 15 or any, as 800/0"),
-            Argument::Number => arg!(in alloc; [NN]
-                "A number: prints its line, its shortest input and what to do, too"),
+            Argument::Rom | Argument::RomOfRecipes => (
+                "ROM",
+                "The vector ROM: two bytes for each of its words, low byte first",
+            ),
+            Argument::Certificate => ("CERT", "The certificate of the ROM's shapes"),
+            Argument::OneFrame | Argument::Frames | Argument::ManyFrames => (
+                "FRAME",
+                "The frame: 2 to 2048 bytes of vector RAM, from word 000 on",
+            ),
+            Argument::OneRecipe | Argument::Recipes | Argument::ManyRecipes => (
+                "RECIPE",
+                "The recipe: a text that says what frames a game builds",
+            ),
+            Argument::OtherRom => (
+                "OTHER",
+                "The ROM with which it is compared, at the same addresses",
+            ),
+            Argument::Dump => (
+                "OTHER",
+                "The dump that is compared with it, of 1 to 4096 bytes",
+            ),
+            Argument::Roots => (
+                "ROOT",
+                "A shape that a program calls: its address, a slash, and a scale of 0 to 15 or any, as 800/0",
+            ),
+            Argument::Number => (
+                "NN",
+                "A number: prints its line, its shortest input and what to do, too",
+            ),
         }
     }
 }
