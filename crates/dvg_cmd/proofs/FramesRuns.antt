@@ -147,7 +147,8 @@ module _ (machine : Machine) (rom : Option (List ℕ)) (map : MemoryMap) (roots 
       )
 
   pub roots_written : (r : Result (Unit {0}) MakeRunFault) (old new : Option (List ℕ))
-      → OnOk r (WritesMade (MakesForFrames machine rom map roots []) map old new) → OnOk r (WritesMade (Makes machine rom map roots) map old new)
+      → OnOk r (WritesMade (MakesForFrames machine rom map roots []) map old new)
+      → OnOk r (WritesMade (Makes machine rom map roots) map old new)
   roots_written (Ok u) old new h = record { list = h.list; made = roots_made h.list h.made; written = h.written }
   roots_written (Err f) old new h = tt
 
