@@ -147,7 +147,8 @@ module _ (machine : Machine) (rom : Option (List ℕ)) (map : MemoryMap) (roots 
       )
 
   pub roots_written : (r : Result (Unit {0}) MakeRunFault) (old new : Option (List ℕ))
-      → OnOk r (WritesMade (MakesForFrames machine rom map roots []) map old new) → OnOk r (WritesMade (Makes machine rom map roots) map old new)
+      → OnOk r (WritesMade (MakesForFrames machine rom map roots []) map old new)
+      → OnOk r (WritesMade (Makes machine rom map roots) map old new)
   roots_written (Ok u) old new h = record { list = h.list; made = roots_made h.list h.made; written = h.written }
   roots_written (Err f) old new h = tt
 
@@ -170,17 +171,17 @@ module _ (machine : Machine) (rom : Option (List ℕ)) (map : MemoryMap) (roots 
   none_failed (first ∷ before) after count is = grind (arith)
 
   fault_of_roots : (f : MakeRunFault) → FramesFaultMeans machine rom map roots [] f
-      → FailedAfter (blames_a_frame {A = Unit {0}} (Err f)) [] [] → MakeFaultMeans machine rom map roots f
-  fault_of_roots fault.RomLength h failed = h
-  fault_of_roots fault.ReadRom h failed = tt
-  fault_of_roots fault.Write h failed = tt
-  fault_of_roots (fault.Make making.Memory) h failed = roots_refused entry.Memory h
-  fault_of_roots (fault.Make f) h failed = subst (λ f. MakeFaultMeans machine rom map roots (fault.Make f)) h.1 (roots_refused h.0 h.2)
-  fault_of_roots (fault.FrameLength n) h failed = none_wrong h.frame_bytes n h.frames_held h.wrong
-  fault_of_roots (fault.Call call why) h failed = grind (arith)
-  fault_of_roots fault.ReadFrame h failed = none_failed failed.before failed.after failed.count failed.old_is
+      → (news : List ℕ) → FailedAfter (blames_a_frame {A = Unit {0}} (Err f)) [] news → MakeFaultMeans machine rom map roots f
+  fault_of_roots fault.RomLength h news failed = h
+  fault_of_roots fault.ReadRom h news failed = tt
+  fault_of_roots fault.Write h news failed = tt
+  fault_of_roots (fault.Make making.Memory) h news failed = roots_refused entry.Memory h
+  fault_of_roots (fault.Make f) h news failed = subst (λ f. MakeFaultMeans machine rom map roots (fault.Make f)) h.1 (roots_refused h.0 h.2)
+  fault_of_roots (fault.FrameLength n) h news failed = none_wrong h.frame_bytes n h.frames_held h.wrong
+  fault_of_roots (fault.Call call why) h news failed = grind (arith)
+  fault_of_roots fault.ReadFrame h news failed = none_failed failed.before failed.after failed.count failed.old_is
 
   pub roots_fault : (r : Result (Unit {0}) MakeRunFault) → IfErr r (FramesFaultMeans machine rom map roots [])
-      → FailedAfter (blames_a_frame r) [] [] → IfErr r (MakeFaultMeans machine rom map roots)
-  roots_fault (Ok u) h failed = tt
-  roots_fault (Err f) h failed = fault_of_roots f h failed
+      → (news : List ℕ) → FailedAfter (blames_a_frame r) [] news → IfErr r (MakeFaultMeans machine rom map roots)
+  roots_fault (Ok u) h news failed = tt
+  roots_fault (Err f) h news failed = fault_of_roots f h news failed

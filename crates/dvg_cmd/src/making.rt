@@ -20,7 +20,7 @@ use std::alloc::Global;
 /// The ROM lies where the map says. It is read to its end, or to one byte past 4096, the length of the longest one. The first
 /// failed read or write ends the run, and nothing is tried again. On 1, 60 to 63 and 70 nothing was written, on 73 a prefix of
 /// the certificate.
-#[tactic(auto, using(crate::proofs::FramesRuns::roots_written, crate::proofs::FramesRuns::roots_cut, crate::proofs::FramesRuns::roots_fault))]
+#[tactic(auto, using(crate::proofs::FramesRuns::roots_written, crate::proofs::FramesRuns::roots_cut))]
 pub fn run_make<R: CountedRead, W: CountedWrite>(
     alloc: Global,
     rom: &mut R,

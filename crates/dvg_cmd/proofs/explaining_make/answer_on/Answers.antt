@@ -4,7 +4,8 @@ use Rattle.dvg_cmd.proofs.FramesRuns.{frames_made, frames_refused}
 use Rattle.dvg_cmd.proofs.explaining_make.answer_on.Goals as goal
 
 pub returns-in-Err-clause-refused : goal.returns-in-Err-clause-refused
-returns-in-Err-clause-refused c = λ held readers read. (rw c.unasked.ensures.made (c.in-Err.ensures.refused held readers read c.args.roots.now))
+returns-in-Err-clause-refused c =
+    λ held readers read. (rw c.unasked.ensures.made (c.in-Err.ensures.refused held readers read c.args.roots.now))
 
 pub returns-in-Ok-explain_making-clause-made : goal.returns-in-Ok-explain_making-clause-made
 returns-in-Ok-explain_making-clause-made c =
