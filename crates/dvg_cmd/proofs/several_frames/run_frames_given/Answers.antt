@@ -1,4 +1,5 @@
-use Rattle.dvg_cmd.proofs.Common.{rules, arith, common_steps}
+use Rattle.dvg_cmd.proofs.Common.{rules}
+use Rattle.dvg_cmd.proofs.Reporting.{refusal_reported}
 use Rattle.dvg_cmd.proofs.several_frames.run_frames_given.Goals as goal
 
 pub run_frames-requires-clause-valid : goal.run_frames-requires-clause-valid
@@ -14,4 +15,4 @@ pub returns-in-Ok-find_shape_fault-clause-prefix : goal.returns-in-Ok-find_shape
 returns-in-Ok-find_shape_fault-clause-prefix g c = search rules
 
 pub returns-in-Err-clause-refused : goal.returns-in-Err-clause-refused
-returns-in-Err-clause-refused g c = grind (arith, common_steps)
+returns-in-Err-clause-refused g c = search (refusal_reported, rules)
