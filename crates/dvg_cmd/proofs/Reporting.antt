@@ -1,9 +1,10 @@
 -- The verdict on what was read is the one on all, and what is reported of it, over plain values.
-use Rattle.dvg_cmd.proofs.Common.{Option, List, [], None, Some, subst, ◌≡◌, ℕ, Result, IfOk, IfSome, Ok, Err, Machine, words_of, rom_on, Window, Certificate, CertFault, Means, InRange, RomVerdict, Mode, Refusal, Yes, IsPrefix, Judges, ReadsText, arith, Memory, Spells, PrefixRefusal, RangeRefusal, JudgesRom, MeansRead, ◌++◌, OnOk, Appends, TakesOneWrite, Detail, Behind, IsBehind, RunFault, behind_text, outcome_behind, Outcome, Accepted, IsReadFor, outcome_of, Reports, ReportsAccepted}
+use Rattle.dvg_cmd.proofs.Common.{IfErr, sym, ap, Option, List, [], None, Some, subst, ◌≡◌, ℕ, Result, IfOk, IfSome, Ok, Err, Machine, words_of, rom_on, Window, Certificate, CertFault, Means, InRange, RomVerdict, Mode, Refusal, Yes, IsPrefix, Judges, ReadsText, arith, Memory, Spells, PrefixRefusal, RangeRefusal, JudgesRom, MeansRead, ◌++◌, OnOk, Appends, TakesOneWrite, Detail, Behind, IsBehind, RunFault, behind_text, outcome_behind, Outcome, Accepted, IsReadFor, outcome_of, Reports, ReportsAccepted}
 use Rattle.dvg_verdict.proofs.OneVerdict.{out_of_range}
 use Rattle.dvg_verdict.specs.Verdict.{CertVerdict, VerdictOn}
 use Rattle.dvg_cmd.proofs.Whole.{held_bytes, held_told, text_of_held, in_range, range_whole, frame_same, rom_same, rom_back, rom_whole, refused_whole}
 use Rattle.dvg_spelling.specs.Report.{report_text}
+use Rattle.dvg_cmd.specs.SeveralFrames.{ReportsRefusal}
 use Rattle.dvg_check.specs.declared.verdict.Refusal.TheVariants as refusal
 
 -- what the ROM and the frame come to by the certificate is the verdict
@@ -103,3 +104,18 @@ module _ (detail : Detail) (what : Behind) (asked : IsBehind detail what) (v : R
       let accepted : outcome_behind what (outcome_of v) ≡ Accepted = cc in
       let a = accepted_verdict what v accepted in
       search (a.0, what, asked, subst (λ x. Appends old new (report_text x ++ behind_text what)) a.1 text, subst (λ x. IfOk x P) a.1 holds)
+
+-- the report of a certificate's text that is refused
+pub refusal_reported : (machine : Machine) (detail : Detail) (w : Window) (rom : List ℕ) (cert : Result Certificate CertFault)
+    (f g : CertFault) → cert ≡ Err f → g ≡ f → (what : Behind) → IsBehind detail what → (r : Result Outcome RunFault)
+    (old new : Option (List ℕ)) (writes writes_after : ℕ) → IfOk r (λ end. end ≡ outcome_behind what (outcome_of (Err (refusal.Cert g))))
+    → OnOk r (Appends old new (report_text (Err (refusal.Cert g)) ++ behind_text what))
+    → OnOk r (TakesOneWrite (report_text (Err (refusal.Cert g)) ++ behind_text what) writes writes_after)
+    → IfOk r (λ end. IfErr cert (λ fault. ReportsRefusal machine detail w rom cert old new writes writes_after end))
+refusal_reported machine detail w rom cert f g is same what asked (Err e) old new writes writes_after outcome text one = tt
+refusal_reported machine detail w rom cert f g is same what asked (Ok end) old new writes writes_after outcome text one =
+    subst (λ c. IfErr c (λ fault. ReportsRefusal machine detail w rom c old new writes writes_after end)) (sym is) (record {
+      refused = refusal.Cert g;
+      refuses = ap (λ x. refusal.Cert x) same;
+      report = record { behind = what; asked = asked; written = text; one_write = one; outcome_is = outcome };
+    })
