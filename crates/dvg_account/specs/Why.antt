@@ -1,5 +1,5 @@
--- What the sentence of a refusal tells of its cause: its numbers, addresses and places, in their order; its words are only tested. All of it is
--- this project's own.
+-- What the sentence of a refusal tells of its cause: its numbers, addresses and places, in their order; its words are only tested. All of
+-- it is this project's own.
 use Rattle.std.specs.Prelude.{ℕ, ◌+◌, ◌-◌, ◌%◌, nat_lt, if◌then◌else◌, List, [], ◌∷◌, ◌++◌, length, Option, Some, None}
 use Rattle.dvg_words.specs.declared.machine.Machine.{Machine}
 use Rattle.dvg_words.specs.Values.{Source}
