@@ -60,7 +60,7 @@ refusal_text (refusal.Frame f) = frame_fault_text f
 -- the counts of what is accepted: how many entries, words and return places
 abbrev pub counts_text : ℕ → ℕ → ℕ → List ℕ
 counts_text shapes words depth =
-  codes "accepted shapes=" ++ decimal shapes ++ codes " words=" ++ decimal words ++ codes " depth=" ++ decimal depth
+    codes "accepted shapes=" ++ decimal shapes ++ codes " words=" ++ decimal words ++ codes " depth=" ++ decimal depth
 
 -- an accepted frame
 abbrev pub accepted_text : Yes → List ℕ
