@@ -1,7 +1,7 @@
 //! The options of the subcommands.
 
 use crate::form::Form;
-use clap::{Arg, arg, value_parser};
+use clap::{Arg, Command, arg, value_parser};
 use dvg_cmd::MOST_WORDS;
 use std::alloc::{AllocError, Global};
 
@@ -163,15 +163,36 @@ pub enum Known<'w> {
 }
 
 impl<'w> Known<'w> {
+    /// The command with those of these options of a subcommand about this that `clap` knows.
+    pub fn with<'a>(
+        self,
+        alloc: Global,
+        subject: Subject,
+        command: Command<'a>,
+        options: &[CommandOption],
+    ) -> Result<Command<'a>, AllocError> {
+        if self.has_none() {
+            return Ok(command);
+        }
+        let mut command = command;
+        for option in options {
+            let arg = option.arg(alloc, subject)?;
+            if self.includes(&arg) {
+                command = command.arg(arg)?;
+            }
+        }
+        Ok(command)
+    }
+
     /// Whether it is none, whatever the options are.
-    pub fn has_none(self) -> bool {
+    fn has_none(self) -> bool {
         match self {
             Known::All => false,
             Known::NamedBy(words) => !words.iter().any(|word| word.as_str().starts_with('-')),
         }
     }
 
-    pub fn includes<'a>(self, option: &Arg<'a>) -> bool {
+    fn includes<'a>(self, option: &Arg<'a>) -> bool {
         match (self, option.get_long()) {
             (Known::NamedBy(words), Some(name)) => {
                 let others = requiring(name);

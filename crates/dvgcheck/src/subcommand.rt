@@ -168,6 +168,26 @@ frame is the word `B000`; words of a ROM stand from 800 on, with zeros around th
 const EXPLAIN_HELP: &str =
     "The first line and the exit status are those of the command; of diff the line counts what differs, and the status is 1 if anything does";
 
+/// An argument that a list of names may replace.
+fn or_listed<'a>(frames: Arg<'a>) -> Result<Arg<'a>, AllocError> {
+    frames
+        .required_unless_present("list")?
+        .conflicts_with("list")
+}
+
+/// A command with these arguments.
+fn with_arguments<'a>(
+    alloc: Global,
+    command: Command<'a>,
+    arguments: &[Argument],
+) -> Result<Command<'a>, AllocError> {
+    let mut command = command;
+    for argument in arguments {
+        command = command.arg(argument.arg(alloc)?)?;
+    }
+    Ok(command)
+}
+
 impl Argument {
     /// The argument as `clap` takes it.
     fn arg<'a>(self, alloc: Global) -> Result<Arg<'a>, AllocError> {
@@ -176,11 +196,7 @@ impl Argument {
         match self {
             Argument::RomOfRecipes => arg.required_unless_present("print"),
             Argument::Recipes => arg.num_args(1..).required_unless_present("print"),
-            Argument::Frames => {
-                arg.num_args(1..)
-                    .required_unless_present("list")?
-                    .conflicts_with("list")
-            }
+            Argument::Frames => or_listed(arg.num_args(1..)),
             Argument::ManyFrames | Argument::ManyRecipes => Ok(arg.num_args(1..).required(true)),
             Argument::Roots => Ok(arg.num_args(1..)),
             Argument::Number => Ok(arg.value_parser(value_parser!(u8))),
@@ -293,22 +309,11 @@ impl Task {
             Task::Rules => (Subject::Frames, SHORTEST_HELP),
             _ => (Subject::Frames, INPUT_HELP),
         };
-        let mut command = Command::new(alloc, self.name())
+        let command = Command::new(alloc, self.name())
             .about(syntax.about)
             .after_help(after_help);
-        for argument in syntax.arguments {
-            command = command.arg(argument.arg(alloc)?)?;
-        }
-        if known.has_none() {
-            return Ok(command);
-        }
-        for option in syntax.options {
-            let arg = option.arg(alloc, subject)?;
-            if known.includes(&arg) {
-                command = command.arg(arg)?;
-            }
-        }
-        Ok(command)
+        let command = with_arguments(alloc, command, syntax.arguments)?;
+        known.with(alloc, subject, command, syntax.options)
     }
 
     /// Its command as it is parsed alone, where these words stand behind its name: without its help, and without the options that none of
