@@ -54,13 +54,13 @@ enum Argument {
 
 /// What the help says of a subcommand, and what it takes.
 #[derive(Clone, Copy)]
-struct Syntax {
-    about: &'static str,
-    arguments: &'static [Argument],
-    options: &'static [CommandOption],
+struct Syntax<'a> {
+    about: &'a str,
+    arguments: &'a [Argument],
+    options: &'a [CommandOption],
 }
 
-const FRAMES: Syntax = Syntax {
+const FRAMES: Syntax<'static> = Syntax {
     about: "Judges frames over a vector ROM, each by a certificate made for it, and prints a line for each",
     arguments: &[Argument::Rom, Argument::Frames],
     options: &[
@@ -69,7 +69,7 @@ const FRAMES: Syntax = Syntax {
     ],
 };
 
-const EXPLAIN_FRAMES: Syntax = Syntax {
+const EXPLAIN_FRAMES: Syntax<'static> = Syntax {
     about: "Judges frames over a vector ROM, by certificates made for them, and explains each answer",
     arguments: &[Argument::Rom, Argument::Frames],
     options: &[
@@ -81,49 +81,49 @@ const EXPLAIN_FRAMES: Syntax = Syntax {
 const CHECK_ABOUT: &str =
     "Judges a frame over a vector ROM and its certificate, and prints the report";
 
-const CHECK: Syntax = Syntax {
+const CHECK: Syntax<'static> = Syntax {
     about: CHECK_ABOUT,
     arguments: &[Argument::Rom, Argument::Certificate, Argument::OneFrame],
     options: &[Board, Budget, Window, Clip, Exact],
 };
 
-const EXPLAIN_CHECK: Syntax = Syntax {
+const EXPLAIN_CHECK: Syntax<'static> = Syntax {
     about: CHECK_ABOUT,
     arguments: &[Argument::Rom, Argument::Certificate, Argument::OneFrame],
     options: &[Board, Budget, Window, Clip, Exact, Labels],
 };
 
-const MAKE: Syntax = Syntax {
+const MAKE: Syntax<'static> = Syntax {
     about: "Prints the certificate of shapes of a vector ROM, and of all that they call",
     arguments: &[Argument::Rom, Argument::Roots],
     options: &[Board, Frame, Map, Labels, Output],
 };
 
-const EXPLAIN_MAKE: Syntax = Syntax {
+const EXPLAIN_MAKE: Syntax<'static> = Syntax {
     about: "Explains what certificate is made of shapes of a vector ROM, or why none, and writes none",
     arguments: &[Argument::Rom, Argument::Roots],
     options: &[Board, Frame, Map, Labels],
 };
 
-const PLACES: Syntax = Syntax {
+const PLACES: Syntax<'static> = Syntax {
     about: "Prints where calls of shapes of a vector ROM, and of all that they call, stay within the window",
     arguments: &[Argument::Rom, Argument::Roots],
     options: &[Board, Frame, Map, Labels, Window, Clip],
 };
 
-const DIFF: Syntax = Syntax {
+const DIFF: Syntax<'static> = Syntax {
     about: "Prints which shapes of a vector ROM, and which frames, read words that differ in another ROM",
     arguments: &[Argument::Rom, Argument::OtherRom, Argument::Roots],
     options: &[Board, Frame, Map, Labels],
 };
 
-const EXPLAIN_DIFF: Syntax = Syntax {
+const EXPLAIN_DIFF: Syntax<'static> = Syntax {
     about: "Tells how another dump differs from a vector ROM, and which single faults would turn the ROM into it",
     arguments: &[Argument::Rom, Argument::Dump],
     options: &[Map, Labels],
 };
 
-const RECIPE: Syntax = Syntax {
+const RECIPE: Syntax<'static> = Syntax {
     about: "Judges all frames that recipes allow over a vector ROM on a board, and prints a line for each recipe",
     arguments: &[Argument::RomOfRecipes, Argument::Recipes],
     options: &[
@@ -131,25 +131,25 @@ const RECIPE: Syntax = Syntax {
     ],
 };
 
-const EXPLAIN_RECIPE: Syntax = Syntax {
+const EXPLAIN_RECIPE: Syntax<'static> = Syntax {
     about: "Judges all frames that recipes allow, and tells the room in the lists and what is known before each line, or of a frame that is refused",
     arguments: &[Argument::Rom, Argument::ManyRecipes],
     options: &[Board, Map, Budget, Window, Clip, Labels],
 };
 
-const BELONGS: Syntax = Syntax {
+const BELONGS: Syntax<'static> = Syntax {
     about: "Tells which frames are among those that a recipe allows, and prints a line for each",
     arguments: &[Argument::Rom, Argument::OneRecipe, Argument::Frames],
     options: &[Board, Map, Labels, Records, List, Null, OnlyBad, Summary],
 };
 
-const EXPLAIN_BELONGS: Syntax = Syntax {
+const EXPLAIN_BELONGS: Syntax<'static> = Syntax {
     about: "Tells which frames are among those that a recipe allows, and of another where it leaves the recipe, and which lines could stand there",
     arguments: &[Argument::Rom, Argument::OneRecipe, Argument::ManyFrames],
     options: &[Board, Map, Labels, Records],
 };
 
-const RULES: Syntax = Syntax {
+const RULES: Syntax<'static> = Syntax {
     about: "Prints what each number in an answer means",
     arguments: &[Argument::Number],
     options: &[],
@@ -168,13 +168,6 @@ frame is the word `B000`; words of a ROM stand from 800 on, with zeros around th
 const EXPLAIN_HELP: &str =
     "The first line and the exit status are those of the command; of diff the line counts what differs, and the status is 1 if anything does";
 
-/// An argument that a list of names may replace.
-fn or_listed<'a>(frames: Arg<'a>) -> Result<Arg<'a>, AllocError> {
-    frames
-        .required_unless_present("list")?
-        .conflicts_with("list")
-}
-
 /// A command with these arguments.
 fn with_arguments<'a>(
     alloc: Global,
@@ -188,15 +181,40 @@ fn with_arguments<'a>(
     Ok(command)
 }
 
+/// An argument of this name, with what the help says of it.
+fn argument_named<'a>(alloc: Global, name: &'a str, help: &'a str) -> Arg<'a> {
+    Arg::new(alloc, name).help(help)
+}
+
+/// A command of this name, with what the help says before and after its arguments.
+fn command_named<'a>(
+    alloc: Global,
+    name: &'a str,
+    about: &'a str,
+    after_help: &'a str,
+) -> Command<'a> {
+    Command::new(alloc, name)
+        .about(about)
+        .after_help(after_help)
+}
+
 impl Argument {
     /// The argument as `clap` takes it.
     fn arg<'a>(self, alloc: Global) -> Result<Arg<'a>, AllocError> {
         let (name, help) = self.text();
-        let arg = Arg::new(alloc, name).help(help);
+        self.bounded(argument_named(alloc, name, help))
+    }
+
+    /// With how many values it has, and when it is required.
+    fn bounded<'a>(self, arg: Arg<'a>) -> Result<Arg<'a>, AllocError> {
         match self {
             Argument::RomOfRecipes => arg.required_unless_present("print"),
             Argument::Recipes => arg.num_args(1..).required_unless_present("print"),
-            Argument::Frames => or_listed(arg.num_args(1..)),
+            Argument::Frames => {
+                arg.num_args(1..)
+                    .required_unless_present("list")?
+                    .conflicts_with("list")
+            }
             Argument::ManyFrames | Argument::ManyRecipes => Ok(arg.num_args(1..).required(true)),
             Argument::Roots => Ok(arg.num_args(1..)),
             Argument::Number => Ok(arg.value_parser(value_parser!(u8))),
@@ -205,7 +223,7 @@ impl Argument {
     }
 
     /// Its name, and what the help says of it.
-    fn text(self) -> (&'static str, &'static str) {
+    fn text<'a>(self) -> (&'a str, &'a str) {
         match self {
             Argument::Rom | Argument::RomOfRecipes => (
                 "ROM",
@@ -263,7 +281,7 @@ impl Task {
         Task::Recipe,
     ];
 
-    fn name(self) -> &'static str {
+    fn name<'a>(self) -> &'a str {
         match self {
             Task::Frames => "frames",
             Task::Check => "check",
@@ -276,8 +294,24 @@ impl Task {
         }
     }
 
+    /// What it is about.
+    fn subject(self) -> Subject {
+        match self {
+            Task::Recipe | Task::Belongs => Subject::Recipes,
+            _ => Subject::Frames,
+        }
+    }
+
+    /// What the help says behind its arguments and options.
+    fn after_help<'a>(self) -> &'a str {
+        match self {
+            Task::Rules => SHORTEST_HELP,
+            _ => INPUT_HELP,
+        }
+    }
+
     /// What it takes; `explain` changes nothing of the tasks that can't be explained.
-    fn syntax(self, verb: Verb) -> Syntax {
+    fn syntax<'a>(self, verb: Verb) -> Syntax<'a> {
         match (self, verb) {
             (Task::Frames, Verb::Print) => FRAMES,
             (Task::Frames, Verb::Explain) => EXPLAIN_FRAMES,
@@ -304,16 +338,9 @@ impl Task {
         known: Known,
     ) -> Result<Command<'a>, AllocError> {
         let syntax = self.syntax(verb);
-        let (subject, after_help) = match self {
-            Task::Recipe | Task::Belongs => (Subject::Recipes, INPUT_HELP),
-            Task::Rules => (Subject::Frames, SHORTEST_HELP),
-            _ => (Subject::Frames, INPUT_HELP),
-        };
-        let command = Command::new(alloc, self.name())
-            .about(syntax.about)
-            .after_help(after_help);
+        let command = command_named(alloc, self.name(), syntax.about, self.after_help());
         let command = with_arguments(alloc, command, syntax.arguments)?;
-        known.with(alloc, subject, command, syntax.options)
+        known.with(alloc, self.subject(), command, syntax.options)
     }
 
     /// Its command as it is parsed alone, where these words stand behind its name: without its help, and without the options that none of
