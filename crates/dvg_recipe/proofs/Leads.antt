@@ -16,7 +16,7 @@ use Rattle.dvg_items.specs.Seen.{HasCallee}
 use Rattle.dvg_make.specs.Made.{HasEntry}
 use Rattle.dvg_check.proofs.Common.{listed_at}
 use Rattle.dvg_recipe.proofs.Past.{keeps_others, inside_past, more_near_places}
-use Rattle.dvg_recipe.proofs.Sounds.{listed_alone, none_covered}
+use Rattle.dvg_recipe.proofs.Sounds.{listed_alone, next_listed, none_covered}
 
 pub near_most : (h : Hull) → IsSoundHull h → AreNearPlaces MOST_WORDS h.places
 near_most h sound = more_near_places h.words MOST_WORDS h.places sound.words sound.places
@@ -84,19 +84,17 @@ module _ (w : Window) (list : List Entry) (budget : ℕ) (P : Known → Item →
   lead_none here next = record { each = λ k i c p format. absurd (none_covered k c) }
 
   pub lead_next : (here : List Hull) (i n : ℕ) (d : Hull) (change : Change) (next more : List Hull) → n ≡ suc i → i < length here
-      → LeadOn w list budget P (take i here) next → AreUnder next more
+      → d ≡ get_or here i d → LeadOn w list budget P (take i here) next → AreUnder next more
       → ((k : Known) (j : Item) → P k j → HasFormat j.format j.instr
-      → IsChange (callee_at list (target Frame j.instr) (get_or here i d).scale) (get_or here i d).scale change j
-      × IsInto change.into k j) → HullKeeps w budget (get_or here i d) change → AreUnder (hull_past change (get_or here i d) ∷ []) more
-      → LeadOn w list budget P (take n here) more
-  lead_next here i n d change next more is lt h under does keeps added = record {
+      → IsChange (callee_at list (target Frame j.instr) d.scale) d.scale change j × IsInto change.into k j)
+      → HullKeeps w budget d change → AreUnder (hull_past change d ∷ []) more → LeadOn w list budget P (take n here) more
+  lead_next here i n d change next more is lt at h under does keeps added = record {
     each = λ k j c p format. ⊎_elim
         (λ old. goes_under next more k j under (h.each k j (record { hull = c.hull; listed = old; inside = c.inside }) p format))
         (λ last. let does_so = does k j p format in
-        goes (get_or here i d) change more k j does_so.0 does_so.1 keeps added
-        (subst (λ (x : Hull). IsInHull x k) (sym (listed_alone (get_or here i d) c.hull last)) c.inside))
-        (Contains-append_cases (take i here) (get_or here i d ∷ []) c.hull
-        (subst (λ (l : List Hull). Contains l c.hull) (take-suc here i d lt) (subst (λ m. Contains (take m here) c.hull) is c.listed)));
+        goes d change more k j does_so.0 does_so.1 keeps added
+        (subst (λ (x : Hull). IsInHull x k) (sym (listed_alone d c.hull last)) c.inside))
+        (Contains-append_cases (take i here) (d ∷ []) c.hull (next_listed here i n d c.hull is lt at c.listed));
   }
 
   pub lead_more : (here next more : List Hull) → AreUnder next more → LeadOn w list budget P here next → LeadOn w list budget P here more

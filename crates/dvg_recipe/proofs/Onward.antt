@@ -1,5 +1,6 @@
 -- What leads on over the parts, the jumps and the lists of a recipe.
 use Rattle.std.proofs.Common.{Box, Global, Vec, ◌-◌}
+use Rattle.dvg_recipe.proofs.Sounds.{next_listed}
 use Rattle.dvg_recipe.proofs.Common.{◌≡◌, ◌⊎◌, ◌≤◌, ◌<◌, ℕ, zero, suc, List, [], ◌∷◌, length, take, get_or, take-suc, take_all, refl, sym, subst, ⊎_elim, arith, Contains, Contains-append_cases}
 use Rattle.dvg_check.proofs.Common.{Window, Entry, Item, ◌≢◌}
 use Rattle.dvg_recipe.specs.Limits.{PartFits, RowFits, JumpsFit, MOST_LEVELS, MOST_NESTED}
@@ -152,14 +153,13 @@ only_hull : (a b : Hull) → Contains (a ∷ []) b → a ≡ b
 only_hull a b (zero, lt, is) = is
 only_hull a b (suc k, lt, is) = absurd (omega (arith, lt))
 
-pub counts_next : (here : List Hull) (i n : ℕ) (d : Hull) (words depth more deeper : ℕ) → n ≡ suc i → i < length here → words ≤ more
-    → depth ≤ deeper → IsCounted more deeper (get_or here i d)
+pub counts_next : (here : List Hull) (i n : ℕ) (d : Hull) (words depth more deeper : ℕ) → n ≡ suc i → i < length here → d ≡ get_or here i d
+    → words ≤ more → depth ≤ deeper → IsCounted more deeper d
     → ((h : Hull) → Contains (take i here) h → IsCounted words depth h) → (h : Hull) → Contains (take n here) h → IsCounted more deeper h
-counts_next here i n d words depth more deeper is lt le deep new old h there =
+counts_next here i n d words depth more deeper is lt at le deep new old h there =
     ⊎_elim (λ c. let e = old h c in record { count = omega (arith, e.count, le); shallow = omega (arith, e.shallow, deep) })
-    (λ last. subst (IsCounted more deeper) (only_hull (get_or here i d) h last) new)
-    (Contains-append_cases (take i here) (get_or here i d ∷ []) h
-    (subst (λ (l : List Hull). Contains l h) (take-suc here i d lt) (subst (λ m. Contains (take m here) h) is there)))
+    (λ last. subst (IsCounted more deeper) (only_hull d h last) new)
+    (Contains-append_cases (take i here) (d ∷ []) h (next_listed here i n d h is lt at there))
 
 -- ---- the parts of a recipe
 

@@ -3,11 +3,11 @@ use Rattle.dvg_recipe.proofs.Common.{◌≡◌, ◌<◌, ◌+◌, ◌⊎◌, ◌
 use Rattle.std.proofs.lemmas.List.{length-set, get_or-set_same, get_or-set_other}
 use Rattle.std.proofs.Common.{set, ◌≤◌, slice_index_or, Vec, Global, option_to_list}
 use Rattle.dvg_check.proofs.Common.{Known, ◌≢◌}
-use Rattle.dvg_recipe.specs.Private.Hulls.{Hull, Covers, AreUnder, IsInHull, AreSoundHulls, IsSoundHull, HasScaleAt, joined, AreSoundFronts}
+use Rattle.dvg_recipe.specs.Private.Hulls.{Hull, Covers, AreUnder, IsInHull, HasScaleAt, joined}
 use Rattle.dvg_recipe.specs.Limits.{PieceFits, RowFits}
 use Rattle.dvg_recipe.specs.Recipes.{Piece, Jump}
 use Rattle.dvg_recipe.specs.Private.Judging.{IsWithin, AreWithin}
-use Rattle.dvg_recipe.proofs.Past.{hull_one, hull_other, joined_sound}
+use Rattle.dvg_recipe.proofs.Past.{hull_one, hull_other}
 
 pub under_same : (xs : List Hull) → AreUnder xs xs
 under_same xs = record { each = λ k h. h }
@@ -21,14 +21,6 @@ listed_alone x s (suc k, lt, is) = absurd (omega (arith, lt))
 
 pub none_covered : (k : Known) → Covers [] k → ⊥
 none_covered k c = absurd (omega (arith, c.listed.1))
-
--- all hulls are sound, one more with them
-pub sound_push : (xs : List Hull) (x : Hull) → AreSoundHulls xs → IsSoundHull x → AreSoundHulls (xs ++ x ∷ [])
-sound_push xs x h new =
-    record {
-      each = λ s there. ⊎_elim (h.each s) (λ alone. subst IsSoundHull (listed_alone x s alone) new)
-          (Contains-append_cases xs (x ∷ []) s there);
-    }
 
 same_or_not : (k i : ℕ) → (k ≡ i) ⊎ (k ≢ i)
 same_or_not k i =
@@ -49,9 +41,6 @@ module _ (xs : List Hull) (i : ℕ) (x : Hull) (lt : i < length xs) where
   set_listed t (k, less, is) =
       ⊎_elim (λ same. inr (sym is ∙ ap (λ n. get_or (set xs i x) n t) same ∙ at_set t))
       (λ other. inl (k, omega (arith, less, same_length), sym (get_or-set_other xs i k x t other) ∙ is)) (same_or_not k i)
-
-  pub set_sound : AreSoundHulls xs → IsSoundHull x → AreSoundHulls (set xs i x)
-  set_sound h new = record { each = λ t there. ⊎_elim (h.each t) (λ is. subst IsSoundHull (sym is) new) (set_listed t there) }
 
   pub set_added : (h : Hull) → ((k : Known) → IsInHull h k → IsInHull x k) → AreUnder (h ∷ []) (set xs i x)
   set_added h wider =
@@ -92,13 +81,19 @@ push_added xs x =
 
 -- ---- one hull after another
 
-pub under_next : (xs zs : List Hull) (i n : ℕ) (d : Hull) → n ≡ suc i → i < length xs → AreUnder (take i xs) zs
-    → AreUnder (get_or xs i d ∷ []) zs → AreUnder (take n xs) zs
-under_next xs zs i n d is lt h new = record {
+-- one of the first hulls is one of those before the last of them, or it is the last
+pub next_listed : (xs : List Hull) (i n : ℕ) (d x : Hull) → n ≡ suc i → i < length xs → d ≡ get_or xs i d → Contains (take n xs) x
+    → Contains (take i xs ++ d ∷ []) x
+next_listed xs i n d x is lt at there =
+    subst (λ (y : Hull). Contains (take i xs ++ y ∷ []) x) (sym at)
+    (subst (λ (l : List Hull). Contains l x) (take-suc xs i d lt) (subst (λ m. Contains (take m xs) x) is there))
+
+pub under_next : (xs zs : List Hull) (i n : ℕ) (d : Hull) → n ≡ suc i → i < length xs → d ≡ get_or xs i d → AreUnder (take i xs) zs
+    → AreUnder (d ∷ []) zs → AreUnder (take n xs) zs
+under_next xs zs i n d is lt at h new = record {
   each = λ k c. ⊎_elim (λ old. h.each k (record { hull = c.hull; listed = old; inside = c.inside }))
       (λ alone. new.each k (record { hull = c.hull; listed = alone; inside = c.inside }))
-      (Contains-append_cases (take i xs) (get_or xs i d ∷ []) c.hull
-      (subst (λ (l : List Hull). Contains l c.hull) (take-suc xs i d lt) (subst (λ m. Contains (take m xs) c.hull) is c.listed)));
+      (Contains-append_cases (take i xs) (d ∷ []) c.hull (next_listed xs i n d c.hull is lt at c.listed));
 }
 
 pub under_whole : (xs zs : List Hull) (i : ℕ) → length xs ≤ i → AreUnder (take i xs) zs → AreUnder xs zs
@@ -117,49 +112,9 @@ module _ (xs : List Hull) (i : ℕ) (x y h : Hull) (lt : i < length xs) (at : (d
   pub join_added : y.scale ≡ h.scale → AreUnder (h ∷ []) (set xs i x)
   join_added same = set_added xs i x lt h (λ k inside. subst (λ (z : Hull). IsInHull z k) (sym is) (hull_other y h k same inside))
 
-  pub join_sound : AreSoundHulls xs → IsSoundHull h → AreSoundHulls (set xs i x)
-  join_sound all new = set_sound xs i x lt all (subst IsSoundHull (sym is) (joined_sound y h (all.each y (i, lt, at y)) new))
-
-pub scale_at : (xs ys : List Hull) (i : ℕ) (y h : Hull) → xs ≡ ys → HasScaleAt xs h.scale i y → HasScaleAt ys h.scale i y
-scale_at xs ys i y h same has = subst (λ (l : List Hull). HasScaleAt l h.scale i y) same has
-
--- ---- a hull of sound hulls, and hulls that are kept
-
-pub sound_at : (hulls : List Hull) (i : ℕ) (d : Hull) → AreSoundHulls hulls → i < length hulls → IsSoundHull (get_or hulls i d)
-sound_at hulls i d h lt = h.each (get_or hulls i d) (Contains-get_or hulls i d lt)
-
-pub none_sound : AreSoundHulls []
-none_sound = record { each = λ h there. absurd (omega (arith, there.1)) }
-
-pub fronts_none : AreSoundFronts []
-fronts_none = record { each = λ here there. absurd (omega (arith, there.1)) }
-
-only_front : (x y : Vec Hull Global) → Contains (x ∷ []) y → x ≡ y
-only_front x y (zero, lt, is) = is
-only_front x y (suc k, lt, is) = absurd (omega (arith, lt))
-
-pub fronts_push : (fronts : List (Vec Hull Global)) (here : Vec Hull Global) → AreSoundFronts fronts → AreSoundHulls here.items
-    → AreSoundFronts (fronts ++ here ∷ [])
-fronts_push fronts here h new = record {
-  each = λ x there. ⊎_elim (h.each x) (λ alone. subst (λ (y : Vec Hull Global). AreSoundHulls y.items) (only_front here x alone) new)
-      (Contains-append_cases fronts (here ∷ []) x there);
-}
-
--- by the clause of `pop` on the items
-pub fronts_rest : (fronts rest : List (Vec Hull Global)) (last : Option (Vec Hull Global)) → fronts ≡ rest ++ option_to_list last
-    → AreSoundFronts fronts → AreSoundFronts rest
-fronts_rest fronts rest last is h =
-    record {
-      each = λ x there. h.each x
-          (subst (λ (l : List (Vec Hull Global)). Contains l x) (sym is) (Contains-append_left rest (option_to_list last) x there));
-    }
-
-pub fronts_last : (fronts rest : List (Vec Hull Global)) (last : Option (Vec Hull Global)) (here : Vec Hull Global)
-    → fronts ≡ rest ++ option_to_list last → last ≡ Some here → AreSoundFronts fronts → AreSoundHulls here.items
-fronts_last fronts rest last here is some h =
-    let there : Contains (rest ++ here ∷ []) here = Contains-append_right rest (here ∷ []) here (zero, omega arith, refl) in
-    h.each here (subst (λ (l : List (Vec Hull Global)). Contains l here)
-    (sym (is ∙ ap (λ (o : Option (Vec Hull Global)). rest ++ option_to_list o) some)) there)
+pub scale_at : (xs ys : List Hull) (i : ℕ) (g h : Hull) → xs ≡ ys → g ≡ h → HasScaleAt xs g.scale i → HasScaleAt ys h.scale i
+scale_at xs ys i g h same is has =
+    subst (λ (l : List Hull). HasScaleAt l h.scale i) same (subst (λ (x : Hull). HasScaleAt xs x.scale i) is has)
 
 -- ---- pieces and jumps within their limits
 

@@ -57,7 +57,6 @@ fn member_verdict(
     asked: &Asked,
     bytes: &[u8],
 ) -> Result<Option<Result<Yes, FrameRefusal>>, AllocError>
-    requires budget { asked.now.budget ≤ MOST_WORDS }
     ensures { IfOk result (λ found. IfSome found (IsMemberVerdict rom.now recipe.now asked.now.window asked.now.budget bytes.now)) }
 {
     let Ok(frame) = FrameImage::from_bytes(bytes) else {
@@ -94,7 +93,6 @@ fn refused_with(
     found: FoundFrame,
     number: u8,
 ) -> Result<Option<RefusedFrame>, AllocError>
-    requires budget { asked.now.budget ≤ MOST_WORDS }
     ensures { IfOk result (λ found. IfSome found (λ r. IsMemberVerdict rom.now recipe.now asked.now.window asked.now.budget r.frame.items (Err r.refusal) × (judged_number r.refusal ≡ number))) }
 {
     let FoundFrame { frame, turns } = found;
@@ -116,9 +114,7 @@ fn find_bytes(
     asked: &Asked,
     stop: &Stop,
     recipe: &Recipe,
-) -> Result<Option<FoundFrame>, AllocError>
-    requires budget { asked.now.budget ≤ MOST_WORDS }
-{
+) -> Result<Option<FoundFrame>, AllocError> {
     cert.prove_certificate();
     let entries = HashIndex::new(alloc, cert)?;
     match find(alloc, rom, &entries, asked, stop, recipe)? {
@@ -167,9 +163,7 @@ fn find_end(
     recipe: &Recipe,
     asked: &Asked,
     stop: &Stop,
-) -> Result<Option<Vec<u8>>, AllocError>
-    requires budget { asked.now.budget ≤ MOST_WORDS }
-{
+) -> Result<Option<Vec<u8>>, AllocError> {
     let Some(roots) = roots_of(alloc, rom, recipe) else {
         return Err(AllocError);
     };

@@ -1,7 +1,7 @@
 //! What a front of items has to lead to: a number of a hull.
 
 ghost use Rattle.dvg_cert.specs.declared.limits.TheConstants.{MOST_WORDS};
-ghost use Rattle.dvg_recipe.specs.Private.Hulls.{IsSoundHull, IsSoundChange, IsNearRectangle, AreNearPlaces};
+ghost use Rattle.dvg_recipe.specs.Private.Hulls.{IsSoundChange, IsNearRectangle, AreNearPlaces};
 
 use crate::hull::{Change, Hull, Light, Motion, Places, Rectangle};
 use crate::rectangles::{moved, part_in};
@@ -165,7 +165,6 @@ fn side_leaving(window: &Window, places: &Places, change: &Change) -> Number
 /// What the items before an item have to lead to, if the item breaks this rule from what a hull has.
 #[tactic(auto, using(crate::proofs::Leads::near_most))]
 pub fn goal_of_fault(window: &Window, hull: &Hull, change: &Change, why: FrameWhy) -> Goal
-    requires hull { IsSoundHull hull.now }
     requires change { IsSoundChange change.now }
 {
     let number = match why {

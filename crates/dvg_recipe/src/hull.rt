@@ -2,6 +2,7 @@
 
 use dvg_cert::Key;
 use dvg_words::{Draw, Format, Point};
+use std::marker::Model;
 
 /// Places between two corners, in units of 1/1024 of a screen place, ends included; or moves.
 #[derive(Clone, Copy)]
@@ -30,6 +31,18 @@ pub struct Hull {
     pub words: u32,
     /// The most return places stored at once so far.
     pub depth: u8,
+}
+
+impl Model for Hull {
+    ghost use Rattle.dvg_recipe.specs.Private.Hulls.{Hull as Numbers, IsSoundHull};
+
+    ghost Value = { Numbers };
+
+    ghost view = { λ h. record { scale = h.scale; places = h.places; words = h.words; depth = h.depth } };
+
+    ghost invariant = { λ h. IsSoundHull (record { scale = h.scale; places = h.places; words = h.words; depth = h.depth }) };
+
+    ghost inverse = { λ v. record { scale = v.scale; places = v.places; words = v.words; depth = v.depth } };
 }
 
 /// Where an item may leave the beam.

@@ -1,7 +1,7 @@
 //! Sets of hulls: at most one for each scale.
 
 ghost use Rattle.std.specs.Prelude.{◌≡◌, [], ◌∷◌, IfOk, IfSome};
-ghost use Rattle.dvg_recipe.specs.Private.Hulls.{AreUnder, IsSoundHull, AreSoundHulls, HasScaleAt, joined};
+ghost use Rattle.dvg_recipe.specs.Private.Hulls.{AreUnder, HasScaleAt, joined};
 
 use crate::hull::Hull;
 use crate::rectangles::joined_places;
@@ -28,18 +28,18 @@ fn usual_index(scale: Key) -> usize {
     }
 }
 
-/// The hull of a scale, and its index.
-fn held(hulls: &[Hull], scale: Key) -> Option<(usize, Hull)>
-    ensures { IfSome result (λ h. HasScaleAt hulls.now scale h.0 h.1) }
+/// Where the hull of a scale stands.
+fn index_of(hulls: &[Hull], scale: Key) -> Option<usize>
+    ensures { IfSome result (HasScaleAt hulls.now scale) }
 {
     let usual = usual_index(scale);
     match hulls.get(usual) {
-        Some(hull) if hull.scale == scale => return Some((usual, *hull)),
+        Some(hull) if hull.scale == scale => return Some(usual),
         _ => {}
     }
     for (index, hull) in hulls.iter().enumerate() {
         if hull.scale == scale {
-            return Some((index, *hull));
+            return Some(index);
         }
     }
     None
@@ -47,14 +47,12 @@ fn held(hulls: &[Hull], scale: Key) -> Option<(usize, Hull)>
 
 /// Adds what a hull has.
 pub fn add(hulls: &mut Vec<Hull>, hull: &Hull) -> Result<(), AllocError>
-    requires sound { AreSoundHulls hulls.old.items }
-    requires hull { IsSoundHull hull.now }
     ensures kept { IfOk result (λ _. AreUnder hulls.old.items hulls.new.items) }
     ensures added { IfOk result (λ _. AreUnder (hull.now ∷ []) hulls.new.items) }
-    ensures sound { IfOk result (λ _. AreSoundHulls hulls.new.items) }
 {
-    match held(hulls, hull.scale) {
-        Some((index, old)) => {
+    match index_of(hulls, hull.scale) {
+        Some(index) => {
+            let old = hulls[index];
             hulls[index] = joined(&old, hull);
         }
         None => hulls.push(*hull)?,
@@ -65,11 +63,8 @@ pub fn add(hulls: &mut Vec<Hull>, hull: &Hull) -> Result<(), AllocError>
 /// Adds what other hulls have.
 #[inline(never)]
 pub fn add_all(hulls: &mut Vec<Hull>, more: &[Hull]) -> Result<(), AllocError>
-    requires sound { AreSoundHulls hulls.old.items }
-    requires more { AreSoundHulls more.now }
     ensures kept { IfOk result (λ _. AreUnder hulls.old.items hulls.new.items) }
     ensures added { IfOk result (λ _. AreUnder more.now hulls.new.items) }
-    ensures sound { IfOk result (λ _. AreSoundHulls hulls.new.items) }
 {
     for hull in more {
         add(hulls, hull)?;

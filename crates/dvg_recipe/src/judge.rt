@@ -12,7 +12,7 @@ ghost use Rattle.dvg_recipe.specs.Limits.{PieceFits, RowFits};
 ghost use Rattle.dvg_recipe.specs.Means.{AllMean};
 ghost use Rattle.dvg_recipe.specs.Recipes.{Place, TakesCall, AddsRow, Spells, SpellsJumps};
 ghost use Rattle.dvg_recipe.specs.Private.Judging.{IsJump, IsTaken, Carries, IfFine, IsWithin, AreWithin, Turns, IsFirst, AreListStarts, AreGoodMembers, AreGoodFrames, IsCounted};
-ghost use Rattle.dvg_recipe.specs.Private.Hulls.{AreUnder, AreSoundHulls, IsSoundHull, IsSoundChange, HullKeeps, LightsIn, IsNearLight, AreNearPlaces, IsAct, ActFits, PlaceAct, LeadOn, hull_past, places_of};
+ghost use Rattle.dvg_recipe.specs.Private.Hulls.{AreUnder, IsSoundChange, HullKeeps, LightsIn, IsNearLight, AreNearPlaces, IsAct, ActFits, PlaceAct, LeadOn, hull_past, places_of};
 
 use crate::changes::{act_change, draws_act, places_of, still, words_act};
 use crate::hull::{Act, Change, Hull, Light, Places, Rectangle};
@@ -33,6 +33,7 @@ use std::alloc::{AllocError, Global};
 pub struct Asked {
     pub budget: u32,
     pub window: Window,
+    ghost most: { budget ≤ MOST_WORDS },
 }
 
 /// The first rule that is broken by what is lit from some place. What a draw into a rectangle lights ends there.
@@ -64,7 +65,6 @@ fn light_broken(
 /// The first rule that a change breaks from what a hull has.
 #[tactic(auto, using(crate::proofs::Leads::near_most))]
 pub fn first_broken(asked: &Asked, hull: &Hull, change: &Change) -> Option<FrameWhy>
-    requires hull { IsSoundHull hull.now }
     requires change { IsSoundChange change.now }
     ensures { IfNone result (HullKeeps asked.now.window asked.now.budget hull.now change.now) }
 {
@@ -79,11 +79,9 @@ pub fn first_broken(asked: &Asked, hull: &Hull, change: &Change) -> Option<Frame
 /// What may be known past a change.
 #[tactic(auto, using(crate::proofs::Leads::near_most, crate::proofs::Past::past_sound))]
 pub fn hull_past(change: &Change, hull: &Hull) -> Hull
-    requires hull { IsSoundHull hull.now }
     requires change { IsSoundChange change.now }
     requires few { change.now.words + hull.now.words ≤ MOST_WORDS }
     ensures value { result ≡ hull_past change.now hull.now }
-    ensures sound { IsSoundHull result }
 {
     Hull {
         scale: change.scale,
@@ -109,15 +107,11 @@ fn put(
     hull: &Hull,
     change: &Change,
 ) -> Result<(), AllocError>
-    requires budget { asked.now.budget ≤ MOST_WORDS }
-    requires hull { IsSoundHull hull.now }
     requires change { IsSoundChange change.now }
-    requires sound { AreSoundHulls next.old.items }
     ensures fine { IfOk result (λ _. broken.new ≡ None → broken.old ≡ None) }
     ensures keeps { IfOk result (λ _. broken.new ≡ None → HullKeeps asked.now.window asked.now.budget hull.now change.now) }
     ensures added { IfOk result (λ _. broken.new ≡ None → AreUnder (hull_past change.now hull.now ∷ []) next.new.items) }
     ensures kept { IfOk result (λ _. AreUnder next.old.items next.new.items) }
-    ensures sound { IfOk result (λ _. AreSoundHulls next.new.items) }
 {
     if let Some(why) = first_broken(asked, hull, change) {
         *broken = Some(lower(*broken, why));
@@ -136,10 +130,7 @@ pub fn past_jump(
     number: Option<u16>,
     here: &[Hull],
 ) -> Result<Vec<Hull>, AllocError>
-    requires budget { asked.now.budget ≤ MOST_WORDS }
-    requires here { AreSoundHulls here.now }
     ensures leads { IfOk result (λ next. IfFine notes.old notes.new ((list : List Entry) → LeadOn asked.now.window list asked.now.budget IsJump here.now next.items)) }
-    ensures sound { IfOk result (λ next. AreSoundHulls next.items) }
 {
     let mut next = Vec::new(alloc);
     let mut broken = None;
@@ -163,15 +154,11 @@ fn add_act<E: Entries>(
     broken: &mut Option<FrameWhy>,
 ) -> Result<(), AllocError>
     requires entries { IsSomeCertificate (E.list entries.now) }
-    requires budget { asked.now.budget ≤ MOST_WORDS }
     requires fits { ActFits act.now }
-    requires here { AreSoundHulls here.now }
-    requires next { AreSoundHulls next.old.items }
     ensures fine { IfOk result (λ _. broken.new ≡ None → broken.old ≡ None) }
     ensures leads { IfOk result (λ _. broken.new ≡ None → LeadOn asked.now.window (E.list entries.now) asked.now.budget (IsAct (E.list entries.now) act.now) here.now next.new.items) }
     ensures noted { IfOk result (λ _. notes.new ≡ notes.old) }
     ensures kept { IfOk result (λ _. AreUnder next.old.items next.new.items) }
-    ensures sound { IfOk result (λ _. AreSoundHulls next.new.items) }
 {
     for hull in here {
         let change = act_change(entries, act, hull.scale);
@@ -194,16 +181,12 @@ fn add_place<E: Entries>(
     broken: &mut Option<FrameWhy>,
 ) -> Result<(), AllocError>
     requires entries { IsSomeCertificate (E.list entries.now) }
-    requires budget { asked.now.budget ≤ MOST_WORDS }
     requires fits { PieceFits (Place range.now) }
     requires scale { scale ≤ 15 }
-    requires here { AreSoundHulls here.now }
-    requires next { AreSoundHulls next.old.items }
     ensures fine { IfOk result (λ _. broken.new ≡ None → broken.old ≡ None) }
     ensures leads { IfOk result (λ _. broken.new ≡ None → get_or range.now.scales scale false ≡ true → LeadOn asked.now.window (E.list entries.now) asked.now.budget (IsAct (E.list entries.now) (PlaceAct (places_of range.now) scale)) here.now next.new.items) }
     ensures noted { IfOk result (λ _. notes.new ≡ notes.old) }
     ensures kept { IfOk result (λ _. AreUnder next.old.items next.new.items) }
-    ensures sound { IfOk result (λ _. AreSoundHulls next.new.items) }
 {
     if !has_scale(&range.scales, scale) {
         return Ok(());
@@ -225,15 +208,11 @@ fn add_places<E: Entries>(
     broken: &mut Option<FrameWhy>,
 ) -> Result<(), AllocError>
     requires entries { IsSomeCertificate (E.list entries.now) }
-    requires budget { asked.now.budget ≤ MOST_WORDS }
     requires fits { PieceFits (Place range.now) }
-    requires here { AreSoundHulls here.now }
-    requires next { AreSoundHulls next.old.items }
     ensures fine { IfOk result (λ _. broken.new ≡ None → broken.old ≡ None) }
     ensures leads { IfOk result (λ _. broken.new ≡ None → LeadOn asked.now.window (E.list entries.now) asked.now.budget (IsTaken (Place range.now)) here.now next.new.items) }
     ensures noted { IfOk result (λ _. notes.new ≡ notes.old) }
     ensures kept { IfOk result (λ _. AreUnder next.old.items next.new.items) }
-    ensures sound { IfOk result (λ _. AreSoundHulls next.new.items) }
 {
     for scale in 0..16u8 {
         add_place(
@@ -255,14 +234,10 @@ fn add_calls<E: Entries>(
     broken: &mut Option<FrameWhy>,
 ) -> Result<(), AllocError>
     requires entries { IsSomeCertificate (E.list entries.now) }
-    requires budget { asked.now.budget ≤ MOST_WORDS }
-    requires here { AreSoundHulls here.now }
-    requires next { AreSoundHulls next.old.items }
     ensures fine { IfOk result (λ _. broken.new ≡ None → broken.old ≡ None) }
     ensures leads { IfOk result (λ _. broken.new ≡ None → LeadOn asked.now.window (E.list entries.now) asked.now.budget (λ known i. TakesCall targets.now i.instr) here.now next.new.items) }
     ensures noted { IfOk result (λ _. notes.new ≡ notes.old) }
     ensures kept { IfOk result (λ _. AreUnder next.old.items next.new.items) }
-    ensures sound { IfOk result (λ _. AreSoundHulls next.new.items) }
 {
     for &to in targets {
         let act = Act::Call { to };
@@ -282,15 +257,11 @@ fn add_items<E: Entries>(
     broken: &mut Option<FrameWhy>,
 ) -> Result<(), AllocError>
     requires entries { IsSomeCertificate (E.list entries.now) }
-    requires budget { asked.now.budget ≤ MOST_WORDS }
     requires fits { PieceFits piece.now.kind }
-    requires here { AreSoundHulls here.now }
-    requires next { AreSoundHulls next.old.items }
     ensures fine { IfOk result (λ _. broken.new ≡ None → broken.old ≡ None) }
     ensures leads { IfOk result (λ _. broken.new ≡ None → LeadOn asked.now.window (E.list entries.now) asked.now.budget (IsTaken piece.now.kind) here.now next.new.items) }
     ensures noted { IfOk result (λ _. notes.new ≡ notes.old) }
     ensures kept { IfOk result (λ _. AreUnder next.old.items next.new.items) }
-    ensures sound { IfOk result (λ _. AreSoundHulls next.new.items) }
 {
     let number = piece.number;
     let act = match &piece.kind {
@@ -317,13 +288,9 @@ pub fn add_piece<E: Entries>(
     next: &mut Vec<Hull>,
 ) -> Result<(), AllocError>
     requires entries { IsSomeCertificate (E.list entries.now) }
-    requires budget { asked.now.budget ≤ MOST_WORDS }
     requires fits { PieceFits piece.now.kind }
-    requires here { AreSoundHulls here.now }
-    requires next { AreSoundHulls next.old.items }
     ensures leads { IfOk result (λ _. IfFine notes.old notes.new (LeadOn asked.now.window (E.list entries.now) asked.now.budget (IsTaken piece.now.kind) here.now next.new.items)) }
     ensures kept { IfOk result (λ _. AreUnder next.old.items next.new.items) }
-    ensures sound { IfOk result (λ _. AreSoundHulls next.new.items) }
 {
     let mut broken = None;
     add_items(entries, asked, notes, piece, here, next, &mut broken)?;
@@ -332,7 +299,6 @@ pub fn add_piece<E: Entries>(
 }
 
 /// The hulls behind the items of a piece. The first fault is noted.
-#[tactic(auto, using(crate::proofs::Sounds::none_sound))]
 pub fn past_piece<E: Entries>(
     alloc: Global,
     entries: &E,
@@ -342,11 +308,8 @@ pub fn past_piece<E: Entries>(
     here: &[Hull],
 ) -> Result<Vec<Hull>, AllocError>
     requires entries { IsSomeCertificate (E.list entries.now) }
-    requires budget { asked.now.budget ≤ MOST_WORDS }
     requires fits { PieceFits piece.now.kind }
-    requires here { AreSoundHulls here.now }
     ensures leads { IfOk result (λ next. IfFine notes.old notes.new (LeadOn asked.now.window (E.list entries.now) asked.now.budget (IsTaken piece.now.kind) here.now next.items)) }
-    ensures sound { IfOk result (λ next. AreSoundHulls next.items) }
 {
     let mut next = Vec::new(alloc);
     add_piece(entries, asked, notes, piece, here, &mut next)?;
@@ -363,11 +326,8 @@ fn past_row<E: Entries>(
     here: Vec<Hull>,
 ) -> Result<Vec<Hull>, AllocError>
     requires entries { IsSomeCertificate (E.list entries.now) }
-    requires budget { asked.now.budget ≤ MOST_WORDS }
     requires fits { RowFits row.now }
-    requires here { AreSoundHulls here.items }
     ensures carries { IfOk result (λ next. IfFine notes.old notes.new (Carries asked.now.window (E.list entries.now) asked.now.budget (AddsRow row.now) here.items next.items)) }
-    ensures sound { IfOk result (λ next. AreSoundHulls next.items) }
 {
     let mut here = here;
     for piece in row {
@@ -387,13 +347,9 @@ fn add_pieces<E: Entries>(
     next: &mut Vec<Hull>,
 ) -> Result<(), AllocError>
     requires entries { IsSomeCertificate (E.list entries.now) }
-    requires budget { asked.now.budget ≤ MOST_WORDS }
     requires fits { RowFits row.now }
-    requires here { AreSoundHulls here.now }
-    requires next { AreSoundHulls next.old.items }
     ensures carries { IfOk result (λ _. IfFine notes.old notes.new (Carries asked.now.window (E.list entries.now) asked.now.budget (AddsRow row.now) here.now next.new.items)) }
     ensures kept { IfOk result (λ _. AreUnder next.old.items next.new.items) }
-    ensures sound { IfOk result (λ _. AreSoundHulls next.new.items) }
 {
     let copy = Vec::from_slice(alloc, here)?;
     let behind = past_row(alloc, entries, asked, notes, row, copy)?;
@@ -413,13 +369,9 @@ fn add_row<E: Entries>(
     next: &mut Vec<Hull>,
 ) -> Result<(), AllocError>
     requires entries { IsSomeCertificate (E.list entries.now) }
-    requires budget { asked.now.budget ≤ MOST_WORDS }
     requires fits { RowFits row.now }
-    requires here { AreSoundHulls here.now }
-    requires next { AreSoundHulls next.old.items }
     ensures carries { IfOk result (λ _. IfFine notes.old notes.new (Carries asked.now.window (E.list entries.now) asked.now.budget (AddsRow row.now) here.now next.new.items)) }
     ensures kept { IfOk result (λ _. AreUnder next.old.items next.new.items) }
-    ensures sound { IfOk result (λ _. AreSoundHulls next.new.items) }
 {
     if row.len() == 1 {
         return add_piece(entries, asked, notes, &row[0], here, next);
@@ -428,7 +380,6 @@ fn add_row<E: Entries>(
 }
 
 /// Adds the hulls behind the items of a part to others. The first fault is noted.
-#[tactic(auto, using(crate::proofs::Sounds::none_sound))]
 #[cycle(add_part)]
 pub fn add_part<E: Entries>(
     part: &Part,
@@ -440,13 +391,9 @@ pub fn add_part<E: Entries>(
     next: &mut Vec<Hull>,
 ) -> Result<(), AllocError>
     requires entries { IsSomeCertificate (E.list entries.now) }
-    requires budget { asked.now.budget ≤ MOST_WORDS }
     requires fits { IsWithin part.now }
-    requires here { AreSoundHulls here.now }
-    requires next { AreSoundHulls next.old.items }
     ensures carries { IfOk result (λ _. IfFine notes.old notes.new (Carries asked.now.window (E.list entries.now) asked.now.budget (Spells part.now) here.now next.new.items)) }
     ensures kept { IfOk result (λ _. AreUnder next.old.items next.new.items) }
-    ensures sound { IfOk result (λ _. AreSoundHulls next.new.items) }
 {
     match part {
         Part::Row(row) => add_row(alloc, entries, asked, notes, row, here, next),
@@ -468,7 +415,6 @@ pub fn add_part<E: Entries>(
 }
 
 /// Adds the hulls behind `least` to `most` turns of a part to others. The first fault is noted.
-#[tactic(auto, using(crate::proofs::Sounds::none_sound))]
 #[cycle(add_part)]
 #[inline(never)]
 fn add_repeat<E: Entries>(
@@ -483,14 +429,10 @@ fn add_repeat<E: Entries>(
     next: &mut Vec<Hull>,
 ) -> Result<(), AllocError>
     requires entries { IsSomeCertificate (E.list entries.now) }
-    requires budget { asked.now.budget ≤ MOST_WORDS }
     requires fits { IsWithin body.now }
     requires turns { least ≤ most }
-    requires here { AreSoundHulls here.now }
-    requires next { AreSoundHulls next.old.items }
     ensures carries { IfOk result (λ _. IfFine notes.old notes.new (Carries asked.now.window (E.list entries.now) asked.now.budget (Turns least most (Spells body.now)) here.now next.new.items)) }
     ensures kept { IfOk result (λ _. AreUnder next.old.items next.new.items) }
-    ensures sound { IfOk result (λ _. AreSoundHulls next.new.items) }
 {
     let mut there = Vec::from_slice(alloc, here)?;
     for _ in 0..least {
@@ -509,7 +451,6 @@ fn add_repeat<E: Entries>(
 }
 
 /// The hulls behind the items of a part. The first fault is noted.
-#[tactic(auto, using(crate::proofs::Sounds::none_sound))]
 pub fn past_part<E: Entries>(
     part: &Part,
     alloc: Global,
@@ -519,11 +460,8 @@ pub fn past_part<E: Entries>(
     here: &[Hull],
 ) -> Result<Vec<Hull>, AllocError>
     requires entries { IsSomeCertificate (E.list entries.now) }
-    requires budget { asked.now.budget ≤ MOST_WORDS }
     requires fits { IsWithin part.now }
-    requires here { AreSoundHulls here.now }
     ensures carries { IfOk result (λ next. IfFine notes.old notes.new (Carries asked.now.window (E.list entries.now) asked.now.budget (Spells part.now) here.now next.items)) }
-    ensures sound { IfOk result (λ next. AreSoundHulls next.items) }
 {
     let mut next = Vec::new(alloc);
     add_part(part, alloc, entries, asked, notes, here, &mut next)?;
@@ -540,11 +478,8 @@ fn past_jumps<E: Entries>(
     here: Vec<Hull>,
 ) -> Result<Vec<Hull>, AllocError>
     requires entries { IsSomeCertificate (E.list entries.now) }
-    requires budget { asked.now.budget ≤ MOST_WORDS }
     requires fits { AreWithin jumps.now }
-    requires here { AreSoundHulls here.items }
     ensures carries { IfOk result (λ next. IfFine notes.old notes.new (Carries asked.now.window (E.list entries.now) asked.now.budget (SpellsJumps jumps.now) here.items next.items)) }
-    ensures sound { IfOk result (λ next. AreSoundHulls next.items) }
 {
     let mut here = here;
     for jump in jumps {
@@ -557,7 +492,6 @@ fn past_jumps<E: Entries>(
 /// All that may be known at word 000 of a frame.
 fn first_hull() -> Hull
     ensures first { IsFirst result }
-    ensures sound { IsSoundHull result }
 {
     Hull {
         scale: Key::Any,
@@ -574,9 +508,7 @@ fn starts_in(
     notes: &mut Notes,
     area: &Area,
 ) -> Result<Vec<Hull>, AllocError>
-    requires budget { asked.now.budget ≤ MOST_WORDS }
     ensures starts { IfOk result (λ here. IfFine notes.old notes.new ((list : List Entry) → AreListStarts asked.now.window list asked.now.budget (area.now ∷ []) here.items)) }
-    ensures sound { IfOk result (λ here. AreSoundHulls here.items) }
 {
     if area.first == 0 {
         let mut here = Vec::new(alloc);
@@ -593,9 +525,7 @@ pub fn starts(
     notes: &mut Notes,
     lists: &[Area],
 ) -> Result<Vec<Hull>, AllocError>
-    requires budget { asked.now.budget ≤ MOST_WORDS }
     ensures starts { IfOk result (λ here. IfFine notes.old notes.new ((list : List Entry) → AreListStarts asked.now.window list asked.now.budget lists.now here.items)) }
-    ensures sound { IfOk result (λ here. AreSoundHulls here.items) }
 {
     let mut here = Vec::new(alloc);
     for area in lists {
@@ -607,7 +537,6 @@ pub fn starts(
 
 /// The greatest of counts and of those of lists whose HALT stands behind a hull.
 fn counted(yes: &Accepted, hull: &Hull) -> Accepted
-    requires { IsSoundHull hull.now }
     ensures counted { IsCounted result.words result.depth hull.now }
     ensures more { (yes.now.words ≤ result.words) × (yes.now.depth ≤ result.depth) }
 {
@@ -619,7 +548,6 @@ fn counted(yes: &Accepted, hull: &Hull) -> Accepted
 
 /// The greatest counts of the lists whose HALT stands behind these hulls.
 fn counts(here: &[Hull]) -> Accepted
-    requires { AreSoundHulls here.now }
     ensures { (h : Hull) → Contains here.now h → IsCounted result.words result.depth h }
 {
     let mut yes = Accepted { words: 0, depth: 0 };
@@ -661,10 +589,8 @@ pub fn past_recipe<E: Entries>(
     recipe: &Recipe,
     notes: &mut Notes,
 ) -> Result<Vec<Hull>, AllocError>
-    requires budget { asked.now.budget ≤ MOST_WORDS }
     requires entries { IsSomeCertificate (E.list entries.now) }
     ensures good { IfOk result (λ ends. IfFine notes.old notes.new (AreGoodMembers asked.now.window (E.list entries.now) asked.now.budget recipe.now ends.items)) }
-    ensures sound { IfOk result (λ ends. AreSoundHulls ends.items) }
 {
     let here = starts(alloc, asked, notes, recipe.lists())?;
     let here = past_part(recipe.body(), alloc, entries, asked, notes, &here)?;
@@ -681,7 +607,6 @@ pub fn judge_over<E: Entries>(
     recipe: &Recipe,
     notes: &mut Notes,
 ) -> Result<Accepted, RecipeRefusal>
-    requires budget { asked.now.budget ≤ MOST_WORDS }
     requires list { IsSomeCertificate (E.list entries.now) }
     requires made { AllMade rom.now (E.list entries.now) }
     requires good { Good Exact asked.now.window rom.now (E.list entries.now) }

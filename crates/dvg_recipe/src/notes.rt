@@ -2,7 +2,7 @@
 //! each piece.
 
 ghost use Rattle.std.specs.Prelude.{◌≡◌, None};
-ghost use Rattle.dvg_recipe.specs.Private.Hulls.{IsSoundHull, AreSoundHulls, AreSoundChanges};
+ghost use Rattle.dvg_recipe.specs.Private.Hulls.{AreSoundChanges};
 ghost use Rattle.dvg_recipe.specs.Private.Judging.{IfFine};
 
 use crate::hull::{Change, Hull};
@@ -83,7 +83,6 @@ fn index_of_piece(piece: Option<u16>) -> usize {
 
 /// Whether from some place that a hull has some of these changes can't lead to where they have to.
 fn is_any_stuck(hull: &Hull, changes: &[Change]) -> bool
-    requires hull { IsSoundHull hull.now }
     requires changes { AreSoundChanges changes.now }
 {
     for change in changes {
@@ -159,7 +158,6 @@ impl Notes {
 
     /// Sees what may be known before a piece, and what its items may do from there.
     pub fn see(&mut self, piece: Option<u16>, hull: &Hull, changes: &[Change])
-        requires hull { IsSoundHull hull.now }
         requires changes { AreSoundChanges changes.now }
         ensures { self.new ≡ self.old }
     {
@@ -176,7 +174,6 @@ impl Notes {
 
     /// Sees what may be known before the HALT of this number.
     pub fn see_end(&mut self, halt: u16, here: &[Hull])
-        requires { AreSoundHulls here.now }
         ensures { self.new ≡ self.old }
     {
         for hull in here {

@@ -85,7 +85,6 @@ fn stuck_or<E: Entries>(
     fault: ShapeFault,
     notes: &mut Notes,
 ) -> RecipeRefusal
-    requires budget { asked.now.budget ≤ MOST_WORDS }
     requires entries { IsSomeCertificate (E.list entries.now) }
 {
     if past_recipe(alloc, entries, asked, recipe, notes).is_err() {
@@ -106,7 +105,6 @@ fn judge_by(
     recipe: &Recipe,
     notes: &mut Notes,
 ) -> Result<Accepted, RecipeRefusal>
-    requires budget { asked.now.budget ≤ MOST_WORDS }
     requires map { rom.now.map ≡ cert.now.map }
     requires made { AllMade rom.now cert.now.entries }
     requires board { rom.now.machine ≡ Board }
@@ -136,7 +134,6 @@ pub fn judge_noting(
     asked: &Asked,
     notes: &mut Notes,
 ) -> Result<AcceptedRecipe, RecipeRefusal>
-    requires budget { asked.now.budget ≤ MOST_WORDS }
     requires board { rom.now.machine ≡ Board }
     ensures means { IfOk result (λ accepted. AllMean rom.now recipe.now asked.now.window accepted.yes.words accepted.yes.depth) }
     ensures fits { IfOk result (λ accepted. FitsAreas recipe.now) }
@@ -172,7 +169,6 @@ fn verdict_noting(
     asked: &Asked,
     notes: &mut Notes,
 ) -> Result<RecipeYes, RecipeRefusal>
-    requires budget { asked.now.budget ≤ MOST_WORDS }
     requires board { rom.now.machine ≡ Board }
     ensures means { IfOk result (λ yes. AllMean rom.now recipe.now asked.now.window yes.words yes.depth) }
     ensures fits { IfOk result (λ yes. FitsAreas recipe.now) }

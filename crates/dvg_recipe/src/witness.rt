@@ -5,13 +5,12 @@
 //! So it is where a draw has to lead into a rectangle, too: if the rectangle cuts what is known behind it, the front before it that is
 //! furthest out reaches just to the cut.
 
-ghost use Rattle.std.specs.Prelude.{◌≤◌, IfOk};
 ghost use Rattle.dvg_cert.specs.declared.limits.TheConstants.{MOST_WORDS};
 ghost use Rattle.dvg_items.specs.Bounds.{IsSomeCertificate};
 ghost use Rattle.dvg_recipe.specs.Limits.{PieceFits, RowFits};
 ghost use Rattle.dvg_recipe.specs.Recipes.{Draw as Draws};
 ghost use Rattle.dvg_recipe.specs.Private.Judging.{IsWithin, AreWithin};
-ghost use Rattle.dvg_recipe.specs.Private.Hulls.{AreSoundHulls, IsSoundHull, IsSoundChange, AreSoundFronts};
+ghost use Rattle.dvg_recipe.specs.Private.Hulls.{IsSoundChange};
 
 use crate::changes::{act_change, draws_act, words_change};
 use crate::choices::{Words, choices, jsrl};
@@ -28,7 +27,8 @@ use crate::writing::frame_words;
 use dvg_cert::{Entries, Key, MOST_WORDS};
 use dvg_check::FrameWhy;
 use dvg_words::{Cell, Instr, RomImage};
-use std::alloc::{AllocError, Global};
+use std::alloc::{AllocError, AllocFailed, Global};
+use std::marker::Model;
 
 /// Where a frame has to lead to.
 #[derive(Clone, Copy)]
@@ -52,6 +52,12 @@ enum Unfound {
     Memory,
 }
 
+impl<T: Drop> From<AllocFailed<T>> for Unfound {
+    fn from(_error: AllocFailed<T>) -> Unfound {
+        Unfound::Memory
+    }
+}
+
 impl From<AllocError> for Unfound {
     fn from(_error: AllocError) -> Unfound {
         Unfound::Memory
@@ -67,6 +73,18 @@ struct Search<'a, E: Entries> {
     stop: &'a Stop,
 }
 
+impl<'a, E: Entries> Model for Search<'a, E> {
+    ghost use Rattle.std.specs.Prelude.{List};
+    ghost use Rattle.dvg_cert.specs.declared.entry.Entry.{Entry};
+    ghost use Rattle.dvg_items.specs.Bounds.{IsSomeCertificate};
+
+    ghost Value = { List Entry };
+
+    ghost view = { λ search. E.list search.entries.now };
+
+    ghost invariant = { λ search. IsSomeCertificate (E.list search.entries.now) };
+}
+
 /// What an item has to do.
 #[derive(Clone, Copy)]
 enum Sought {
@@ -79,7 +97,6 @@ enum Sought {
 impl Sought {
     /// What the items before an item have to lead to, if it does what it has to by this change from what a hull has.
     fn before(&self, asked: &Asked, change: &Change, hull: &Hull) -> Option<Goal>
-        requires hull { IsSoundHull hull.now }
         requires change { IsSoundChange change.now }
     {
         match self {
@@ -106,9 +123,7 @@ fn draw_from<E: Entries>(
     hull: &Hull,
     sought: &Sought,
 ) -> Option<(Written, Goal)>
-    requires entries { IsSomeCertificate (E.list search.now.entries.now) }
     requires fits { PieceFits (Draws range.now) }
-    requires hull { IsSoundHull hull.now }
 {
     let change = act_change(search.entries, &draws_act(range), hull.scale);
     let goal = sought.before(search.asked, &change, hull)?;
@@ -121,10 +136,7 @@ fn words_from<E: Entries>(
     all: &[Words],
     hull: &Hull,
     sought: &Sought,
-) -> Option<(Written, Goal)>
-    requires entries { IsSomeCertificate (E.list search.now.entries.now) }
-    requires hull { IsSoundHull hull.now }
-{
+) -> Option<(Written, Goal)> {
     for words in all {
         let change = words_change(search.entries, words.first, words.second, hull.scale);
         if let Some(goal) = sought.before(search.asked, &change, hull) {
@@ -135,16 +147,13 @@ fn words_from<E: Entries>(
 }
 
 /// An item of a piece that does what is sought from one of some hulls, and what the items before it have to lead to.
-#[tactic(auto, using(crate::proofs::Sounds::sound_at))]
 fn item_from<E: Entries>(
     search: &Search<E>,
     kind: &PieceKind,
     here: &[Hull],
     sought: &Sought,
 ) -> Result<(Written, Goal), Unfound>
-    requires entries { IsSomeCertificate (E.list search.now.entries.now) }
     requires fits { PieceFits kind.now }
-    requires here { AreSoundHulls here.now }
 {
     let all = choices(search.alloc, kind)?;
     for hull in here {
@@ -160,7 +169,7 @@ fn item_from<E: Entries>(
 }
 
 /// Adds items of a row that lead to the goal, in front of all others. `fronts` are the hulls before each piece.
-#[tactic(auto, using(crate::proofs::Sounds::fronts_last, crate::proofs::Sounds::fronts_rest, crate::proofs::Sounds::piece_got))]
+#[tactic(auto, using(crate::proofs::Sounds::piece_got))]
 #[inline(never)]
 fn row_back<E: Entries>(
     search: &Search<E>,
@@ -168,9 +177,7 @@ fn row_back<E: Entries>(
     fronts: Vec<Vec<Hull>>,
     trail: &mut Trail,
 ) -> Result<(), Unfound>
-    requires entries { IsSomeCertificate (E.list search.now.entries.now) }
     requires fits { RowFits row.now }
-    requires fronts { AreSoundFronts fronts.items }
 {
     let mut fronts = fronts;
     while let Some(here) = fronts.pop() {
@@ -184,29 +191,14 @@ fn row_back<E: Entries>(
     Ok(())
 }
 
-/// Keeps the hulls at a place, to come back to them.
-#[tactic(auto, using(crate::proofs::Sounds::fronts_push))]
-fn keep(fronts: &mut Vec<Vec<Hull>>, here: Vec<Hull>) -> Result<(), AllocError>
-    requires fronts { AreSoundFronts fronts.old.items }
-    requires here { AreSoundHulls here.items }
-    ensures { IfOk result (λ _. AreSoundFronts fronts.new.items) }
-{
-    fronts.push(here)?;
-    Ok(())
-}
-
 /// The hulls before each piece of a row.
-#[tactic(auto, using(crate::proofs::Sounds::fronts_none, crate::proofs::Sounds::piece_at))]
+#[tactic(auto, using(crate::proofs::Sounds::piece_at))]
 fn row_fronts<E: Entries>(
     search: &Search<E>,
     row: &[Piece],
     here: &[Hull],
 ) -> Result<Vec<Vec<Hull>>, Unfound>
-    requires entries { IsSomeCertificate (E.list search.now.entries.now) }
-    requires budget { search.now.asked.now.budget ≤ MOST_WORDS }
     requires fits { RowFits row.now }
-    requires here { AreSoundHulls here.now }
-    ensures { IfOk result (λ fronts. AreSoundFronts fronts.items) }
 {
     let alloc = search.alloc;
     let mut fronts = Vec::new(alloc);
@@ -214,7 +206,7 @@ fn row_fronts<E: Entries>(
     for piece in row {
         let notes = &mut Notes::new(alloc);
         let next = past_piece(alloc, search.entries, search.asked, notes, piece, &here)?;
-        keep(&mut fronts, here)?;
+        fronts.push(here)?;
         here = next;
     }
     Ok(fronts)
@@ -228,10 +220,7 @@ fn row_before<E: Entries>(
     here: &[Hull],
     trail: &mut Trail,
 ) -> Result<(), Unfound>
-    requires entries { IsSomeCertificate (E.list search.now.entries.now) }
-    requires budget { search.now.asked.now.budget ≤ MOST_WORDS }
     requires fits { RowFits row.now }
-    requires here { AreSoundHulls here.now }
 {
     let fronts = row_fronts(search, row, here)?;
     row_back(search, row, fronts, trail)
@@ -244,11 +233,7 @@ fn behind_part<E: Entries>(
     search: &Search<E>,
     here: &[Hull],
 ) -> Result<Vec<Hull>, AllocError>
-    requires entries { IsSomeCertificate (E.list search.now.entries.now) }
-    requires budget { search.now.asked.now.budget ≤ MOST_WORDS }
     requires fits { IsWithin part.now }
-    requires here { AreSoundHulls here.now }
-    ensures { IfOk result (λ next. AreSoundHulls next.items) }
 {
     let alloc = search.alloc;
     let notes = &mut Notes::new(alloc);
@@ -263,17 +248,13 @@ fn leads_through<E: Entries>(
     here: &[Hull],
     goal: &Goal,
 ) -> Result<bool, AllocError>
-    requires entries { IsSomeCertificate (E.list search.now.entries.now) }
-    requires budget { search.now.asked.now.budget ≤ MOST_WORDS }
     requires fits { IsWithin part.now }
-    requires here { AreSoundHulls here.now }
 {
     let behind = behind_part(part, search, here)?;
     Ok(goal.is_in(&behind))
 }
 
 /// The hulls before each turn of a part, up to the first number of turns, at least `least`, behind which a goal is reached.
-#[tactic(auto, using(crate::proofs::Sounds::fronts_none))]
 #[inline(never)]
 fn turn_fronts<E: Entries>(
     body: &Part,
@@ -282,11 +263,7 @@ fn turn_fronts<E: Entries>(
     here: &[Hull],
     goal: &Goal,
 ) -> Result<Vec<Vec<Hull>>, Unfound>
-    requires entries { IsSomeCertificate (E.list search.now.entries.now) }
-    requires budget { search.now.asked.now.budget ≤ MOST_WORDS }
     requires fits { IsWithin body.now }
-    requires here { AreSoundHulls here.now }
-    ensures { IfOk result (λ fronts. AreSoundFronts fronts.items) }
 {
     let (least, most) = turns;
     let mut fronts = Vec::new(search.alloc);
@@ -296,7 +273,7 @@ fn turn_fronts<E: Entries>(
             return Ok(fronts);
         }
         let next = behind_part(body, search, &here)?;
-        keep(&mut fronts, here)?;
+        fronts.push(here)?;
         here = next;
     }
     Ok(fronts)
@@ -310,10 +287,7 @@ fn part_before<E: Entries>(
     here: &[Hull],
     trail: &mut Trail,
 ) -> Result<(), Unfound>
-    requires entries { IsSomeCertificate (E.list search.now.entries.now) }
-    requires budget { search.now.asked.now.budget ≤ MOST_WORDS }
     requires fits { IsWithin part.now }
-    requires here { AreSoundHulls here.now }
 {
     match part {
         Part::Row(row) => row_before(search, row, here, trail),
@@ -338,7 +312,6 @@ fn part_before<E: Entries>(
 }
 
 /// Adds items of turns of a part that lead to the goal, in front of all others. `fronts` are the hulls before each turn.
-#[tactic(auto, using(crate::proofs::Sounds::fronts_last, crate::proofs::Sounds::fronts_rest))]
 #[cycle(part_before)]
 #[inline(never)]
 fn turns_back<E: Entries>(
@@ -347,10 +320,7 @@ fn turns_back<E: Entries>(
     fronts: Vec<Vec<Hull>>,
     trail: &mut Trail,
 ) -> Result<(), Unfound>
-    requires entries { IsSomeCertificate (E.list search.now.entries.now) }
-    requires budget { search.now.asked.now.budget ≤ MOST_WORDS }
     requires fits { IsWithin body.now }
-    requires fronts { AreSoundFronts fronts.items }
 {
     let mut fronts = fronts;
     while let Some(here) = fronts.pop() {
@@ -382,9 +352,7 @@ fn stop_at<E: Entries>(
     fault: Option<RecipeFault>,
     here: &[Hull],
 ) -> Result<Option<(Written, Goal)>, Unfound>
-    requires entries { IsSomeCertificate (E.list search.now.entries.now) }
     requires fits { PieceFits piece.now.kind }
-    requires here { AreSoundHulls here.now }
 {
     match (*search.stop, fault) {
         (Stop::Fault, Some(fault)) => {
@@ -406,7 +374,7 @@ fn stop_at<E: Entries>(
 }
 
 /// Finds the first place in a row at which to stop, as `find_in` does.
-#[tactic(auto, using(crate::proofs::Sounds::fronts_none, crate::proofs::Sounds::piece_at))]
+#[tactic(auto, using(crate::proofs::Sounds::piece_at))]
 #[inline(never)]
 fn find_in_row<E: Entries>(
     row: &[Piece],
@@ -415,12 +383,7 @@ fn find_in_row<E: Entries>(
     trail: &mut Trail,
     next: &mut Vec<Hull>,
 ) -> Result<bool, Unfound>
-    requires entries { IsSomeCertificate (E.list search.now.entries.now) }
-    requires budget { search.now.asked.now.budget ≤ MOST_WORDS }
     requires fits { RowFits row.now }
-    requires here { AreSoundHulls here.now }
-    requires next { AreSoundHulls next.old.items }
-    ensures { IfOk result (λ _. AreSoundHulls next.new.items) }
 {
     let alloc = search.alloc;
     let mut fronts = Vec::new(alloc);
@@ -442,7 +405,7 @@ fn find_in_row<E: Entries>(
             row_back(search, row, fronts, trail)?;
             return Ok(true);
         }
-        keep(&mut fronts, here)?;
+        fronts.push(here)?;
         here = behind;
     }
     add_all(next, &here)?;
@@ -452,7 +415,6 @@ fn find_in_row<E: Entries>(
 /// Finds the first place in a part, in the order of reading with repeats written out, at which to stop, and answers whether there is one:
 /// then the items of the part up to there are added in front of all others, and items of what follows in the part behind all others. Else
 /// the hulls behind the part are added to `next`.
-#[tactic(auto, using(crate::proofs::Sounds::none_sound))]
 #[cycle(find_in)]
 fn find_in<E: Entries>(
     part: &Part,
@@ -461,12 +423,7 @@ fn find_in<E: Entries>(
     trail: &mut Trail,
     next: &mut Vec<Hull>,
 ) -> Result<bool, Unfound>
-    requires entries { IsSomeCertificate (E.list search.now.entries.now) }
-    requires budget { search.now.asked.now.budget ≤ MOST_WORDS }
     requires fits { IsWithin part.now }
-    requires here { AreSoundHulls here.now }
-    requires next { AreSoundHulls next.old.items }
-    ensures { IfOk result (λ _. AreSoundHulls next.new.items) }
 {
     match part {
         Part::Row(row) => find_in_row(row, search, here, trail, next),
@@ -495,7 +452,6 @@ fn find_in<E: Entries>(
 }
 
 /// Finds the first place in the turns of a part at which to stop, as `find_in` does.
-#[tactic(auto, using(crate::proofs::Sounds::fronts_none, crate::proofs::Sounds::none_sound))]
 #[cycle(find_in)]
 #[inline(never)]
 fn find_in_turns<E: Entries>(
@@ -506,12 +462,7 @@ fn find_in_turns<E: Entries>(
     trail: &mut Trail,
     next: &mut Vec<Hull>,
 ) -> Result<bool, Unfound>
-    requires entries { IsSomeCertificate (E.list search.now.entries.now) }
-    requires budget { search.now.asked.now.budget ≤ MOST_WORDS }
     requires fits { IsWithin body.now }
-    requires here { AreSoundHulls here.now }
-    requires next { AreSoundHulls next.old.items }
-    ensures { IfOk result (λ _. AreSoundHulls next.new.items) }
 {
     let (least, most) = turns;
     let mut fronts = Vec::new(search.alloc);
@@ -527,7 +478,7 @@ fn find_in_turns<E: Entries>(
             turns_back(body, search, fronts, trail)?;
             return Ok(true);
         }
-        keep(&mut fronts, here)?;
+        fronts.push(here)?;
         here = behind;
     }
     add_all(next, &here)?;
@@ -542,12 +493,7 @@ fn find_in_jump<E: Entries>(
     trail: &mut Trail,
     next: &mut Vec<Hull>,
 ) -> Result<bool, Unfound>
-    requires entries { IsSomeCertificate (E.list search.now.entries.now) }
-    requires budget { search.now.asked.now.budget ≤ MOST_WORDS }
     requires fits { IsWithin jump.now.body }
-    requires here { AreSoundHulls here.now }
-    requires next { AreSoundHulls next.old.items }
-    ensures { IfOk result (λ _. AreSoundHulls next.new.items) }
 {
     let mut notes = Notes::new(search.alloc);
     let number = Some(jump.number);
@@ -567,17 +513,13 @@ fn find_in_jump<E: Entries>(
 
 /// Adds jumps, with items of what stands behind each, that lead to the goal, in front of all others. `fronts` are the hulls before each
 /// jump.
-#[tactic(auto, using(crate::proofs::Sounds::fronts_last, crate::proofs::Sounds::fronts_rest))]
 fn jumps_back<E: Entries>(
     jumps: &[Jump],
     search: &Search<E>,
     fronts: Vec<Vec<Hull>>,
     trail: &mut Trail,
 ) -> Result<(), Unfound>
-    requires entries { IsSomeCertificate (E.list search.now.entries.now) }
-    requires budget { search.now.asked.now.budget ≤ MOST_WORDS }
     requires fits { AreWithin jumps.now }
-    requires fronts { AreSoundFronts fronts.items }
 {
     let mut fronts = fronts;
     while let Some(here) = fronts.pop() {
@@ -594,9 +536,7 @@ fn jumps_back<E: Entries>(
 }
 
 /// What all items up to the HALT have to lead to.
-fn end_goal(asked: &Asked, stop: &Stop, here: &[Hull]) -> Option<Goal>
-    requires here { AreSoundHulls here.now }
-{
+fn end_goal(asked: &Asked, stop: &Stop, here: &[Hull]) -> Option<Goal> {
     match *stop {
         Stop::MostDepth => most_depth(here),
         Stop::MostWords => most_words(here),
@@ -613,17 +553,13 @@ fn end_goal(asked: &Asked, stop: &Stop, here: &[Hull]) -> Option<Goal>
 
 /// Finds the place at which to stop in jumps, in what stands behind each, or at the HALT, and adds items that lead there from the first
 /// jump on.
-#[tactic(auto, using(crate::proofs::Sounds::fronts_none, crate::proofs::Sounds::none_sound))]
 fn find_in_jumps<E: Entries>(
     jumps: &[Jump],
     search: &Search<E>,
     here: Vec<Hull>,
     trail: &mut Trail,
 ) -> Result<(), Unfound>
-    requires entries { IsSomeCertificate (E.list search.now.entries.now) }
-    requires budget { search.now.asked.now.budget ≤ MOST_WORDS }
     requires fits { AreWithin jumps.now }
-    requires here { AreSoundHulls here.items }
 {
     let mut fronts = Vec::new(search.alloc);
     let mut here = here;
@@ -633,7 +569,7 @@ fn find_in_jumps<E: Entries>(
             trail.push_jumps(&jumps[index + 1..])?;
             return jumps_back(jumps, search, fronts, trail);
         }
-        keep(&mut fronts, here)?;
+        fronts.push(here)?;
         here = next;
     }
     trail.goal = end_goal(search.asked, search.stop, &here).ok_or(Unfound::NoFrame)?;
@@ -641,15 +577,11 @@ fn find_in_jumps<E: Entries>(
 }
 
 /// Finds the place at which to stop in what stands in lists and behind them, and adds items that lead there from the list on.
-#[tactic(auto, using(crate::proofs::Sounds::none_sound))]
 fn find_in_recipe<E: Entries>(
     search: &Search<E>,
     recipe: &Recipe,
     trail: &mut Trail,
-) -> Result<(), Unfound>
-    requires entries { IsSomeCertificate (E.list search.now.entries.now) }
-    requires budget { search.now.asked.now.budget ≤ MOST_WORDS }
-{
+) -> Result<(), Unfound> {
     let alloc = search.alloc;
     let mut notes = Notes::new(alloc);
     let first = starts(alloc, search.asked, &mut notes, recipe.lists())?;
@@ -693,10 +625,7 @@ fn find_words<E: Entries>(
     rom: &RomImage,
     search: &Search<E>,
     recipe: &Recipe,
-) -> Result<LeadingFrame, Unfound>
-    requires entries { IsSomeCertificate (E.list search.now.entries.now) }
-    requires budget { search.now.asked.now.budget ≤ MOST_WORDS }
-{
+) -> Result<LeadingFrame, Unfound> {
     let mut trail = Trail::new(search.alloc);
     find_in_recipe(search, recipe, &mut trail)?;
     let Some(first) = list_of(recipe.lists(), &trail.goal) else {
@@ -720,7 +649,6 @@ pub fn find<E: Entries>(
     recipe: &Recipe,
 ) -> Result<Option<LeadingFrame>, AllocError>
     requires entries { IsSomeCertificate (E.list entries.now) }
-    requires budget { asked.now.budget ≤ MOST_WORDS }
 {
     let search = Search {
         alloc,

@@ -4,9 +4,7 @@ use crate::escaping::{escaped, marked, shown};
 use crate::form::Form;
 use crate::input::Input;
 use crate::labels::{LabelsFault, load_labels};
-use crate::options::Told;
-use crate::recipe_arguments::{BelongsArgs, RecipeArgs, belongs_args, recipe_args};
-use crate::subcommand::{Subcommand, Task, Verb, command};
+use crate::subcommand::{Task, Verb, command, task_named};
 use clap::ArgMatches;
 use clap::error::ErrorKind;
 use dvg_cmd::{
@@ -15,6 +13,7 @@ use dvg_cmd::{
     Remarking, RomMap, RootFault, Rule, SCREEN, Timing, Unnamed, Window, limit_of, map_of,
     record_length_of, root_by, rule_of, start_of, window_of,
 };
+use dvg_recipe_cmd::{RecipeAsked, RecipeOptions};
 use std::alloc::{AllocError, AllocFailed, Global};
 use std::{env, io};
 
@@ -86,31 +85,6 @@ impl<'a> From<AllocError> for Usage<'a> {
     }
 }
 
-/// What the command line asks for.
-#[derive(Drop)]
-pub enum Request<'a> {
-    /// `frames`, or `explain frames`.
-    Frames(FramesArgs<'a>),
-    /// `check`, or `explain check`.
-    Check(CheckArgs<'a>, Detail<'a>),
-    Make(MakeArgs<'a>),
-    /// `places`, with what may be lit.
-    Places(MakeArgs<'a>, Window),
-    /// `diff`, with the other ROM.
-    Diff(MakeArgs<'a>, Input<'a>),
-    /// `explain diff`.
-    ExplainDiff(DumpArgs<'a>),
-    /// `explain make`.
-    ExplainMake(MakeArgs<'a>),
-    Recipe(RecipeArgs<'a>),
-    /// `recipe --print` with the labels.
-    Print(Named<'a>, Option<&'a Labels>),
-    /// `belongs`, or `explain belongs`.
-    Belongs(BelongsArgs<'a>),
-    /// `rules` with the rule of this number, or with all rules.
-    Rules(Option<Rule>),
-}
-
 /// A file to read, and its name as lines show it.
 #[derive(Drop)]
 pub struct Named<'a> {
@@ -176,27 +150,14 @@ pub fn listing_by<'a>(
     wanted: Listing<Wanted<'a>>,
     remarking: &'a Remarking<'a>,
 ) -> Listing<FrameDetail<'a>> {
-    let Listing {
-        detail,
-        lines,
-        summary,
-    } = wanted;
-    let detail = match detail {
-        Wanted::Answer(detail) => FrameDetail::Answer(detail),
-        Wanted::Remarks(_) => FrameDetail::Remarks(remarking),
-    };
     Listing {
-        detail,
-        lines,
-        summary,
+        detail: match wanted.detail {
+            Wanted::Answer(detail) => FrameDetail::Answer(detail),
+            Wanted::Remarks(_) => FrameDetail::Remarks(remarking),
+        },
+        lines: wanted.lines,
+        summary: wanted.summary,
     }
-}
-
-/// The arguments of `frames`.
-#[derive(Drop)]
-pub struct FramesArgs<'a> {
-    pub frames: FrameNames<'a>,
-    pub asked: Asked<'a>,
 }
 
 /// The arguments of `check`.
@@ -208,7 +169,7 @@ pub struct CheckArgs<'a> {
     pub options: CheckOptions,
 }
 
-/// The arguments of `make` and of `explain make`, and those that `places` and `diff` have in common with them.
+/// The arguments of `make`, and those that `places` and `diff` have in common with it.
 #[derive(Drop)]
 pub struct MakeArgs<'a> {
     pub machine: Machine,
@@ -221,8 +182,8 @@ pub struct MakeArgs<'a> {
     pub labels: Option<&'a Labels>,
 }
 
-/// The arguments of `explain diff`.
-#[derive(Drop)]
+/// The arguments of `explain diff`: both dumps, the good one first.
+#[derive(Clone, Copy)]
 pub struct DumpArgs<'a> {
     pub rom: Input<'a>,
     pub other: Input<'a>,
@@ -230,50 +191,369 @@ pub struct DumpArgs<'a> {
     pub labels: Option<&'a Labels>,
 }
 
-/// The arguments of the command line, the program's name first.
-pub fn arguments(rt: &HostRuntime) -> Result<Vec<String>, Usage<'static>> {
+/// The arguments of `recipe`, where recipes are judged.
+#[derive(Drop)]
+pub struct RecipeArgs<'a> {
+    pub rom: Input<'a>,
+    pub recipes: Vec<Named<'a>>,
+    pub asked: RecipeAsked,
+    /// What names of recipes may stand for, besides those that they define.
+    pub labels: Option<&'a Labels>,
+    /// What is written of each recipe.
+    pub detail: Detail<'a>,
+    /// The path of the file for a frame that shows why the recipe is refused.
+    pub output: Option<&'a str>,
+}
+
+/// What `belongs` asks of frames, whatever frames they are, and what is written of them.
+#[derive(Clone, Copy)]
+pub struct BelongsAsked<'a> {
+    pub rom: Input<'a>,
+    pub map: RomMap,
+    pub recipe: Input<'a>,
+    /// What names of the recipe may stand for, besides those that it defines.
+    pub labels: Option<&'a Labels>,
+    pub listing: Listing<Detail<'a>>,
+}
+
+/// The words of the command line, the program's name first.
+pub fn words(rt: &HostRuntime) -> Result<Vec<String>, Usage<'static>> {
     match env::args(rt) {
-        Ok(arguments) => Ok(arguments.collect(rt.alloc())?),
+        Ok(words) => Ok(words.collect(rt.alloc())?),
         Err(error) if error.kind() == io::ErrorKind::OutOfMemory => Err(Usage::OutOfMemory),
         Err(_) => Err(Usage::Argument(ArgumentFault::Unreadable)),
     }
 }
 
-/// The arguments of `make`, of `explain make` and of `places` that name files to read.
-const MAKER_FILES: [&str; 3] = ["ROM", "frame", "labels"];
+/// The arguments that name files to read.
+const FILES: [&str; 10] = [
+    "ROM", "OTHER", "CERT", "RECIPE", "FRAME", "frame", "cert", "list", "labels", "print",
+];
 
 /// How many words a frame may take if `--budget` does not say.
 const USUAL_BUDGET: u32 = 20_000;
 
-fn machine_of_args<'a>(args: &ArgMatches<'a>) -> Machine {
-    if args.get_flag("board") {
-        Machine::Board
-    } else {
-        Machine::Profile
-    }
+/// What the command line asks for: a task, with `explain` before it or without, and its arguments as `clap` takes them. An argument that
+/// the task does not take was not given.
+#[derive(Drop)]
+pub struct Arguments<'a> {
+    pub verb: Verb,
+    pub task: Task,
+    matches: ArgMatches<'a>,
+    labels: Option<&'a Labels>,
 }
 
-/// What may be lit: the zone that a board clips, or the window that is given.
-pub fn window_of_args<'a>(args: &ArgMatches<'a>) -> Result<Window, ArgumentFault<'a>> {
-    if args.get_flag("clip") {
-        return Ok(CLIPPED);
+impl<'a> Arguments<'a> {
+    /// What `clap` makes of the words.
+    pub fn parsed(alloc: Global, words: &'a [String]) -> Result<Arguments<'a>, Usage<'a>> {
+        let Some((verb, task, rest)) = task_named(words) else {
+            return Err(refused(alloc, words)?);
+        };
+        match task
+            .command_for(alloc, verb, rest)?
+            .try_get_matches_from(rest)
+        {
+            Ok(matches) => Ok(Arguments {
+                verb,
+                task,
+                matches,
+                labels: None,
+            }),
+            Err(error) if error.kind() == ErrorKind::OutOfMemory => Err(Usage::OutOfMemory),
+            Err(_) => Err(refused(alloc, words)?),
+        }
     }
-    match args.get_str("window") {
-        Some(window) => window_of(window).ok_or(ArgumentFault::Word(Form::Window, window)),
-        None => Ok(SCREEN),
+
+    /// The labels of the file that is given. It is read and closed before another is opened, since roots and starts may be named by them.
+    pub fn load_labels(&self, rt: &HostRuntime) -> Result<Option<Labels>, LabelsFault> {
+        match self.matches.get_str("labels") {
+            Some(path) => Ok(Some(load_labels(rt, Input::named(rt, path))?)),
+            None => Ok(None),
+        }
     }
-}
 
-/// How many words a frame may take at most: what `--budget` says, or the usual number.
-pub fn budget_of_args<'a>(args: &ArgMatches<'a>) -> u32 {
-    args.get_one::<u32>("budget").unwrap_or(USUAL_BUDGET)
-}
+    /// The same arguments, with these labels.
+    pub fn with_labels(self, labels: Option<&'a Labels>) -> Arguments<'a> {
+        Arguments {
+            verb: self.verb,
+            task: self.task,
+            matches: self.matches,
+            labels,
+        }
+    }
 
-/// Where the ROM lies: what `--rom` says, or where the ROM of Asteroids lies.
-pub fn map_of_args<'a>(args: &ArgMatches<'a>) -> Result<RomMap, ArgumentFault<'a>> {
-    match args.get_str("rom") {
-        Some(map) => map_of(map).ok_or(ArgumentFault::Word(Form::Map, map)),
-        None => Ok(ASTEROIDS),
+    /// What is written of an answer.
+    fn detail(&self) -> Detail<'a> {
+        match self.verb {
+            Verb::Print => Detail::Line,
+            Verb::Explain => Detail::Account(self.labels),
+        }
+    }
+
+    fn machine(&self) -> Machine {
+        if self.matches.get_flag("board") {
+            Machine::Board
+        } else {
+            Machine::Profile
+        }
+    }
+
+    /// What may be lit: the zone that a board clips, or the window that is given.
+    pub fn window(&self) -> Result<Window, ArgumentFault<'a>> {
+        if self.matches.get_flag("clip") {
+            return Ok(CLIPPED);
+        }
+        match self.matches.get_str("window") {
+            Some(word) => window_of(word).ok_or(ArgumentFault::Word(Form::Window, word)),
+            None => Ok(SCREEN),
+        }
+    }
+
+    /// How many words a frame may take at most: what `--budget` says, or the usual number.
+    fn budget(&self) -> u32 {
+        self.matches
+            .get_one::<u32>("budget")
+            .unwrap_or(USUAL_BUDGET)
+    }
+
+    /// Where the ROM lies: what `--rom` says, or where the ROM of Asteroids lies.
+    pub fn map(&self) -> Result<RomMap, ArgumentFault<'a>> {
+        match self.matches.get_str("rom") {
+            Some(word) => map_of(word).ok_or(ArgumentFault::Word(Form::Map, word)),
+            None => Ok(ASTEROIDS),
+        }
+    }
+
+    fn start(&self) -> Result<Option<u16>, ArgumentFault<'a>> {
+        match self.matches.get_str("start") {
+            Some(word) => Ok(Some(start_of_word(word, self.labels)?)),
+            None => Ok(None),
+        }
+    }
+
+    /// What is asked of the clocks of frames, if anything is.
+    fn clocks(&self) -> Result<Option<ClockOptions>, ArgumentFault<'a>> {
+        let line = if self.matches.get_flag("clocks") {
+            LineClocks::Told
+        } else {
+            LineClocks::LeftOut
+        };
+        let limit = match (self.matches.get_str("within"), line) {
+            (Some(word), _) => limit_of(word).ok_or(ArgumentFault::Word(Form::Within, word))?,
+            (None, LineClocks::Told) => u64::MAX,
+            (None, LineClocks::LeftOut) => return Ok(None),
+        };
+        let timing = Timing {
+            states: DVG_STATES,
+            limit,
+        };
+        Ok(Some(ClockOptions { timing, line }))
+    }
+
+    /// The file that this argument names.
+    pub fn file(&self, rt: &HostRuntime, name: &str) -> Input<'a> {
+        Input::named(rt, self.matches.get_str(name).unwrap_or(""))
+    }
+
+    /// The files that this argument names, each with the name that lines show.
+    fn files(&self, rt: &HostRuntime, name: &str) -> Result<Vec<Named<'a>>, Usage<'a>> {
+        let mut files = Vec::new(rt.alloc());
+        for path in self.matches.get_strs(name).unwrap_or(&[]) {
+            let input = Input::named(rt, path);
+            let name = shown(rt.alloc(), path)?;
+            files.push(Named { input, name })?;
+        }
+        Ok(files)
+    }
+
+    /// Refuses arguments if more than one of the files that they name is standard input.
+    fn one_standard_input(&self) -> Result<(), ArgumentFault<'a>> {
+        let mut given = 0usize;
+        for name in FILES {
+            let files = self.matches.get_strs(name).unwrap_or(&[]);
+            given = given.saturating_add(files.iter().filter(|path| **path == "-").count());
+        }
+        if given > 1 {
+            return Err(ArgumentFault::StandardInputTwice);
+        }
+        Ok(())
+    }
+
+    /// The frames that the arguments name.
+    fn frame_names(&self, rt: &HostRuntime) -> Result<FrameNames<'a>, Usage<'a>> {
+        if let Some(word) = self.matches.get_str("records") {
+            let fault = ArgumentFault::Word(Form::Records, word);
+            let length = record_length_of(word).ok_or(fault)?;
+            return Ok(FrameNames::Records(self.files(rt, "FRAME")?, length));
+        }
+        let Some(list) = self.matches.get_str("list") else {
+            return Ok(FrameNames::Given(self.files(rt, "FRAME")?));
+        };
+        let end = if self.matches.get_flag("null") {
+            NameEnd::Nul
+        } else {
+            NameEnd::Line
+        };
+        Ok(FrameNames::Listed(Input::named(rt, list), end))
+    }
+
+    /// What is written of frames, with this detail. `only_bad` is the option that leaves out the lines of the good ones.
+    fn listing<D>(&self, detail: D, only_bad: &str) -> Listing<D> {
+        Listing {
+            detail,
+            lines: if self.matches.get_flag(only_bad) {
+                Lines::NotAccepted
+            } else {
+                Lines::All
+            },
+            summary: self.matches.get_flag("summary"),
+        }
+    }
+
+    /// What `frames` asks of which frames.
+    pub fn frames(&self, rt: &HostRuntime) -> Result<(FrameNames<'a>, Asked<'a>), Usage<'a>> {
+        self.one_standard_input()?;
+        let map = self.map()?;
+        let window = self.window()?;
+        let options = FrameOptions {
+            machine: self.machine(),
+            start: self.start()?,
+            budget: self.budget(),
+            window,
+        };
+        let certificates = match self.matches.get_str("cert") {
+            Some(cert) => Certificates::Given(Input::named(rt, cert)),
+            None => Certificates::Made(map, self.clocks()?),
+        };
+        let wanted = if self.matches.get_flag("remarks") {
+            Wanted::Remarks(self.labels)
+        } else {
+            Wanted::Answer(self.detail())
+        };
+        let asked = Asked {
+            rom: self.file(rt, "ROM"),
+            certificates,
+            options,
+            listing: self.listing(wanted, "only-refused"),
+        };
+        Ok((self.frame_names(rt)?, asked))
+    }
+
+    /// What `check` asks for, and what is written of the answer.
+    pub fn check(&self, rt: &HostRuntime) -> Result<(CheckArgs<'a>, Detail<'a>), Usage<'a>> {
+        self.one_standard_input()?;
+        let args = CheckArgs {
+            rom: self.file(rt, "ROM"),
+            cert: self.file(rt, "CERT"),
+            frame: self.file(rt, "FRAME"),
+            options: CheckOptions {
+                machine: self.machine(),
+                budget: self.budget(),
+                window: self.window()?,
+                mode: if self.matches.get_flag("exact") {
+                    Mode::Exact
+                } else {
+                    Mode::Bound
+                },
+            },
+        };
+        Ok((args, self.detail()))
+    }
+
+    /// What `make` asks for, by these labels.
+    pub fn make(&self, rt: &HostRuntime) -> Result<MakeArgs<'a>, Usage<'a>> {
+        let words = self.matches.get_strs("ROOT").unwrap_or(&[]);
+        if words.is_empty() && !self.matches.contains_id("frame") {
+            return Err(Usage::Argument(ArgumentFault::NoRoot));
+        }
+        self.one_standard_input()?;
+        let map = self.map()?;
+        let mut roots = Vec::new(rt.alloc());
+        for word in words {
+            roots.push(root_of_word(word, self.labels)?)?;
+        }
+        Ok(MakeArgs {
+            machine: self.machine(),
+            rom: self.file(rt, "ROM"),
+            map,
+            roots,
+            frames: self.files(rt, "frame")?,
+            output: self.matches.get_str("output").filter(|path| *path != "-"),
+            labels: self.labels,
+        })
+    }
+
+    /// What `explain diff` asks for.
+    pub fn dumps(&self, rt: &HostRuntime) -> Result<DumpArgs<'a>, Usage<'a>> {
+        self.one_standard_input()?;
+        Ok(DumpArgs {
+            rom: self.file(rt, "ROM"),
+            other: self.file(rt, "OTHER"),
+            map: self.map()?,
+            labels: self.labels,
+        })
+    }
+
+    /// The recipe that `recipe` is to print, and the labels that its names may stand for, if it is to print one.
+    pub fn printed(
+        &self,
+        rt: &HostRuntime,
+    ) -> Result<Option<(Named<'a>, Option<&'a Labels>)>, Usage<'a>> {
+        self.one_standard_input()?;
+        let recipe = self.files(rt, "print")?.pop();
+        Ok(recipe.map(|recipe| (recipe, self.labels)))
+    }
+
+    /// What `recipe` asks for, where recipes are judged.
+    pub fn recipes(&self, rt: &HostRuntime) -> Result<RecipeArgs<'a>, Usage<'a>> {
+        let asked = RecipeAsked {
+            options: RecipeOptions {
+                map: self.map()?,
+                budget: self.budget(),
+                window: self.window()?,
+            },
+            clocks: self.clocks()?,
+        };
+        let recipes = self.files(rt, "RECIPE")?;
+        let output = match self.matches.get_str("output") {
+            Some("-") => return Err(Usage::Argument(ArgumentFault::OutputStandard)),
+            Some(_) if recipes.len() > 1 => {
+                return Err(Usage::Argument(ArgumentFault::SeveralRecipes));
+            }
+            path => path,
+        };
+        Ok(RecipeArgs {
+            rom: self.file(rt, "ROM"),
+            recipes,
+            asked,
+            labels: self.labels,
+            detail: self.detail(),
+            output,
+        })
+    }
+
+    /// What `belongs` asks of which frames.
+    pub fn belongs(
+        &self,
+        rt: &HostRuntime,
+    ) -> Result<(FrameNames<'a>, BelongsAsked<'a>), Usage<'a>> {
+        self.one_standard_input()?;
+        let asked = BelongsAsked {
+            rom: self.file(rt, "ROM"),
+            map: self.map()?,
+            recipe: self.file(rt, "RECIPE"),
+            labels: self.labels,
+            listing: self.listing(self.detail(), "only-outside"),
+        };
+        Ok((self.frame_names(rt)?, asked))
+    }
+
+    /// The rule that `rules` is to tell of, or `None` for all rules.
+    pub fn rule(&self) -> Result<Option<Rule>, ArgumentFault<'a>> {
+        match self.matches.get_one::<u8>("NN") {
+            Some(number) => Ok(Some(rule_of(number).ok_or(ArgumentFault::Number)?)),
+            None => Ok(None),
+        }
     }
 }
 
@@ -292,205 +572,6 @@ fn start_of_word<'a>(word: &'a str, labels: Option<&Labels>) -> Result<u16, Argu
     }
 }
 
-fn start_of_args<'a>(
-    args: &ArgMatches<'a>,
-    labels: Option<&Labels>,
-) -> Result<Option<u16>, ArgumentFault<'a>> {
-    match args.get_str("start") {
-        Some(start) => Ok(Some(start_of_word(start, labels)?)),
-        None => Ok(None),
-    }
-}
-
-/// The file that this argument names.
-pub fn file_of<'a>(rt: &HostRuntime, args: &ArgMatches<'a>, name: &str) -> Input<'a> {
-    Input::named(rt, args.get_str(name).unwrap_or(""))
-}
-
-/// The files that this argument names, each with the name that lines show.
-pub fn files_of<'a>(
-    rt: &HostRuntime,
-    args: &ArgMatches<'a>,
-    name: &str,
-) -> Result<Vec<Named<'a>>, Usage<'a>> {
-    let mut files = Vec::new(rt.alloc());
-    for path in args.get_strs(name).unwrap_or(&[]) {
-        let input = Input::named(rt, path);
-        let name = shown(rt.alloc(), path)?;
-        files.push(Named { input, name })?;
-    }
-    Ok(files)
-}
-
-/// How many of the files that this argument names are standard input.
-fn standard_inputs<'a>(args: &ArgMatches<'a>, name: &str) -> usize {
-    let files = args.get_strs(name).unwrap_or(&[]);
-    files.iter().filter(|path| **path == "-").count()
-}
-
-/// Refuses arguments if more than one of the files that they name is standard input.
-pub fn one_standard_input<'a>(
-    args: &ArgMatches<'a>,
-    names: &[&str],
-) -> Result<(), ArgumentFault<'a>> {
-    let mut given = 0usize;
-    for name in names {
-        given = given.saturating_add(standard_inputs(args, name));
-    }
-    if given > 1 {
-        return Err(ArgumentFault::StandardInputTwice);
-    }
-    Ok(())
-}
-
-/// The options of `frames`, and where the ROM lies.
-fn frame_options<'a>(
-    args: &ArgMatches<'a>,
-    labels: Option<&Labels>,
-) -> Result<(RomMap, FrameOptions), ArgumentFault<'a>> {
-    one_standard_input(args, &["ROM", "FRAME", "list", "cert", "labels"])?;
-    let map = map_of_args(args)?;
-    let window = window_of_args(args)?;
-    let start = start_of_args(args, labels)?;
-    let budget = budget_of_args(args);
-    Ok((
-        map,
-        FrameOptions {
-            machine: machine_of_args(args),
-            start,
-            budget,
-            window,
-        },
-    ))
-}
-
-/// What is asked of the clocks of frames, if anything is.
-pub fn clocks_of_args<'a>(
-    args: &ArgMatches<'a>,
-) -> Result<Option<ClockOptions>, ArgumentFault<'a>> {
-    let told = args.get_flag("clocks");
-    let limit = match args.get_str("within") {
-        Some(word) => limit_of(word).ok_or(ArgumentFault::Word(Form::Within, word))?,
-        None if told => u64::MAX,
-        None => return Ok(None),
-    };
-    Ok(Some(ClockOptions {
-        timing: Timing {
-            states: DVG_STATES,
-            limit,
-        },
-        line: if told {
-            LineClocks::Told
-        } else {
-            LineClocks::LeftOut
-        },
-    }))
-}
-
-/// How long the records are that frames are, if they are records.
-fn record_length_of_args<'a>(
-    args: &ArgMatches<'a>,
-) -> Result<Option<RecordLength>, ArgumentFault<'a>> {
-    match args.get_str("records") {
-        Some(word) => match record_length_of(word) {
-            Some(length) => Ok(Some(length)),
-            None => Err(ArgumentFault::Word(Form::Records, word)),
-        },
-        None => Ok(None),
-    }
-}
-
-/// The frames that the arguments name.
-pub fn frame_names<'a>(
-    rt: &HostRuntime,
-    args: &ArgMatches<'a>,
-) -> Result<FrameNames<'a>, Usage<'a>> {
-    if let Some(length) = record_length_of_args(args)? {
-        return Ok(FrameNames::Records(files_of(rt, args, "FRAME")?, length));
-    }
-    let Some(list) = args.get_str("list") else {
-        return Ok(FrameNames::Given(files_of(rt, args, "FRAME")?));
-    };
-    let end = if args.get_flag("null") {
-        NameEnd::Nul
-    } else {
-        NameEnd::Line
-    };
-    Ok(FrameNames::Listed(Input::named(rt, list), end))
-}
-
-/// What `frames`, `belongs` and `explain frames` write of frames, with this detail. `only_bad` is the option that leaves out the lines of
-/// the good ones.
-fn listing_of_args<'a, D>(args: &ArgMatches<'a>, detail: D, only_bad: &str) -> Listing<D> {
-    Listing {
-        detail,
-        lines: if args.get_flag(only_bad) {
-            Lines::NotAccepted
-        } else {
-            Lines::All
-        },
-        summary: args.get_flag("summary"),
-    }
-}
-
-/// What `explain belongs` writes of a frame.
-fn explained(labels: Option<&Labels>) -> Listing<Detail<'_>> {
-    Listing {
-        detail: Detail::Account(labels),
-        lines: Lines::All,
-        summary: false,
-    }
-}
-
-fn frames_args<'a>(
-    rt: &HostRuntime,
-    args: &ArgMatches<'a>,
-    detail: Wanted<'a>,
-    labels: Option<&Labels>,
-) -> Result<FramesArgs<'a>, Usage<'a>> {
-    let (map, options) = frame_options(args, labels)?;
-    let certificates = match args.get_str("cert") {
-        Some(cert) => Certificates::Given(Input::named(rt, cert)),
-        None => Certificates::Made(map, clocks_of_args(args)?),
-    };
-    Ok(FramesArgs {
-        frames: frame_names(rt, args)?,
-        asked: Asked {
-            rom: file_of(rt, args, "ROM"),
-            certificates,
-            options,
-            listing: listing_of_args(args, detail, "only-refused"),
-        },
-    })
-}
-
-fn check_options<'a>(args: &ArgMatches<'a>) -> Result<CheckOptions, ArgumentFault<'a>> {
-    Ok(CheckOptions {
-        machine: machine_of_args(args),
-        budget: budget_of_args(args),
-        window: window_of_args(args)?,
-        mode: if args.get_flag("exact") {
-            Mode::Exact
-        } else {
-            Mode::Bound
-        },
-    })
-}
-
-fn check_args<'a>(
-    rt: &HostRuntime,
-    args: &ArgMatches<'a>,
-    files: &[&str],
-) -> Result<CheckArgs<'a>, Usage<'a>> {
-    one_standard_input(args, files)?;
-    Ok(CheckArgs {
-        rom: file_of(rt, args, "ROM"),
-        cert: file_of(rt, args, "CERT"),
-        frame: file_of(rt, args, "FRAME"),
-        options: check_options(args)?,
-    })
-}
-
 /// The root that a word spells, by these labels, if there are any.
 fn root_of_word<'a>(
     word: &'a str,
@@ -503,203 +584,13 @@ fn root_of_word<'a>(
     }
 }
 
-/// The roots that the argument names.
-fn roots_of<'a>(
-    alloc: Global,
-    args: &ArgMatches<'a>,
-    labels: Option<&Labels>,
-) -> Result<Vec<(u16, Key)>, Usage<'a>> {
-    let mut roots = Vec::new(alloc);
-    for root in args.get_strs("ROOT").unwrap_or(&[]) {
-        roots.push(root_of_word(root, labels)?)?;
-    }
-    Ok(roots)
-}
-
-/// The path of the file for the certificate, or `None` for standard output.
-fn output_of<'a>(args: &ArgMatches<'a>) -> Option<&'a str> {
-    match args.get_str("output") {
-        Some("-") | None => None,
-        Some(path) => Some(path),
-    }
-}
-
-/// The arguments of `make`, whose certificate goes to this path. These are the arguments that name files.
-fn make_args<'a>(
-    rt: &HostRuntime,
-    args: &ArgMatches<'a>,
-    files: &[&str],
-    output: Option<&'a str>,
-    labels: Option<&'a Labels>,
-) -> Result<MakeArgs<'a>, Usage<'a>> {
-    if !args.contains_id("ROOT") && !args.contains_id("frame") {
-        return Err(Usage::Argument(ArgumentFault::NoRoot));
-    }
-    one_standard_input(args, files)?;
-    let map = map_of_args(args)?;
-    Ok(MakeArgs {
-        machine: machine_of_args(args),
-        rom: file_of(rt, args, "ROM"),
-        map,
-        roots: roots_of(rt.alloc(), args, labels)?,
-        frames: files_of(rt, args, "frame")?,
-        output,
-        labels,
-    })
-}
-
-fn dump_args<'a>(
-    rt: &HostRuntime,
-    args: &ArgMatches<'a>,
-    labels: Option<&'a Labels>,
-) -> Result<DumpArgs<'a>, Usage<'a>> {
-    one_standard_input(args, &["ROM", "OTHER", "labels"])?;
-    Ok(DumpArgs {
-        rom: file_of(rt, args, "ROM"),
-        other: file_of(rt, args, "OTHER"),
-        map: map_of_args(args)?,
-        labels,
-    })
-}
-
-fn rule_of_args<'a>(args: &ArgMatches<'a>) -> Result<Option<Rule>, ArgumentFault<'a>> {
-    match args.get_one::<u8>("NN") {
-        Some(number) => Ok(Some(rule_of(number).ok_or(ArgumentFault::Number)?)),
-        None => Ok(None),
-    }
-}
-
-/// What `frames` asks for, or `explain frames`.
-fn frames_request<'a>(
-    rt: &HostRuntime,
-    verb: Verb,
-    args: &ArgMatches<'a>,
-    labels: Option<&'a Labels>,
-) -> Result<Request<'a>, Usage<'a>> {
-    let wanted = match verb {
-        Verb::Explain => Wanted::Answer(Detail::Account(labels)),
-        Verb::Print if args.get_flag("remarks") => Wanted::Remarks(labels),
-        Verb::Print => Wanted::Answer(Detail::Line),
+/// What `clap` says of words that it refuses, or that ask for help or the version. It is given the marked words, which it refuses as
+/// well.
+fn refused<'a>(alloc: Global, words: &[String]) -> Result<Usage<'a>, AllocError> {
+    let marked = marked(alloc, words)?;
+    let Err(error) = command(alloc)?.try_get_matches_from(&marked) else {
+        return Ok(Usage::Argument(ArgumentFault::Unreadable));
     };
-    Ok(Request::Frames(frames_args(rt, args, wanted, labels)?))
-}
-
-/// What `check` asks for, or `explain check`.
-fn check_request<'a>(
-    rt: &HostRuntime,
-    verb: Verb,
-    args: &ArgMatches<'a>,
-    labels: Option<&'a Labels>,
-) -> Result<Request<'a>, Usage<'a>> {
-    match verb {
-        Verb::Print => {
-            let args = check_args(rt, args, &["ROM", "CERT", "FRAME"])?;
-            Ok(Request::Check(args, Detail::Line))
-        }
-        Verb::Explain => {
-            let args = check_args(rt, args, &["ROM", "CERT", "FRAME", "labels"])?;
-            Ok(Request::Check(args, Detail::Account(labels)))
-        }
-    }
-}
-
-/// What `make` asks for, or `explain make`.
-fn make_request<'a>(
-    rt: &HostRuntime,
-    verb: Verb,
-    args: &ArgMatches<'a>,
-    labels: Option<&'a Labels>,
-) -> Result<Request<'a>, Usage<'a>> {
-    match verb {
-        Verb::Print => {
-            let args = make_args(rt, args, &MAKER_FILES, output_of(args), labels)?;
-            Ok(Request::Make(args))
-        }
-        Verb::Explain => {
-            let args = make_args(rt, args, &MAKER_FILES, None, labels)?;
-            Ok(Request::ExplainMake(args))
-        }
-    }
-}
-
-/// What `diff` asks for, or `explain diff`.
-fn diff_request<'a>(
-    rt: &HostRuntime,
-    verb: Verb,
-    args: &ArgMatches<'a>,
-    labels: Option<&'a Labels>,
-) -> Result<Request<'a>, Usage<'a>> {
-    match verb {
-        Verb::Print => {
-            let files = ["ROM", "OTHER", "frame", "labels"];
-            let args_of_maker = make_args(rt, args, &files, None, labels)?;
-            Ok(Request::Diff(args_of_maker, file_of(rt, args, "OTHER")))
-        }
-        Verb::Explain => Ok(Request::ExplainDiff(dump_args(rt, args, labels)?)),
-    }
-}
-
-/// What `recipe` asks for, or `explain recipe`.
-fn recipe_request<'a>(
-    rt: &HostRuntime,
-    verb: Verb,
-    args: &ArgMatches<'a>,
-    labels: Option<&'a Labels>,
-) -> Result<Request<'a>, Usage<'a>> {
-    if let Verb::Explain = verb {
-        let args = recipe_args(rt, args, Detail::Account(labels), None, labels)?;
-        return Ok(Request::Recipe(args));
-    }
-    let Some(path) = args.get_str("print") else {
-        let output = args.get_str("output");
-        let args = recipe_args(rt, args, Detail::Line, output, labels)?;
-        return Ok(Request::Recipe(args));
-    };
-    one_standard_input(args, &["print", "labels"])?;
-    let input = Input::named(rt, path);
-    let name = shown(rt.alloc(), path)?;
-    Ok(Request::Print(Named { input, name }, labels))
-}
-
-/// What `belongs` asks for, or `explain belongs`.
-fn belongs_request<'a>(
-    rt: &HostRuntime,
-    verb: Verb,
-    args: &ArgMatches<'a>,
-    labels: Option<&'a Labels>,
-) -> Result<Request<'a>, Usage<'a>> {
-    let listing = match verb {
-        Verb::Print => listing_of_args(args, Detail::Line, "only-outside"),
-        Verb::Explain => explained(labels),
-    };
-    Ok(Request::Belongs(belongs_args(rt, args, listing, labels)?))
-}
-
-/// What a subcommand with these arguments asks for.
-fn request_of<'a>(
-    rt: &HostRuntime,
-    subcommand: Subcommand,
-    args: &ArgMatches<'a>,
-    labels: Option<&'a Labels>,
-) -> Result<Request<'a>, Usage<'a>> {
-    let verb = subcommand.verb;
-    match subcommand.task {
-        Task::Frames => frames_request(rt, verb, args, labels),
-        Task::Check => check_request(rt, verb, args, labels),
-        Task::Make => make_request(rt, verb, args, labels),
-        Task::Places => {
-            let args_of_maker = make_args(rt, args, &MAKER_FILES, None, labels)?;
-            Ok(Request::Places(args_of_maker, window_of_args(args)?))
-        }
-        Task::Diff => diff_request(rt, verb, args, labels),
-        Task::Recipe => recipe_request(rt, verb, args, labels),
-        Task::Belongs => belongs_request(rt, verb, args, labels),
-        Task::Rules => Ok(Request::Rules(rule_of_args(args)?)),
-    }
-}
-
-/// The text of this error, for the user.
-fn usage_of<'a>(alloc: Global, error: &clap::Error) -> Result<Usage<'a>, AllocError> {
     if error.kind() == ErrorKind::OutOfMemory {
         return Ok(Usage::OutOfMemory);
     }
@@ -709,93 +600,4 @@ fn usage_of<'a>(alloc: Global, error: &clap::Error) -> Result<Usage<'a>, AllocEr
     } else {
         Usage::Help(text)
     })
-}
-
-/// What `clap` says of arguments that it refuses, or that ask for help or the version. It is given the marked arguments, which it refuses
-/// as well.
-fn refused<'a>(alloc: Global, arguments: &[String]) -> Result<Usage<'a>, AllocError> {
-    let marked = marked(alloc, arguments)?;
-    match command(alloc)?.try_get_matches_from(&marked) {
-        Ok(_) => Ok(Usage::Argument(ArgumentFault::Unreadable)),
-        Err(error) => usage_of(alloc, &error),
-    }
-}
-
-/// Whether a word of these may name an option.
-fn may_name_options(arguments: &[String]) -> bool {
-    for argument in arguments {
-        if argument.as_str().starts_with('-') {
-            return true;
-        }
-    }
-    false
-}
-
-/// What `clap` makes of the arguments of this subcommand. It is parsed alone, without its help, and without the options that no word
-/// may name, since the rest of the program's command would only cost time.
-fn matches_of<'a>(
-    alloc: Global,
-    subcommand: Subcommand,
-    arguments: &'a [String],
-) -> Result<ArgMatches<'a>, clap::Error> {
-    let command = if may_name_options(arguments) {
-        subcommand.command(alloc, Told::NamedBy(arguments))?
-    } else {
-        subcommand.bare_command(alloc)?
-    };
-    command
-        .no_binary_name(true)
-        .disable_help_flag(true)
-        .disable_help_subcommand(true)
-        .try_get_matches_from(arguments)
-}
-
-/// The arguments as `clap` takes them, of a subcommand.
-#[derive(Drop)]
-pub struct Parsed<'a> {
-    subcommand: Subcommand,
-    matches: ArgMatches<'a>,
-}
-
-impl<'a> Parsed<'a> {
-    /// What `clap` makes of the arguments.
-    pub fn new(rt: &HostRuntime, arguments: &'a [String]) -> Result<Parsed<'a>, Usage<'a>> {
-        let Some((subcommand, rest)) = Subcommand::named(arguments) else {
-            return Err(refused(rt.alloc(), arguments)?);
-        };
-        match matches_of(rt.alloc(), subcommand, rest) {
-            Ok(matches) => Ok(Parsed {
-                subcommand,
-                matches,
-            }),
-            Err(error) if error.kind() == ErrorKind::OutOfMemory => Err(Usage::OutOfMemory),
-            Err(_) => Err(refused(rt.alloc(), arguments)?),
-        }
-    }
-
-    /// The path of the file of labels, if one is given.
-    fn labels_path(&self) -> Option<&'a str> {
-        if self.subcommand.has_labels() {
-            self.matches.get_str("labels")
-        } else {
-            None
-        }
-    }
-
-    /// The labels of the file that is given. It is read and closed before another is opened, since roots and starts may be named by them.
-    pub fn labels(&self, rt: &HostRuntime) -> Result<Option<Labels>, LabelsFault> {
-        match self.labels_path() {
-            Some(path) => Ok(Some(load_labels(rt, Input::named(rt, path))?)),
-            None => Ok(None),
-        }
-    }
-
-    /// What the arguments ask for, by these labels. All arguments are read before any file but the labels is opened.
-    pub fn request(
-        &self,
-        rt: &HostRuntime,
-        labels: Option<&'a Labels>,
-    ) -> Result<Request<'a>, Usage<'a>> {
-        request_of(rt, self.subcommand, &self.matches, labels)
-    }
 }

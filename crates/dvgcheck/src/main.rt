@@ -16,15 +16,14 @@ mod labels;
 mod list;
 mod options;
 mod output;
-mod recipe_arguments;
 mod recipes;
 mod records;
 mod subcommand;
 mod together;
 
 use command::{
-    Asked, Certificates, CheckArgs, DumpArgs, FrameNames, FramesArgs, MakeArgs, Named, Parsed,
-    Request, Usage, listing_by,
+    Arguments, Asked, Certificates, CheckArgs, DumpArgs, FrameNames, MakeArgs, Named, Usage,
+    listing_by,
 };
 use dvg_cmd::{
     ASTEROIDS, ClockOptions, Counted, CountedRead, CountedWrite, Detail, KeptCertificates, Labels,
@@ -43,6 +42,7 @@ use records::Records;
 use std::alloc::AllocError;
 use std::io;
 use std::process::ExitCode;
+use subcommand::{Task, Verb};
 use together::{ReadFrame, read_frames, starts_of};
 
 fn open<F: Drop>(rt: &HostRuntime, input: Input, fault: F) -> Result<Source, F> {
@@ -417,23 +417,19 @@ fn tell_end(rt: &HostRuntime, end: &Result<Outcome, RunFault>) -> u8 {
 }
 
 /// Judges frames, and tells how that ended.
-fn run_over(rt: &HostRuntime, args: FramesArgs) -> u8 {
-    let FramesArgs {
-        frames: names,
-        asked,
-    } = args;
+fn run_over(rt: &HostRuntime, names: FrameNames, asked: &Asked) -> u8 {
     match names {
-        FrameNames::Given(named) => tell_end(rt, &frames(rt, named, &asked)),
+        FrameNames::Given(named) => tell_end(rt, &frames(rt, named, asked)),
         FrameNames::Listed(input, end) => match List::open(rt, input, end) {
             Ok(mut list) => {
-                let end = listed_frames(rt, &mut list, &asked);
+                let end = listed_frames(rt, &mut list, asked);
                 tell_end_until(rt, end, list.fault())
             }
             Err(fault) => tell_fault(rt, fault, Outcome::Accepted),
         },
         FrameNames::Records(files, length) => {
             let mut records = Records::new(files, length);
-            let end = recorded_frames(rt, &mut records, &asked);
+            let end = recorded_frames(rt, &mut records, asked);
             tell_end_until(rt, end, records.fault())
         }
     }
@@ -523,39 +519,71 @@ fn tell_usage(rt: &HostRuntime, usage: &Usage) -> u8 {
 }
 
 fn run(rt: &HostRuntime) -> u8 {
-    let arguments = match command::arguments(rt) {
+    let words = match command::words(rt) {
+        Ok(words) => words,
+        Err(usage) => return tell_usage(rt, &usage),
+    };
+    let arguments = match Arguments::parsed(rt.alloc(), &words) {
         Ok(arguments) => arguments,
         Err(usage) => return tell_usage(rt, &usage),
     };
-    let parsed = match Parsed::new(rt, &arguments) {
-        Ok(parsed) => parsed,
-        Err(usage) => return tell_usage(rt, &usage),
-    };
-    let labels = match parsed.labels(rt) {
+    let labels = match arguments.load_labels(rt) {
         Ok(labels) => labels,
         Err(fault) => return tell_message(rt, fault.message(rt.alloc()), fault.status()),
     };
-    run_parsed(rt, parsed, &labels)
+    run_by(rt, arguments, &labels)
 }
 
-/// Runs what the arguments ask for, by these labels.
-fn run_parsed<'a>(rt: &HostRuntime, parsed: Parsed<'a>, labels: &'a Option<Labels>) -> u8 {
-    match parsed.request(rt, labels.as_ref()) {
-        Ok(Request::Frames(args)) => run_over(rt, args),
-        Ok(Request::Check(args, detail)) => tell_end(rt, &check(rt, &args, detail)),
-        Ok(Request::Make(args)) => tell_make(rt, &args.frames, &make(rt, &args)),
-        Ok(Request::Places(args, window)) => {
-            tell_make(rt, &args.frames, &places(rt, &args, window))
-        }
-        Ok(Request::Diff(args, other)) => tell_diff(rt, &args.frames, &diff(rt, &args, other)),
-        Ok(Request::Recipe(args)) => run_recipe(rt, args),
-        Ok(Request::Print(recipe, labels)) => run_print_of(rt, &recipe, labels),
-        Ok(Request::Belongs(args)) => run_belonging(rt, args),
-        Ok(Request::ExplainDiff(args)) => tell_diff(rt, &[], &explain_diff(rt, &args)),
-        Ok(Request::ExplainMake(args)) => explain_make(rt, &args),
-        Ok(Request::Rules(rule)) => tell_text(rt, &rules(rt, rule)),
+/// Runs what the arguments ask for, by these labels, and answers the exit status.
+fn run_by<'a>(rt: &HostRuntime, arguments: Arguments<'a>, labels: &'a Option<Labels>) -> u8 {
+    match run_task(rt, &arguments.with_labels(labels.as_ref())) {
+        Ok(status) => status,
         Err(usage) => tell_usage(rt, &usage),
     }
+}
+
+/// Runs a task. All arguments are read before any file but the labels is opened.
+fn run_task<'a>(rt: &HostRuntime, arguments: &Arguments<'a>) -> Result<u8, Usage<'a>> {
+    Ok(match arguments.task {
+        Task::Frames => {
+            let (names, asked) = arguments.frames(rt)?;
+            run_over(rt, names, &asked)
+        }
+        Task::Check => {
+            let (args, detail) = arguments.check(rt)?;
+            tell_end(rt, &check(rt, &args, detail))
+        }
+        Task::Make | Task::Places | Task::Diff => run_maker_task(rt, arguments)?,
+        Task::Recipe => match arguments.printed(rt)? {
+            Some((recipe, labels)) => run_print_of(rt, &recipe, labels),
+            None => run_recipe(rt, arguments.recipes(rt)?),
+        },
+        Task::Belongs => {
+            let (names, asked) = arguments.belongs(rt)?;
+            run_belonging(rt, names, &asked)
+        }
+        Task::Rules => tell_text(rt, &rules(rt, arguments.rule()?)),
+    })
+}
+
+/// Runs a task that certificates are made for, or that compares two dumps.
+fn run_maker_task<'a>(rt: &HostRuntime, arguments: &Arguments<'a>) -> Result<u8, Usage<'a>> {
+    if let (Task::Diff, Verb::Explain) = (arguments.task, arguments.verb) {
+        return Ok(tell_diff(rt, &[], &explain_diff(rt, &arguments.dumps(rt)?)));
+    }
+    let args = arguments.make(rt)?;
+    Ok(match (arguments.task, arguments.verb) {
+        (Task::Places, _) => {
+            let window = arguments.window()?;
+            tell_make(rt, &args.frames, &places(rt, &args, window))
+        }
+        (Task::Diff, _) => {
+            let other = arguments.file(rt, "OTHER");
+            tell_diff(rt, &args.frames, &diff(rt, &args, other))
+        }
+        (_, Verb::Print) => tell_make(rt, &args.frames, &make(rt, &args)),
+        (_, Verb::Explain) => explain_make(rt, &args),
+    })
 }
 
 fn main(rt: HostRuntime) -> ExitCode {

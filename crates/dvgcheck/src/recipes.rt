@@ -2,11 +2,10 @@
 
 ghost use Rattle.std.specs.Iterator.{IsFinite};
 
-use crate::command::{FrameNames, Named};
+use crate::command::{BelongsAsked, FrameNames, Named, RecipeArgs};
 use crate::input::{Source, is_no_memory};
 use crate::list::List;
 use crate::output::Output;
-use crate::recipe_arguments::{BelongsArgs, BelongsAsked, RecipeArgs};
 use crate::records::Records;
 use crate::{open, opened, tell_end, tell_end_until, tell_fault};
 use dvg_cmd::{Counted, CountedRead, Labels, NamedFrame, Outcome, RunFault, load_rom};
@@ -117,18 +116,17 @@ fn print(rt: &HostRuntime, recipe: &Named, labels: Option<&Labels>) -> Result<Ou
 }
 
 /// Tells of frames whether they are a recipe's, and tells how that ended.
-pub fn run_belonging(rt: &HostRuntime, args: BelongsArgs) -> u8 {
-    let BelongsArgs { frames, asked } = args;
-    match frames {
+pub fn run_belonging(rt: &HostRuntime, names: FrameNames, asked: &BelongsAsked) -> u8 {
+    match names {
         FrameNames::Given(named) => {
             let frames = named.into_iter().map(|frame| opened(rt, frame));
-            tell_end(rt, &belong(rt, &asked, frames))
+            tell_end(rt, &belong(rt, asked, frames))
         }
         FrameNames::Listed(input, end) => match List::open(rt, input, end) {
             Ok(mut list) => {
                 // No list has so many names.
                 let frames = (0..u64::MAX).map_while(|_| list.next_frame(rt));
-                let end = belong(rt, &asked, frames);
+                let end = belong(rt, asked, frames);
                 tell_end_until(rt, end, list.fault())
             }
             Err(fault) => tell_fault(rt, fault, Outcome::Accepted),
@@ -137,7 +135,7 @@ pub fn run_belonging(rt: &HostRuntime, args: BelongsArgs) -> u8 {
             let mut records = Records::new(files, length);
             // No files have so many records.
             let frames = (0..u64::MAX).map_while(|_| records.step(rt)).flatten();
-            let end = belong(rt, &asked, frames);
+            let end = belong(rt, asked, frames);
             tell_end_until(rt, end, records.fault())
         }
     }

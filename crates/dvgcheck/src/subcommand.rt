@@ -1,14 +1,10 @@
 //! The subcommands, and what `clap` knows of them.
 
-use crate::options::{
-    BELONGS_LIST_OPTIONS, BELONGS_OPTIONS, CHECK_OPTIONS, CommandOption, DUMP_OPTIONS,
-    FRAMES_OPTIONS, LABELS_OPTIONS, LIST_OPTIONS, MAKER_OPTIONS, OUTPUT_OPTIONS,
-    RECIPE_CLOCKS_OPTIONS, RECIPE_OPTIONS, RECIPE_OUTPUT_OPTIONS, RECORDS_OPTIONS, REMARKS_OPTIONS,
-    Told, WINDOW_OPTIONS,
+use crate::options::CommandOption::{
+    Board, Budget, Cert, Clip, Clocks, Exact, Frame, Labels, List, Map, Null, OnlyBad, Output,
+    Print, Records, Remarks, Start, Summary, Window, Within,
 };
-use crate::recipe_arguments::{
-    belongs_command, explain_belongs_command, explain_recipe_command, recipe_command,
-};
+use crate::options::{CommandOption, Known, Subject};
 use clap::{Arg, Command, value_parser};
 use std::alloc::{AllocError, Global};
 
@@ -35,16 +31,236 @@ pub enum Verb {
     Explain,
 }
 
-/// A subcommand: the name of a task, or `explain` and the name of a task.
+/// What stands at a place of the command line.
 #[derive(Clone, Copy)]
-pub struct Subcommand {
-    pub verb: Verb,
-    pub task: Task,
+enum Argument {
+    Rom,
+    /// The ROM, unless a recipe is printed.
+    RomOfRecipes,
+    Certificate,
+    OneFrame,
+    /// Frames, which a list of names may replace.
+    Frames,
+    ManyFrames,
+    OneRecipe,
+    /// Recipes, unless one is printed.
+    Recipes,
+    ManyRecipes,
+    OtherRom,
+    Dump,
+    Roots,
+    Number,
+}
+
+/// What the help says of a subcommand, and what it takes.
+#[derive(Clone, Copy)]
+struct Syntax<'a> {
+    about: &'a str,
+    arguments: &'a [Argument],
+    options: &'a [CommandOption],
+}
+
+const FRAMES: Syntax<'static> = Syntax {
+    about: "Judges frames over a vector ROM, each by a certificate made for it, and prints a line for each",
+    arguments: &[Argument::Rom, Argument::Frames],
+    options: &[
+        Board, Map, Cert, Budget, Window, Clip, Start, Labels, Clocks, Within, Remarks, Records,
+        List, Null, OnlyBad, Summary,
+    ],
+};
+
+const EXPLAIN_FRAMES: Syntax<'static> = Syntax {
+    about: "Judges frames over a vector ROM, by certificates made for them, and explains each answer",
+    arguments: &[Argument::Rom, Argument::Frames],
+    options: &[
+        Board, Map, Cert, Budget, Window, Clip, Start, Labels, Clocks, Within, Records, List, Null,
+        OnlyBad, Summary,
+    ],
+};
+
+const CHECK_ABOUT: &str =
+    "Judges a frame over a vector ROM and its certificate, and prints the report";
+
+const CHECK: Syntax<'static> = Syntax {
+    about: CHECK_ABOUT,
+    arguments: &[Argument::Rom, Argument::Certificate, Argument::OneFrame],
+    options: &[Board, Budget, Window, Clip, Exact],
+};
+
+const EXPLAIN_CHECK: Syntax<'static> = Syntax {
+    about: CHECK_ABOUT,
+    arguments: &[Argument::Rom, Argument::Certificate, Argument::OneFrame],
+    options: &[Board, Budget, Window, Clip, Exact, Labels],
+};
+
+const MAKE: Syntax<'static> = Syntax {
+    about: "Prints the certificate of shapes of a vector ROM, and of all that they call",
+    arguments: &[Argument::Rom, Argument::Roots],
+    options: &[Board, Frame, Map, Labels, Output],
+};
+
+const EXPLAIN_MAKE: Syntax<'static> = Syntax {
+    about: "Explains what certificate is made of shapes of a vector ROM, or why none, and writes none",
+    arguments: &[Argument::Rom, Argument::Roots],
+    options: &[Board, Frame, Map, Labels],
+};
+
+const PLACES: Syntax<'static> = Syntax {
+    about: "Prints where calls of shapes of a vector ROM, and of all that they call, stay within the window",
+    arguments: &[Argument::Rom, Argument::Roots],
+    options: &[Board, Frame, Map, Labels, Window, Clip],
+};
+
+const DIFF: Syntax<'static> = Syntax {
+    about: "Prints which shapes of a vector ROM, and which frames, read words that differ in another ROM",
+    arguments: &[Argument::Rom, Argument::OtherRom, Argument::Roots],
+    options: &[Board, Frame, Map, Labels],
+};
+
+const EXPLAIN_DIFF: Syntax<'static> = Syntax {
+    about: "Tells how another dump differs from a vector ROM, and which single faults would turn the ROM into it",
+    arguments: &[Argument::Rom, Argument::Dump],
+    options: &[Map, Labels],
+};
+
+const RECIPE: Syntax<'static> = Syntax {
+    about: "Judges all frames that recipes allow over a vector ROM on a board, and prints a line for each recipe",
+    arguments: &[Argument::RomOfRecipes, Argument::Recipes],
+    options: &[
+        Board, Map, Budget, Window, Clip, Labels, Clocks, Within, Output, Print,
+    ],
+};
+
+const EXPLAIN_RECIPE: Syntax<'static> = Syntax {
+    about: "Judges all frames that recipes allow, and tells the room in the lists and what is known before each line, or of a frame that is refused",
+    arguments: &[Argument::Rom, Argument::ManyRecipes],
+    options: &[Board, Map, Budget, Window, Clip, Labels],
+};
+
+const BELONGS: Syntax<'static> = Syntax {
+    about: "Tells which frames are among those that a recipe allows, and prints a line for each",
+    arguments: &[Argument::Rom, Argument::OneRecipe, Argument::Frames],
+    options: &[Board, Map, Labels, Records, List, Null, OnlyBad, Summary],
+};
+
+const EXPLAIN_BELONGS: Syntax<'static> = Syntax {
+    about: "Tells which frames are among those that a recipe allows, and of another where it leaves the recipe, and which lines could stand there",
+    arguments: &[Argument::Rom, Argument::OneRecipe, Argument::ManyFrames],
+    options: &[Board, Map, Labels, Records],
+};
+
+const RULES: Syntax<'static> = Syntax {
+    about: "Prints what each number in an answer means",
+    arguments: &[Argument::Number],
+    options: &[],
+};
+
+/// What the help of a task says of files.
+const INPUT_HELP: &str = "One of the files that are read may be -, which is standard input";
+
+/// What the shortest inputs of rules leave out.
+const SHORTEST_HELP: &str =
+    "Where a shortest input says nothing else, the ROM is 2048 zero bytes, the certificate is `dvgcert 1` LF `done 0` LF, and the
+frame is the word `B000`; words of a ROM stand from 800 on, with zeros around them. For 10 to 16 the ROM is an empty file. For 20 to
+33 the certificate has one entry, the short entry `shape 800 0 end lost box none depth 0 words 1 scale 0` with what is changed in it.";
+
+/// What the help of `explain` says.
+const EXPLAIN_HELP: &str =
+    "The first line and the exit status are those of the command; of diff the line counts what differs, and the status is 1 if anything does";
+
+/// A command with these arguments.
+fn with_arguments<'a>(
+    alloc: Global,
+    command: Command<'a>,
+    arguments: &[Argument],
+) -> Result<Command<'a>, AllocError> {
+    let mut command = command;
+    for argument in arguments {
+        command = command.arg(argument.arg(alloc)?)?;
+    }
+    Ok(command)
+}
+
+/// An argument of this name, with what the help says of it.
+fn argument_named<'a>(alloc: Global, name: &'a str, help: &'a str) -> Arg<'a> {
+    Arg::new(alloc, name).help(help)
+}
+
+/// A command of this name, with what the help says before and after its arguments.
+fn command_named<'a>(
+    alloc: Global,
+    name: &'a str,
+    about: &'a str,
+    after_help: &'a str,
+) -> Command<'a> {
+    Command::new(alloc, name)
+        .about(about)
+        .after_help(after_help)
+}
+
+impl Argument {
+    /// The argument as `clap` takes it.
+    fn arg<'a>(self, alloc: Global) -> Result<Arg<'a>, AllocError> {
+        let (name, help) = self.text();
+        self.bounded(argument_named(alloc, name, help))
+    }
+
+    /// With how many values it has, and when it is required.
+    fn bounded<'a>(self, arg: Arg<'a>) -> Result<Arg<'a>, AllocError> {
+        match self {
+            Argument::RomOfRecipes => arg.required_unless_present("print"),
+            Argument::Recipes => arg.num_args(1..).required_unless_present("print"),
+            Argument::Frames => {
+                arg.num_args(1..)
+                    .required_unless_present("list")?
+                    .conflicts_with("list")
+            }
+            Argument::ManyFrames | Argument::ManyRecipes => Ok(arg.num_args(1..).required(true)),
+            Argument::Roots => Ok(arg.num_args(1..)),
+            Argument::Number => Ok(arg.value_parser(value_parser!(u8))),
+            _ => Ok(arg.required(true)),
+        }
+    }
+
+    /// Its name, and what the help says of it.
+    fn text<'a>(self) -> (&'a str, &'a str) {
+        match self {
+            Argument::Rom | Argument::RomOfRecipes => (
+                "ROM",
+                "The vector ROM: two bytes for each of its words, low byte first",
+            ),
+            Argument::Certificate => ("CERT", "The certificate of the ROM's shapes"),
+            Argument::OneFrame | Argument::Frames | Argument::ManyFrames => (
+                "FRAME",
+                "The frame: 2 to 2048 bytes of vector RAM, from word 000 on",
+            ),
+            Argument::OneRecipe | Argument::Recipes | Argument::ManyRecipes => (
+                "RECIPE",
+                "The recipe: a text that says what frames a game builds",
+            ),
+            Argument::OtherRom => (
+                "OTHER",
+                "The ROM with which it is compared, at the same addresses",
+            ),
+            Argument::Dump => (
+                "OTHER",
+                "The dump that is compared with it, of 1 to 4096 bytes",
+            ),
+            Argument::Roots => (
+                "ROOT",
+                "A shape that a program calls: its address, a slash, and a scale of 0 to 15 or any, as 800/0",
+            ),
+            Argument::Number => (
+                "NN",
+                "A number: prints its line, its shortest input and what to do, too",
+            ),
+        }
+    }
 }
 
 impl Task {
-    /// The tasks in the order of the help, without `rules`, which comes last.
-    const PRINTED: [Task; 7] = [
+    /// The tasks in the order of the help.
+    const PRINTED: [Task; 8] = [
         Task::Frames,
         Task::Check,
         Task::Make,
@@ -52,6 +268,7 @@ impl Task {
         Task::Diff,
         Task::Recipe,
         Task::Belongs,
+        Task::Rules,
     ];
 
     /// The tasks that can be explained, in the order of the help.
@@ -64,116 +281,103 @@ impl Task {
         Task::Recipe,
     ];
 
-    /// The task with this name.
-    fn named(name: &str) -> Option<Task> {
-        match name {
-            "frames" => Some(Task::Frames),
-            "check" => Some(Task::Check),
-            "make" => Some(Task::Make),
-            "places" => Some(Task::Places),
-            "diff" => Some(Task::Diff),
-            "recipe" => Some(Task::Recipe),
-            "belongs" => Some(Task::Belongs),
-            "rules" => Some(Task::Rules),
-            _ => None,
+    fn name<'a>(self) -> &'a str {
+        match self {
+            Task::Frames => "frames",
+            Task::Check => "check",
+            Task::Make => "make",
+            Task::Places => "places",
+            Task::Diff => "diff",
+            Task::Recipe => "recipe",
+            Task::Belongs => "belongs",
+            Task::Rules => "rules",
         }
     }
 
-    /// The task with this name, if it can be explained.
-    fn explained(name: &str) -> Option<Task> {
-        match Task::named(name)? {
-            Task::Places | Task::Rules => None,
-            task => Some(task),
+    /// What it is about.
+    fn subject(self) -> Subject {
+        match self {
+            Task::Recipe | Task::Belongs => Subject::Recipes,
+            _ => Subject::Frames,
         }
+    }
+
+    /// What the help says behind its arguments and options.
+    fn after_help<'a>(self) -> &'a str {
+        match self {
+            Task::Rules => SHORTEST_HELP,
+            _ => INPUT_HELP,
+        }
+    }
+
+    /// What it takes; `explain` changes nothing of the tasks that can't be explained.
+    fn syntax<'a>(self, verb: Verb) -> Syntax<'a> {
+        match (self, verb) {
+            (Task::Frames, Verb::Print) => FRAMES,
+            (Task::Frames, Verb::Explain) => EXPLAIN_FRAMES,
+            (Task::Check, Verb::Print) => CHECK,
+            (Task::Check, Verb::Explain) => EXPLAIN_CHECK,
+            (Task::Make, Verb::Print) => MAKE,
+            (Task::Make, Verb::Explain) => EXPLAIN_MAKE,
+            (Task::Places, _) => PLACES,
+            (Task::Diff, Verb::Print) => DIFF,
+            (Task::Diff, Verb::Explain) => EXPLAIN_DIFF,
+            (Task::Recipe, Verb::Print) => RECIPE,
+            (Task::Recipe, Verb::Explain) => EXPLAIN_RECIPE,
+            (Task::Belongs, Verb::Print) => BELONGS,
+            (Task::Belongs, Verb::Explain) => EXPLAIN_BELONGS,
+            (Task::Rules, _) => RULES,
+        }
+    }
+
+    /// Its command, with these of its options.
+    fn command<'a>(
+        self,
+        alloc: Global,
+        verb: Verb,
+        known: Known,
+    ) -> Result<Command<'a>, AllocError> {
+        let syntax = self.syntax(verb);
+        let command = command_named(alloc, self.name(), syntax.about, self.after_help());
+        let command = with_arguments(alloc, command, syntax.arguments)?;
+        known.with(alloc, self.subject(), command, syntax.options)
+    }
+
+    /// Its command as it is parsed alone, where these words stand behind its name: without its help, and without the options that none of
+    /// them may name, since the rest of the program's command would only cost time.
+    pub fn command_for<'a>(
+        self,
+        alloc: Global,
+        verb: Verb,
+        words: &[String],
+    ) -> Result<Command<'a>, AllocError> {
+        Ok(
+            self.command(alloc, verb, Known::NamedBy(words))?
+                .no_binary_name(true)
+                .disable_help_flag(true)
+                .disable_help_subcommand(true),
+        )
     }
 }
 
-impl Subcommand {
-    /// The subcommand that the arguments name, and the arguments behind its name. The first argument is the program's name.
-    pub fn named(arguments: &[String]) -> Option<(Subcommand, &[String])> {
-        let (_, arguments) = arguments.split_first()?;
-        let (name, rest) = arguments.split_first()?;
-        if name.as_str() != "explain" {
-            let task = Task::named(name.as_str())?;
-            return Some((Verb::Print.of(task), rest));
-        }
-        let (name, rest) = rest.split_first()?;
-        let task = Task::explained(name.as_str())?;
-        Some((Verb::Explain.of(task), rest))
+/// The task that these words name, with `explain` before it or without, and the words behind its name. The first word is the program's
+/// name.
+pub fn task_named(words: &[String]) -> Option<(Verb, Task, &[String])> {
+    let (_, words) = words.split_first()?;
+    let (name, rest) = words.split_first()?;
+    if name.as_str() != "explain" {
+        return Some((Verb::Print, named(&Task::PRINTED, name)?, rest));
     }
-
-    /// Its command, with these options for `clap`.
-    pub fn command<'a>(self, alloc: Global, told: Told) -> Result<Command<'a>, AllocError> {
-        told.with(alloc, self.bare_command(alloc)?, self.options())
-    }
-
-    /// Its options, in the order of the help.
-    fn options(self) -> &'static [&'static [CommandOption]] {
-        match (self.task, self.verb) {
-            (Task::Frames, Verb::Print) => {
-                &[
-                    &FRAMES_OPTIONS,
-                    &REMARKS_OPTIONS,
-                    &RECORDS_OPTIONS,
-                    &LIST_OPTIONS,
-                ]
-            }
-            (Task::Frames, Verb::Explain) => &[&FRAMES_OPTIONS, &RECORDS_OPTIONS, &LIST_OPTIONS],
-            (Task::Check, Verb::Print) => &[&CHECK_OPTIONS],
-            (Task::Check, Verb::Explain) => &[&CHECK_OPTIONS, &LABELS_OPTIONS],
-            (Task::Make, Verb::Print) => &[&MAKER_OPTIONS, &OUTPUT_OPTIONS],
-            (Task::Make, Verb::Explain) | (Task::Diff, Verb::Print) => &[&MAKER_OPTIONS],
-            (Task::Places, _) => &[&MAKER_OPTIONS, &WINDOW_OPTIONS],
-            (Task::Diff, Verb::Explain) => &[&DUMP_OPTIONS],
-            (Task::Recipe, Verb::Print) => {
-                &[
-                    &RECIPE_OPTIONS,
-                    &RECIPE_CLOCKS_OPTIONS,
-                    &RECIPE_OUTPUT_OPTIONS,
-                ]
-            }
-            (Task::Recipe, Verb::Explain) => &[&RECIPE_OPTIONS],
-            (Task::Belongs, Verb::Print) => {
-                &[&BELONGS_OPTIONS, &RECORDS_OPTIONS, &BELONGS_LIST_OPTIONS]
-            }
-            (Task::Belongs, Verb::Explain) => &[&BELONGS_OPTIONS, &RECORDS_OPTIONS],
-            (Task::Rules, _) => &[],
-        }
-    }
-
-    /// Its command without its options.
-    pub fn bare_command<'a>(self, alloc: Global) -> Result<Command<'a>, AllocError> {
-        match (self.task, self.verb) {
-            (Task::Frames, Verb::Print) => frames_command(alloc),
-            (Task::Frames, Verb::Explain) => explain_frames_command(alloc),
-            (Task::Check, _) => check_command(alloc),
-            (Task::Make, Verb::Print) => make_command(alloc),
-            (Task::Make, Verb::Explain) => explain_make_command(alloc),
-            (Task::Places, _) => places_command(alloc),
-            (Task::Diff, Verb::Print) => diff_command(alloc),
-            (Task::Diff, Verb::Explain) => explain_diff_command(alloc),
-            (Task::Recipe, Verb::Print) => recipe_command(alloc),
-            (Task::Recipe, Verb::Explain) => explain_recipe_command(alloc),
-            (Task::Belongs, Verb::Print) => belongs_command(alloc),
-            (Task::Belongs, Verb::Explain) => explain_belongs_command(alloc),
-            (Task::Rules, _) => rules_command(alloc),
-        }
-    }
-
-    /// Whether it takes labels.
-    pub fn has_labels(self) -> bool {
-        match (self.task, self.verb) {
-            (Task::Check, Verb::Print) | (Task::Rules, _) => false,
-            _ => true,
-        }
-    }
+    let (name, rest) = rest.split_first()?;
+    Some((Verb::Explain, named(&Task::EXPLAINED, name)?, rest))
 }
 
-impl Verb {
-    /// The subcommand of a task.
-    fn of(self, task: Task) -> Subcommand {
-        Subcommand { verb: self, task }
-    }
+/// The one of these tasks that has this name.
+fn named(tasks: &[Task], name: &String) -> Option<Task> {
+    tasks
+        .iter()
+        .copied()
+        .find(|task| task.name() == name.as_str())
 }
 
 /// The program's command.
@@ -184,11 +388,12 @@ pub fn command<'a>(alloc: Global) -> Result<Command<'a>, AllocError> {
         .subcommand_required(true)
         .arg_required_else_help(true);
     for task in Task::PRINTED {
-        command = command.subcommand(Verb::Print.of(task).command(alloc, Told::All)?)?;
+        if let Task::Rules = task {
+            command = command.subcommand(explain_command(alloc)?)?;
+        }
+        command = command.subcommand(task.command(alloc, Verb::Print, Known::All)?)?;
     }
-    command
-        .subcommand(explain_command(alloc)?)?
-        .subcommand(rules_command(alloc)?)
+    Ok(command)
 }
 
 /// The command `explain`, with those behind it.
@@ -201,129 +406,7 @@ fn explain_command<'a>(alloc: Global) -> Result<Command<'a>, AllocError> {
         .subcommand_required(true)
         .arg_required_else_help(true);
     for task in Task::EXPLAINED {
-        command = command.subcommand(Verb::Explain.of(task).command(alloc, Told::All)?)?;
+        command = command.subcommand(task.command(alloc, Verb::Explain, Known::All)?)?;
     }
     Ok(command)
-}
-
-pub const INPUT_HELP: &str = "One of the files that are read may be -, which is standard input";
-
-pub const ROM_HELP: &str = "The vector ROM: two bytes for each of its words, low byte first";
-
-pub const FRAME_HELP: &str = "The frame: 2 to 2048 bytes of vector RAM, from word 000 on";
-
-/// The argument of one or more frames, which a list of names may replace.
-pub fn frames_argument<'a>(alloc: Global) -> Result<Arg<'a>, AllocError> {
-    let frames = Arg::new(alloc, "FRAME").help(FRAME_HELP).num_args(1..);
-    frames
-        .required_unless_present("list")?
-        .conflicts_with("list")
-}
-
-/// The command with the argument ROM, and what its help says of files.
-pub fn with_rom<'a>(alloc: Global, command: Command<'a>) -> Result<Command<'a>, AllocError> {
-    command
-        .after_help(INPUT_HELP)
-        .arg(needed(alloc, "ROM", ROM_HELP))
-}
-
-fn frames_command<'a>(alloc: Global) -> Result<Command<'a>, AllocError> {
-    let command = Command::new(alloc, "frames").about(
-        "Judges frames over a vector ROM, each by a certificate made for it, and prints a line for each",
-    );
-    with_rom(alloc, command)?.arg(frames_argument(alloc)?)
-}
-
-fn check_command<'a>(alloc: Global) -> Result<Command<'a>, AllocError> {
-    let command = Command::new(alloc, "check").about(
-        "Judges a frame over a vector ROM and its certificate, and prints the report",
-    );
-    with_rom(alloc, command)?
-        .arg(needed(alloc, "CERT", "The certificate of the ROM's shapes"))?
-        .arg(needed(alloc, "FRAME", FRAME_HELP))
-}
-
-fn roots_argument<'a>(alloc: Global) -> Arg<'a> {
-    Arg::new(alloc, "ROOT")
-        .help(
-            "A shape that a program calls: its address, a slash, and a scale of 0 to 15 or any, as 800/0",
-        )
-        .num_args(1..)
-}
-
-fn make_command<'a>(alloc: Global) -> Result<Command<'a>, AllocError> {
-    let command = Command::new(alloc, "make").about(
-        "Prints the certificate of shapes of a vector ROM, and of all that they call",
-    );
-    with_rom(alloc, command)?.arg(roots_argument(alloc))
-}
-
-fn places_command<'a>(alloc: Global) -> Result<Command<'a>, AllocError> {
-    let command = Command::new(alloc, "places").about(
-        "Prints where calls of shapes of a vector ROM, and of all that they call, stay within the window",
-    );
-    with_rom(alloc, command)?.arg(roots_argument(alloc))
-}
-
-fn diff_command<'a>(alloc: Global) -> Result<Command<'a>, AllocError> {
-    let command = Command::new(alloc, "diff").about(
-        "Prints which shapes of a vector ROM, and which frames, read words that differ in another ROM",
-    );
-    with_rom(alloc, command)?
-        .arg(needed(
-            alloc,
-            "OTHER",
-            "The ROM with which it is compared, at the same addresses",
-        ))?
-        .arg(roots_argument(alloc))
-}
-
-/// What the help of `explain` says.
-const EXPLAIN_HELP: &str =
-    "The first line and the exit status are those of the command; of diff the line counts what differs, and the status is 1 if anything does";
-
-fn explain_frames_command<'a>(alloc: Global) -> Result<Command<'a>, AllocError> {
-    let command = Command::new(alloc, "frames").about(
-        "Judges frames over a vector ROM, by certificates made for them, and explains each answer",
-    );
-    with_rom(alloc, command)?.arg(frames_argument(alloc)?)
-}
-
-fn explain_make_command<'a>(alloc: Global) -> Result<Command<'a>, AllocError> {
-    let command = Command::new(alloc, "make").about(
-        "Explains what certificate is made of shapes of a vector ROM, or why none, and writes none",
-    );
-    with_rom(alloc, command)?.arg(roots_argument(alloc))
-}
-
-fn explain_diff_command<'a>(alloc: Global) -> Result<Command<'a>, AllocError> {
-    let command = Command::new(alloc, "diff").about(
-        "Tells how another dump differs from a vector ROM, and which single faults would turn the ROM into it",
-    );
-    with_rom(alloc, command)?.arg(needed(
-        alloc,
-        "OTHER",
-        "The dump that is compared with it, of 1 to 4096 bytes",
-    ))
-}
-
-/// What the shortest inputs of rules leave out.
-const SHORTEST_HELP: &str =
-    "Where a shortest input says nothing else, the ROM is 2048 zero bytes, the certificate is `dvgcert 1` LF `done 0` LF, and the
-frame is the word `B000`; words of a ROM stand from 800 on, with zeros around them. For 10 to 16 the ROM is an empty file. For 20 to
-33 the certificate has one entry, the short entry `shape 800 0 end lost box none depth 0 words 1 scale 0` with what is changed in it.";
-
-fn rules_command<'a>(alloc: Global) -> Result<Command<'a>, AllocError> {
-    let number = Arg::new(alloc, "NN")
-        .help("A number: prints its line, its shortest input and what to do, too")
-        .value_parser(value_parser!(u8));
-    Command::new(alloc, "rules")
-        .about("Prints what each number in an answer means")
-        .after_help(SHORTEST_HELP)
-        .arg(number)
-}
-
-/// An argument that has to be given.
-pub fn needed<'a>(alloc: Global, name: &'a str, help: &'a str) -> Arg<'a> {
-    Arg::new(alloc, name).required(true).help(help)
 }

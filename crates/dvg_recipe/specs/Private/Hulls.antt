@@ -39,7 +39,6 @@ use Rattle.dvg_items.specs.Bounds.{IsNear}
 pub use Rattle.dvg_recipe.specs.declared.hull.Rectangle.{Rectangle}
 pub use Rattle.dvg_recipe.specs.declared.hull.Places.{Places}
 pub use Rattle.dvg_recipe.specs.declared.hull.Places.TheVariants.{Lost, Within}
-pub use Rattle.dvg_recipe.specs.declared.hull.Hull.{Hull}
 pub use Rattle.dvg_recipe.specs.declared.hull.Motion.{Motion}
 pub use Rattle.dvg_recipe.specs.declared.hull.Motion.TheVariants.{To, Away, By}
 pub use Rattle.dvg_recipe.specs.declared.hull.Light.{Light}
@@ -64,6 +63,13 @@ IsAmong (Within r) (Rel x y) = ⊥
 IsAmong (Within r) (Abs x y) = IsInRectangle r (record { x = x; y = y })
 IsAmong (Within r) LostEnd = ⊥
 
+-- all that may be known at one scale
+pub record Hull : Type 0 where
+  pub scale : Key
+  pub places : Places
+  pub words : ℕ
+  pub depth : ℕ
+
 -- the hull has what is known
 pub record IsInHull (h : Hull) (k : Known) : Type 0 where
   pub scale : k.scale ≡ h.scale
@@ -77,11 +83,10 @@ pub record Covers (hulls : List Hull) (k : Known) : Type 0 where
   pub listed : Contains hulls hull
   pub inside : IsInHull hull k
 
--- the hull is at the index, and of this scale
-pub record HasScaleAt (hulls : List Hull) (scale : Key) (index : ℕ) (hull : Hull) : Type 0 where
+-- the hull at the index is of this scale
+pub record HasScaleAt (hulls : List Hull) (scale : Key) (index : ℕ) : Type 0 where
   pub within : index < length hulls
-  pub at : (d : Hull) → slice_index_or hulls index d ≡ hull
-  pub is : hull.scale ≡ scale
+  pub is : (d : Hull) → (slice_index_or hulls index d).scale ≡ scale
 
 -- what the first hulls have, the others have
 pub record AreUnder (lower upper : List Hull) : Type 0 where
@@ -383,14 +388,6 @@ pub record IsSoundHull (h : Hull) : Type 0 where
   pub places : AreNearPlaces h.words h.places
   pub words : h.words ≤ MOST_WORDS
   pub depth : h.depth ≤ 4
-
--- so are those of each
-pub record AreSoundHulls (hulls : List Hull) : Type 0 where
-  pub each : (h : Hull) → Contains hulls h → IsSoundHull h
-
--- so are those of each of some sets of hulls
-pub record AreSoundFronts (fronts : List (Vec Hull Global)) : Type 0 where
-  pub each : (here : Vec Hull Global) → Contains fronts here → AreSoundHulls here.items
 
 -- no further than a LABS can set it
 abbrev pub IsNearInto : Option Rectangle → Type 0

@@ -1,4 +1,4 @@
-use Rattle.dvg_recipe.proofs.Common.{◌∙◌, Option, Some, ap, subst, sym}
+use Rattle.dvg_recipe.proofs.Common.{◌∙◌, Some, ap, subst, sym}
 use Rattle.dvg_recipe.specs.Private.Hulls.{Rectangle, IsNearInto, into_of}
 use Rattle.dvg_recipe.proofs.Doing.{span_near}
 use Rattle.dvg_recipe.proofs.changes.into_of.Goals as goal

@@ -1,7 +1,7 @@
 use Rattle.std.proofs.Common.{Box, Global}
-use Rattle.dvg_recipe.proofs.Common.{◌+◌, ◌∙◌, subst, sym, arith, List}
+use Rattle.dvg_recipe.proofs.Common.{◌+◌, subst, sym, arith, List}
 use Rattle.dvg_recipe.specs.Recipes.{Part, Row, Then', Either', Repeat', AddsRow, Spells}
-use Rattle.dvg_recipe.specs.Private.Hulls.{Hull, AreUnder, AreSoundHulls}
+use Rattle.dvg_recipe.specs.Private.Hulls.{Hull, AreUnder}
 use Rattle.dvg_recipe.specs.Private.Judging.{Carries, TimesOver, Turns}
 use Rattle.dvg_recipe.proofs.Sounds.{under_same, under_on}
 use Rattle.dvg_recipe.proofs.Leading.{if_ok_on, if_ok_both}
@@ -98,9 +98,9 @@ add_repeat-loop-init g t c =
     let w = c.args.asked.now.window in
     let list = g.E.Entries.list c.args.entries.now in
     let budget = c.args.asked.now.budget in
-    let copy = sym c.in_ok-there.ensures.items in (
-      λ fine. (fine, times_none w list budget c.args.body.now c.args.here.now c.in_ok-there.there.items copy),
-      subst (λ (l : List Hull). AreSoundHulls l) copy c.requires.here,
+    λ fine. (
+      fine,
+      times_none w list budget c.args.body.now c.args.here.now c.in_ok-there.there.items (sym c.in_ok-there.ensures.items),
     )
 
 pub add_repeat-loop-preserved : goal.add_repeat-loop-preserved
@@ -110,14 +110,11 @@ add_repeat-loop-preserved g t c =
     let budget = c.args.asked.now.budget in
     let R = Spells c.args.body.now in
     let behind = c.add_part.new.next.items in
-    let e = c.in_ok-add_part.ensures in (
-      λ fine. let y = e.carries fine in
-          let x = c.loop.invariant.0 y.0 in (
-            x.0,
-            one_turn w list budget c.args.body.now c.loop.counter (c.loop.counter + 1) c.args.here.now c.loop.there.items behind
-                (omega arith) x.1 (from_as w list budget R _ c.loop.there.items behind c.deref.ensures.value y.1),
-          ),
-      e.sound,
+    λ fine. let y = c.in_ok-add_part.ensures.carries fine in
+    let x = c.loop.invariant y.0 in (
+      x.0,
+      one_turn w list budget c.args.body.now c.loop.counter (c.loop.counter + 1) c.args.here.now c.loop.there.items behind
+          (omega arith) x.1 (from_as w list budget R _ c.loop.there.items behind c.deref.ensures.value y.1),
     )
 
 pub add_repeat-loop-2-init : goal.add_repeat-loop-2-init
@@ -129,7 +126,7 @@ add_repeat-loop-2-init g t c =
     let here = c.args.here.now in
     let e = c.in_ok-add_all.ensures in
     let all = c.add_all.new.hulls.items in (
-      λ fine. let x = c.loop.invariant.0 fine in
+      λ fine. let x = c.loop.invariant fine in
           let turns : Carries w list budget (TimesOver c.args.least R) here c.loop.there.items =
           subst (λ n. Carries w list budget (TimesOver n R) here c.loop.there.items)
           (omega (arith, c.loop-test.false, c.loop.auto.counter-end)) x.1 in (
@@ -140,9 +137,7 @@ add_repeat-loop-2-init g t c =
                   (subst (λ (l : List Hull). AreUnder l all) c.deref-2.ensures.value e.added) turns,
             ),
           ),
-      c.loop.invariant.1,
       e.kept,
-      e.sound,
     )
 
 pub add_repeat-loop-2-preserved : goal.add_repeat-loop-2-preserved
@@ -153,9 +148,8 @@ add_repeat-loop-2-preserved g t c =
     let R = Spells c.args.body.now in
     let behind = c.add_part-in-loop-2.new.next.items in
     let all = c.add_all-in-loop-2.new.hulls.items in
-    let turn_ensures = c.in_ok-add_part-2.ensures in
     let e = c.in_ok-add_all-2.ensures in (
-      λ fine. let y = turn_ensures.carries fine in
+      λ fine. let y = c.in_ok-add_part-2.ensures.carries fine in
           let x = c.loop-2.invariant.0 y.0 in
           let turn = one_turn w list budget c.args.body.now c.loop-2.counter (c.loop-2.counter + 1) c.args.here.now c.loop-2.there.items
           behind (omega arith) x.1.0 (from_as w list budget R _ c.loop-2.there.items behind c.deref-in-loop-2.ensures.value y.1) in (
@@ -167,9 +161,7 @@ add_repeat-loop-2-preserved g t c =
                   (subst (λ (l : List Hull). AreUnder l all) c.deref-in-loop-2-2.ensures.value e.added),
             ),
           ),
-      turn_ensures.sound,
-      under_on _ _ _ c.loop-2.invariant.2 e.kept,
-      e.sound,
+      under_on _ _ _ c.loop-2.invariant.1 e.kept,
     )
 
 pub add_repeat-returns-clause-carries : goal.add_repeat-returns-clause-carries

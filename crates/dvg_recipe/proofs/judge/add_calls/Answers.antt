@@ -1,4 +1,4 @@
-use Rattle.dvg_recipe.proofs.Common.{◌≡◌, ◌∙◌, ◌+◌, ℕ, List, Contains, arith, subst, sym, take_all}
+use Rattle.dvg_recipe.proofs.Common.{◌∙◌, ◌+◌, ℕ, List, Contains, arith, subst, sym, take_all}
 use Rattle.dvg_recipe.specs.Private.Hulls.{CallAct, IsAct, LeadOn}
 use Rattle.dvg_recipe.proofs.Sounds.{under_on}
 use Rattle.dvg_recipe.proofs.Leads.{lead_more, lead_calls, each_next}
@@ -18,8 +18,7 @@ loop-to-preserved g c =
           (λ to there. lead_more w list budget (IsAct list (CallAct to)) here c.loop-to.next.items more e.kept
           (c.loop-to.invariant.1 (e.fine fine) to there)) (e.leads fine),
       under_on _ _ _ c.loop-to.invariant.2 e.kept,
-      e.sound,
-      e.noted ∙ c.loop-to.invariant.4,
+      e.noted ∙ c.loop-to.invariant.3,
     )
 
 pub returns-clause-leads : goal.returns-clause-leads

@@ -1,6 +1,5 @@
-use Rattle.dvg_recipe.proofs.Common.{◌≡◌, Bool, subst, sym, nat_tests, arith}
-use Rattle.std.specs.Prelude.{true, false}
-use Rattle.dvg_recipe.specs.Private.Hulls.{Rectangle, IsNearRectangle, PlaceAct, IsAct, LeadOn}
+use Rattle.dvg_recipe.proofs.Common.{subst, sym}
+use Rattle.dvg_recipe.specs.Private.Hulls.{Rectangle, IsNearRectangle}
 use Rattle.dvg_recipe.proofs.Doing.{places_near}
 use Rattle.dvg_recipe.proofs.judge.add_place.Goals as goal
 

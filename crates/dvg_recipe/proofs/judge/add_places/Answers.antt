@@ -21,8 +21,7 @@ loop-scale-preserved g c =
           (λ s lt there. lead_more w list budget (IsAct list (PlaceAct (places_of range) s)) here c.loop-scale.next.items more e.kept
           (inv.1 (e.fine fine) s lt there)),
       under_on _ _ _ inv.2 e.kept,
-      e.sound,
-      e.noted ∙ inv.4,
+      e.noted ∙ inv.3,
     )
 
 pub returns-clause-leads : goal.returns-clause-leads

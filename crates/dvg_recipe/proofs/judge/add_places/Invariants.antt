@@ -1,6 +1,6 @@
 use Rattle.std.specs.Prelude.{true}
 use Rattle.dvg_recipe.proofs.Common.{◌≡◌, ◌<◌, ℕ, None, get_or, false}
-use Rattle.dvg_recipe.specs.Private.Hulls.{AreUnder, AreSoundHulls, PlaceAct, IsAct, LeadOn, places_of}
+use Rattle.dvg_recipe.specs.Private.Hulls.{AreUnder, PlaceAct, IsAct, LeadOn, places_of}
 use Rattle.dvg_recipe.proofs.judge.add_places.Given as goal
 
 abbrev pub invariant-loop-scale : goal.invariant-loop-scale
@@ -9,4 +9,4 @@ invariant-loop-scale g l =
     (l.broken ≡ None → l.initial.broken ≡ None)
     × (l.broken ≡ None → (s : ℕ) → s < l.scale → get_or l.range.scales s false ≡ true
     → LeadOn l.asked.window list l.asked.budget (IsAct list (PlaceAct (places_of l.range) s)) l.here l.next.items)
-    × AreUnder l.initial.next.items l.next.items × AreSoundHulls l.next.items × (l.notes ≡ l.initial.notes)
+    × AreUnder l.initial.next.items l.next.items × (l.notes ≡ l.initial.notes)

@@ -1,18 +1,13 @@
-use Rattle.dvg_recipe.proofs.Common.{◌<◌, ◌+◌, length, arith, sym, subst, take_all, Contains, Contains-get_or, List}
+use Rattle.dvg_recipe.proofs.Common.{◌<◌, ◌+◌, length, arith, sym, subst, take_all, Contains, List}
 use Rattle.dvg_recipe.specs.Private.Hulls.{Hull}
 use Rattle.dvg_recipe.proofs.Onward.{counts_next}
 use Rattle.dvg_recipe.proofs.judge.counts.Goals as goal
 
-pub counted-yes-requires : goal.counted-yes-requires
-counted-yes-requires c =
-    let lt : c.loop-hull.hull-index < length c.args.here.now = omega (arith, c.loop-hull-test.true) in
-    c.requires.each _ (Contains-get_or c.args.here.now c.loop-hull.hull-index _ lt)
-
 pub loop-hull-preserved : goal.loop-hull-preserved
 loop-hull-preserved c =
     let lt : c.loop-hull.hull-index < length c.args.here.now = omega (arith, c.loop-hull-test.true) in
-    counts_next c.args.here.now c.loop-hull.hull-index (c.loop-hull.hull-index + 1) _ c.loop-hull.yes.words c.loop-hull.yes.depth
-    c.counted-yes.result.words c.counted-yes.result.depth (omega arith) lt c.counted-yes.ensures.more.0 c.counted-yes.ensures.more.1
+    counts_next c.args.here.now c.loop-hull.hull-index (c.loop-hull.hull-index + 1) c.hull-item.result c.loop-hull.yes.words c.loop-hull.yes.depth
+    c.counted-yes.result.words c.counted-yes.result.depth (omega arith) lt c.hull-item.is c.counted-yes.ensures.more.0 c.counted-yes.ensures.more.1
     c.counted-yes.ensures.counted c.loop-hull.invariant
 
 pub returns : goal.returns

@@ -3,7 +3,7 @@ use Rattle.dvg_recipe.proofs.Leads.{near_most}
 use Rattle.dvg_recipe.proofs.notes.is_any_stuck.Goals as goal
 
 pub is_stuck-requires-clause-places : goal.is_stuck-requires-clause-places
-is_stuck-requires-clause-places c = near_most c.args.hull.now c.requires.hull
+is_stuck-requires-clause-places c = near_most _ c.hull.invariant
 
 pub is_stuck-requires-clause-motion : goal.is_stuck-requires-clause-motion
 is_stuck-requires-clause-motion c =

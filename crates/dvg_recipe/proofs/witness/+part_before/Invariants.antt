@@ -1,9 +1,5 @@
 use Rattle.std.proofs.Common.{vec_len}
-use Rattle.dvg_recipe.specs.Private.Hulls.{AreSoundFronts}
 use Rattle.dvg_recipe.proofs.witness.+part_before.Given as goal
-
-abbrev pub invariant-turns_back-loop-here : goal.invariant-turns_back-loop-here
-invariant-turns_back-loop-here g l = AreSoundFronts l.fronts.items
 
 abbrev pub decreases-turns_back-loop-here : goal.decreases-turns_back-loop-here
 decreases-turns_back-loop-here g l = vec_len l.fronts

@@ -1,9 +1,5 @@
 use Rattle.std.proofs.Common.{vec_len}
-use Rattle.dvg_recipe.specs.Private.Hulls.{AreSoundFronts}
 use Rattle.dvg_recipe.proofs.witness.jumps_back.Given as goal
-
-abbrev pub invariant-loop-here : goal.invariant-loop-here
-invariant-loop-here g l = AreSoundFronts l.fronts.items
 
 abbrev pub decreases-loop-here : goal.decreases-loop-here
 decreases-loop-here g l = vec_len l.fronts

@@ -1,4 +1,4 @@
-use Rattle.dvg_recipe.proofs.Common.{◌≡◌, subst, sym, take, reverse, get_or, rules}
+use Rattle.dvg_recipe.proofs.Common.{◌≡◌, subst, take, reverse, get_or, rules}
 use Rattle.dvg_check.proofs.Common.{Known}
 use Rattle.dvg_recipe.specs.Recipes.{IsEndIn, ComesTo}
 use Rattle.dvg_recipe.specs.Private.KnownPlaces.{ItemsOver}
