@@ -35,7 +35,7 @@ extern "C" {
 #endif
 
 /*
- * The version of this header, 2.0.2: its first number times 10,000, its second times 100, and its third. dvgcheck_version returns
+ * The version of this header, 2.0.3: its first number times 10,000, its second times 100, and its third. dvgcheck_version returns
  * that of the library, and `dvgcheck --version` prints that of the program.
  *
  * What went with 2.0.0, and what to call instead:
@@ -45,7 +45,7 @@ extern "C" {
  * - dvgcheck_check, dvgcheck_check_exact, each also with _on: dvgcheck_frame_by_certificate, which takes the machine, as those with
  *   _on did, and then the mode, DVGCHECK_BOUND or DVGCHECK_EXACT. Those without _on were about DVGCHECK_PROFILE.
  */
-#define DVGCHECK_VERSION 20002
+#define DVGCHECK_VERSION 20003
 
 /* The ends of where strokes may be lit, in whole screen places: of a part of the screen, 0 to 1023, or those of DVGCHECK_CLIPPED. */
 struct dvgcheck_window {
