@@ -6,7 +6,7 @@ pub use Rattle.std.proofs.lemmas.List.Elements.{All-nil, All-cons, Contains-get_
 pub use Rattle.std.proofs.lemmas.List.{length-take-le, length_push, get_or_default}
 pub use Rattle.std.proofs.lemmas.Grind.{common_steps}
 pub use Rattle.dvg_words.proofs.Common.{◌≡◌, ℕ, ◌+◌, ◌<◌, Bool, List, [], ◌∷◌, length, get_or, Some, refl, ap, subst, ◌∙◌, arith, suc, nat_tests, zero, ◌≤◌, MemoryMap, rules, IsMap}
-pub use Rattle.dvg_cert.specs.Entry.{Entry, Key, IsEntry, At, Any}
+pub use Rattle.dvg_cert.specs.Entry.{Entry, Key, IsEntry, IsClaim, At, Any}
 pub use Rattle.dvg_cert.specs.Order.{IsRising, IsCertificate, StandsAfter, Before, KeyBefore}
 pub use Rattle.dvg_cert.specs.Lookup.{is_at, entry_at, same_key, IsOnlyAt, HasNoneAt}
 pub use Rattle.dvg_cert.specs.Private.Keyed.{own_keys, IsOwn, IsKeyed}

@@ -1,6 +1,6 @@
 -- What an entry of a certificate may say.
-use Rattle.std.specs.Prelude.{ℕ, ◌≤◌, ℤ, neg_ℤ, ◌≤ℤ◌}
-use Rattle.dvg_cert.specs.Limits.{MOST_DEPTH, MOST_WORDS, MOST_NUMBER}
+use Rattle.std.specs.Prelude.{ℕ, ◌<◌, ◌≤◌, ℤ, neg_ℤ, ◌≤ℤ◌}
+use Rattle.dvg_cert.specs.Limits.{ADDRESS_END, MOST_DEPTH, MOST_WORDS, MOST_NUMBER}
 pub use Rattle.dvg_cert.specs.declared.entry.Key.{Key}
 pub use Rattle.dvg_cert.specs.declared.entry.Key.TheVariants.{At, Any}
 pub use Rattle.dvg_cert.specs.declared.entry.End.{End}
@@ -44,3 +44,13 @@ pub record IsEntry (first last : ℕ) (e : Entry) : Type 0 where
   pub words_low : 1 ≤ e.words
   pub words_high : e.words ≤ MOST_WORDS
   pub scale : IsKey e.scale
+
+-- what an entry claims is within the limits, wherever its ROM lies
+pub record IsClaim (e : Entry) : Type 0 where
+  pub key : IsKey e.key
+  pub stop : IsEnd e.stop
+  pub lit : IsBox e.lit
+  pub depth : e.depth ≤ MOST_DEPTH
+  pub words : e.words ≤ MOST_WORDS
+  pub scale : IsKey e.scale
+  pub addr : e.addr < ADDRESS_END

@@ -1,7 +1,8 @@
 //! An index of a certificate that hashes addresses and keys.
 
-ghost use Rattle.std.specs.Prelude.{◌≡◌, ◌+◌, ◌*◌, ◌≤◌, min, IfOk};
+ghost use Rattle.std.specs.Prelude.{◌≡◌, ◌+◌, ◌*◌, ◌≤◌, min, IfOk, IfSome};
 ghost use Rattle.std.specs.Option.{option_copied};
+ghost use Rattle.dvg_cert.specs.Entry.{IsClaim};
 ghost use Rattle.dvg_cert.specs.Lookup.{entry_at};
 ghost use Rattle.dvg_cert.specs.Limits.{MOST_ENTRIES};
 ghost use Rattle.dvg_cert.specs.Private.Keyed.{hashed_number};
@@ -92,7 +93,8 @@ impl<'a> HashIndex<'a> {
     #[inline(never)]
     #[tactic(auto, using(crate::proofs::Hashing::at_index))]
     fn entry_of(&self, addr: u16, key: Key) -> Option<&Entry>
-        ensures { option_copied result ≡ entry_at self.now addr key }
+        ensures entry { option_copied result ≡ entry_at self.now addr key }
+        ensures claim { IfSome (option_copied result) IsClaim }
     {
         let index = self.keys.get_index_of(&AddressKey { addr, key })?;
         Some(&self.cert.entries()[index])

@@ -1,7 +1,8 @@
 //! Finding the entries of a certificate.
 
-ghost use Rattle.std.specs.Prelude.{◌≡◌, List};
+ghost use Rattle.std.specs.Prelude.{◌≡◌, List, IfSome};
 ghost use Rattle.dvg_cert.specs.declared.entry.Entry.{Entry};
+ghost use Rattle.dvg_cert.specs.Entry.{IsClaim};
 ghost use Rattle.dvg_cert.specs.Order.{IsRising};
 ghost use Rattle.dvg_cert.specs.Lookup.{entry_at, named_entry};
 ghost use Rattle.dvg_cert.specs.Private.Searching.{stands_before};
@@ -17,12 +18,14 @@ pub trait Entries {
 
     /// The entry at this word address with exactly this key, `None` if there is none.
     fn find(&self, addr: u16, key: Key) -> Option<Entry>
-        ensures { result ≡ entry_at (list self.now) addr key };
+        ensures entry { result ≡ entry_at (list self.now) addr key }
+        ensures claim { IfSome result IsClaim };
 
     /// The entry that a call of this word address names at this scale, `Any` if the scale is unknown. It is the entry for exactly
     /// this scale, or else the one for any scale.
     fn named(&self, to: u16, scale: Key) -> Option<Entry>
-        ensures { result ≡ named_entry (list self.now) to scale }
+        ensures entry { result ≡ named_entry (list self.now) to scale }
+        ensures claim { IfSome result IsClaim }
     {
         match self.find(to, scale) {
             Some(entry) => Some(entry),

@@ -1,6 +1,7 @@
 //! The entries that calls name.
 
-ghost use Rattle.std.specs.Prelude.{◌≡◌};
+ghost use Rattle.std.specs.Prelude.{◌≡◌, IfSome};
+ghost use Rattle.dvg_cert.specs.Entry.{IsClaim};
 ghost use Rattle.dvg_cert.specs.Lookup.{named_entry};
 
 use dvg_cert::{Entries, Entry, Key};
@@ -20,13 +21,15 @@ pub struct Callees<'a, E: Entries> {
 impl<'a, E: Entries> Model for Callees<'a, E> {
     ghost use Rattle.std.specs.Prelude.{◌≡◌, List, Some, IfSome};
     ghost use Rattle.dvg_cert.specs.declared.entry.Entry.{Entry};
+    ghost use Rattle.dvg_cert.specs.Entry.{IsClaim};
     ghost use Rattle.dvg_cert.specs.Lookup.{named_entry};
 
     ghost Value = { List Entry };
 
     ghost view = { λ callees. E.list callees.entries.now };
 
-    ghost invariant = { λ callees. IfSome callees.entry (λ entry. named_entry (E.list callees.entries.now) callees.to callees.scale ≡ Some entry) };
+    ghost invariant = { λ callees. IfSome callees.entry (λ entry.
+        (named_entry (E.list callees.entries.now) callees.to callees.scale ≡ Some entry) × IsClaim entry) };
 }
 
 impl<'a, E: Entries> Callees<'a, E> {
@@ -46,6 +49,7 @@ impl<'a, E: Entries> Callees<'a, E> {
     #[inline(always)]
     pub fn named(&mut self, to: u16, scale: Key) -> Option<Entry>
         ensures value { result ≡ named_entry self.old to scale }
+        ensures claim { IfSome result IsClaim }
         ensures same { self.new ≡ self.old }
     {
         if self.entry.is_none() || self.to != to || self.scale != scale {
@@ -60,7 +64,8 @@ impl<'a, E: Entries> Callees<'a, E> {
 /// Puts the entry that a call of this word address names at this known scale where that of the last call is.
 #[inline(never)]
 fn look_up<E: Entries>(entries: &E, to: u16, scale: Key, entry: &mut Option<Entry>)
-    ensures { entry.new ≡ named_entry (E.list entries.now) to scale }
+    ensures value { entry.new ≡ named_entry (E.list entries.now) to scale }
+    ensures claim { IfSome entry.new IsClaim }
 {
     *entry = entries.named(to, scale);
 }

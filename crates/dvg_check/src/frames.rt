@@ -9,7 +9,7 @@ ghost use Rattle.dvg_check.specs.declared.fault.FrameWhy.TheVariants as frame;
 ghost use Rattle.dvg_check.specs.FirstFault.{FrameFault, frame_number, FirstFrameFault};
 ghost use Rattle.dvg_check.specs.Causes.{CauseOf};
 ghost use Rattle.dvg_check.specs.Finding.{FirstFrameFound, IsSoundFound};
-ghost use Rattle.dvg_items.specs.Bounds.{IsSomeCertificate, IsSoundSeen};
+ghost use Rattle.dvg_items.specs.Bounds.{IsSoundSeen};
 ghost use Rattle.dvg_check.specs.Private.Judging.{EachKept, frame_rules, FrameBrokenFirst};
 
 use crate::cause::frame_cause;
@@ -107,7 +107,6 @@ pub fn find_frame_fault<E: Entries>(
     budget: u32,
     window: &Window,
 ) -> Result<Accepted, FrameFinding>
-    requires entries { IsSomeCertificate (E.list entries.now) }
     requires budget { budget ≤ MOST_WORDS }
     ensures ok { IfOk result (λ yes. GoodFrame window.now machine frame.now (E.list entries.now) budget yes.words yes.depth) }
     ensures err { IfErr result (FirstFrameFound window.now machine frame.now (E.list entries.now) budget) }

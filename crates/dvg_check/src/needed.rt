@@ -13,9 +13,7 @@ use dvg_items::{Item, Kind, callee};
 use dvg_words::{Cell, Instr, MOST_ROM_WORDS, RomImage, read_cell};
 
 /// The known scales past a call of a word address, where the known scales before it are these.
-fn keys_left<E: Entries>(entries: &E, to: u16, keys: Keys) -> Keys
-    requires { IsSomeCertificate (E.list entries.now) }
-{
+fn keys_left<E: Entries>(entries: &E, to: u16, keys: Keys) -> Keys {
     let mut left = Keys::NONE;
     let mut before = keys;
     'keys: while let Some(key) = before.take_first() {
@@ -28,7 +26,6 @@ fn keys_left<E: Entries>(entries: &E, to: u16, keys: Keys) -> Keys
 
 /// The keys at which the tail behind an instruction is needed, where the tail from the instruction on is needed at these.
 fn keys_behind<E: Entries>(entries: &E, instr: &Instr, keys: Keys) -> Keys
-    requires entries { IsSomeCertificate (E.list entries.now) }
     requires fields { InstrFits instr.now }
 {
     match instr {
@@ -66,7 +63,6 @@ pub struct Needed {
 impl Needed {
     /// The tails that the entries of a list need: those at the entries' own addresses and keys, and the tails behind these.
     pub fn for_entries<E: Entries>(rom: &RomImage, entries: &E, list: &[Entry]) -> Needed
-        requires entries { IsSomeCertificate (E.list entries.now) }
         requires list { IsSomeCertificate list.now }
         ensures { result.end ≤ ADDRESS_END }
     {
@@ -132,7 +128,6 @@ impl Needed {
 
     /// The tails that are needed at a word address need the tail behind their first item. Adds the keys at which they need it.
     fn add_behind<E: Entries>(&mut self, rom: &RomImage, entries: &E, at: u16)
-        requires entries { IsSomeCertificate (E.list entries.now) }
         requires near { at < ADDRESS_END }
     {
         let keys = self.keys_at(at);

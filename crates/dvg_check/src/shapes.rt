@@ -9,7 +9,8 @@ ghost use Rattle.dvg_check.specs.Rules.{AtLast, AsClaimed, ShapeKeeps, GoodShape
 ghost use Rattle.dvg_check.specs.FirstFault.{shape_number, FirstShapeFault};
 ghost use Rattle.dvg_check.specs.Causes.{ShapeCauseOf};
 ghost use Rattle.dvg_check.specs.Finding.{ShapeFaultFound, FirstShapeFound, IsSoundFound};
-ghost use Rattle.dvg_items.specs.Bounds.{IsClaim, IsSomeCertificate, IsSoundSeen};
+ghost use Rattle.dvg_cert.specs.Entry.{IsClaim};
+ghost use Rattle.dvg_items.specs.Bounds.{IsSoundSeen};
 ghost use Rattle.dvg_words.specs.declared.map.TheConstants.{ADDRESS_END};
 ghost use Rattle.dvg_check.specs.Private.Judging.{EachKept, shape_rules, ShapeBrokenFirst};
 
@@ -126,7 +127,6 @@ pub fn find_entry_fault<E: Entries>(
     entries: &E,
     entry: &Entry,
 ) -> Result<(), ShapeFinding>
-    requires entries { IsSomeCertificate (E.list entries.now) }
     requires entry { IsClaim entry.now }
     ensures ok { OnOk result (GoodShape mode window.now rom.now (E.list entries.now) entry.now) }
     ensures err { IfErr result (λ finding. ShapeFaultFound mode window.now rom.now (E.list entries.now) entry.now finding) }

@@ -8,7 +8,7 @@ ghost use Rattle.dvg_words.specs.Decoding.{InstrFits, cell_at};
 ghost use Rattle.dvg_words.specs.Memory.{Rom, rom_word};
 ghost use Rattle.dvg_words.specs.declared.instruction.Cell.TheVariants.{Holds};
 ghost use Rattle.dvg_words.specs.declared.map.TheConstants.{ADDRESS_END};
-ghost use Rattle.dvg_cert.specs.Entry.{IsKey};
+ghost use Rattle.dvg_cert.specs.Entry.{IsKey, IsClaim};
 ghost use Rattle.dvg_cert.specs.declared.entry.End.TheVariants.{Rel};
 ghost use Rattle.dvg_cert.specs.declared.entry.LitBox.{LitBox};
 ghost use Rattle.dvg_cert.specs.declared.entry.LitBox.TheVariants.{Span};
@@ -16,7 +16,7 @@ ghost use Rattle.dvg_items.specs.Lit.{IsInside, ScaleKnown, LitInBox};
 ghost use Rattle.dvg_items.specs.declared.item.Kind.TheVariants.{Shape};
 ghost use Rattle.dvg_items.specs.Known.{start};
 ghost use Rattle.dvg_items.specs.Seen.{seen_with};
-ghost use Rattle.dvg_items.specs.Bounds.{IsNear, IsNearPlace, IsNearBox, IsNearExtent, IsClaim, IsSomeCertificate};
+ghost use Rattle.dvg_items.specs.Bounds.{IsNear, IsNearPlace, IsNearBox, IsNearExtent};
 ghost use Rattle.dvg_check.specs.Passing.{moved};
 ghost use Rattle.dvg_check.specs.Private.Tails.{ClaimsLess, entry_of, end_of, place_over, known_over, first_seen, BoxInWindow, MayStandAt, MayStandFirst, IsSmall};
 
@@ -160,7 +160,6 @@ fn box_of(extent: &LitExtent) -> Option<LitBox>
 /// An item at a key, told as the tail of a shape that has this item alone. `None` where no shape may have it: it is HALT, it calls
 /// an address where no entry is named, or it lights at unknown scale.
 pub fn last_item<E: Entries>(machine: Machine, entries: &E, item: &Item, key: Key) -> Option<Tail>
-    requires entries { IsSomeCertificate (E.list entries.now) }
     requires key { IsKey key }
     requires fields { InstrFits item.now.instr }
     ensures value { IfSome result (λ first. end_of first ≡ (first_seen machine (E.list entries.now) key item.now).after) }

@@ -34,7 +34,6 @@ fn tail_at<E: Entries>(
     key: Key,
     tails: &Tails,
 ) -> Option<Tail>
-    requires entries { IsSomeCertificate (E.list entries.now) }
     requires key { IsKey key }
     requires there { cell_at (rom_word rom.now) item.now.at ≡ Holds item.now.format item.now.instr }
     requires near { item.now.at < ADDRESS_END }
@@ -72,7 +71,6 @@ fn make_all<E: Entries>(
     to: u16,
     tails: &mut Tails,
 )
-    requires entries { IsSomeCertificate (E.list entries.now) }
     requires to { to ≤ ADDRESS_END }
     requires tails { AreTails window.now rom.now (E.list entries.now) tails.old }
     ensures { AreTails window.now rom.now (E.list entries.now) tails.new }

@@ -4,7 +4,8 @@
 ghost use Rattle.std.specs.Prelude.{◌≡◌, ◌<◌, IfSome, IfOk, IfErr};
 ghost use Rattle.dvg_words.specs.Decoding.{InstrFits};
 ghost use Rattle.dvg_words.specs.declared.map.TheConstants.{ADDRESS_END};
-ghost use Rattle.dvg_items.specs.Bounds.{IsClaim, IsSoundCursor, IsSomeCertificate};
+ghost use Rattle.dvg_cert.specs.Entry.{IsClaim};
+ghost use Rattle.dvg_items.specs.Bounds.{IsSoundCursor};
 ghost use Rattle.dvg_items.specs.Seen.{seen_with};
 ghost use Rattle.dvg_check.specs.Rules.{PlaceKeeps};
 ghost use Rattle.dvg_check.specs.Finding.{FaultFound, IsSoundFound};
@@ -55,7 +56,6 @@ fn judge<E: Entries, R: Rules>(
     format: Format,
     instr: &Instr,
 ) -> Result<Step, R::Why>
-    requires entries { IsSomeCertificate callees.old }
     requires rules { R.valid rules.now }
     requires here { IsSoundCursor cursor.now }
     requires near { cursor.now.at < ADDRESS_END }
@@ -85,7 +85,6 @@ fn end_if_kept<C: Cells, E: Entries, R: Rules>(
     rules: &R,
     first: u16,
 ) -> Option<Known>
-    requires entries { IsSomeCertificate (E.list entries.now) }
     requires rules { R.valid rules.now }
     requires first { first < ADDRESS_END }
     ensures { IfSome result (λ known. WalksTo (record { kind = R.KIND; machine = (C.words cells.now).machine; list = E.list entries.now; scale = R.scale rules.now })
@@ -115,7 +114,6 @@ pub fn walk<C: Cells, E: Entries, R: Rules>(
     rules: &R,
     first: u16,
 ) -> Result<Known, Fault<R::Why>>
-    requires entries { IsSomeCertificate (E.list entries.now) }
     requires rules { R.valid rules.now }
     requires first { first < ADDRESS_END }
     ensures ok { IfOk result (λ known. WalksTo (record { kind = R.KIND; machine = (C.words cells.now).machine; list = E.list entries.now; scale = R.scale rules.now })

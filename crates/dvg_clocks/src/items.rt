@@ -3,8 +3,7 @@
 ghost use Rattle.std.specs.Prelude.{◌≡◌, ◌≤◌, ◌<◌, ◌+◌, ◌*◌, IfSome, IfOk, IfErr};
 ghost use Rattle.dvg_words.specs.Decoding.{InstrFits};
 ghost use Rattle.dvg_words.specs.declared.map.TheConstants.{ADDRESS_END};
-ghost use Rattle.dvg_cert.specs.Entry.{IsKey};
-ghost use Rattle.dvg_items.specs.Bounds.{IsClaim, IsSomeCertificate};
+ghost use Rattle.dvg_cert.specs.Entry.{IsKey, IsClaim};
 ghost use Rattle.dvg_items.specs.Known.{callee_words};
 ghost use Rattle.dvg_clocks.specs.Forecasts.{plus, callee_taken, clocks_known};
 ghost use Rattle.dvg_clocks.specs.Kept.{WORD_CLOCKS};
@@ -95,7 +94,6 @@ pub fn items_clocks<F: Fetch, E: Entries, S: SeesItems>(
     limit: u64,
     seen: &mut S,
 ) -> Result<ClockRange, u16>
-    requires entries { IsSomeCertificate (E.list entries.now) }
     requires key { IsKey first.now.scale }
     requires few { AreAllFew shapes.now (E.list entries.now) }
     requires walkable { IsWalkable (F.words words.now) (E.list entries.now) first.now }

@@ -7,7 +7,8 @@ pub use Rattle.dvg_cert.proofs.Common.{List, length, refl, sym, arith, ap, Some,
 pub use Rattle.dvg_words.proofs.Common.{◌≤ℤ◌, ints, to_z-of_z}
 unfoldable pub use Rattle.dvg_words.proofs.Common.{cell_at}
 pub use Rattle.dvg_items.specs.Items.{Item, Kind, LeadsTo, next_address, AtEveryPlace, AtEachOf, address_after}
-pub use Rattle.dvg_items.specs.Bounds.{IsClaim, IsSomeCertificate, IsNear, IsNearPlace, IsSoundCursor, IsSoundSeen}
+pub use Rattle.dvg_cert.specs.Entry.{IsClaim}
+pub use Rattle.dvg_items.specs.Bounds.{IsSomeCertificate, IsNear, IsNearPlace, IsSoundCursor, IsSoundSeen}
 pub use Rattle.dvg_cert.specs.declared.entry.End.TheVariants.{Rel, Abs, Lost}
 pub use Rattle.dvg_items.specs.Known.{callee_at, Effect, first_place, place_moved_by, place_past, Known}
 pub use Rattle.dvg_words.specs.Beam.{shift, origin}

@@ -6,7 +6,7 @@ use Rattle.dvg_words.specs.declared.map.TheConstants.{ADDRESS_END}
 use Rattle.dvg_words.specs.Decoding.{InstrFits}
 use Rattle.dvg_words.specs.declared.beam.Point.{Point}
 use Rattle.dvg_words.specs.Beam.{IsWithin}
-use Rattle.dvg_cert.specs.Entry.{IsKey, IsEnd, IsBox}
+use Rattle.dvg_cert.specs.Entry.{IsKey, IsClaim}
 use Rattle.dvg_cert.specs.Order.{IsCertificate}
 use Rattle.dvg_words.specs.Values.{MemoryMap}
 use Rattle.dvg_cert.specs.declared.entry.End.{End}
@@ -14,23 +14,13 @@ use Rattle.dvg_cert.specs.declared.entry.End.TheVariants.{Rel, Abs, Lost}
 use Rattle.dvg_cert.specs.declared.entry.LitBox.{LitBox}
 use Rattle.dvg_cert.specs.declared.entry.LitBox.TheVariants.{Empty, Span}
 use Rattle.dvg_cert.specs.declared.entry.Entry.{Entry}
-use Rattle.dvg_cert.specs.declared.limits.TheConstants.{MOST_DEPTH, MOST_WORDS}
+use Rattle.dvg_cert.specs.declared.limits.TheConstants.{MOST_WORDS}
 use Rattle.dvg_items.specs.Known.{Effect, Sets, Loses, Moves}
 use Rattle.dvg_items.specs.Lit.{LitExtent, Nothing, Between, Anywhere}
 use Rattle.dvg_items.specs.Seen.{Seen}
 use Rattle.dvg_items.specs.Cursor.{Cursor, Step, Onward, Last}
 
 -- ---- entries
-
--- what an entry claims is within the limits
-pub record IsClaim (e : Entry) : Type 0 where
-  pub key : IsKey e.key
-  pub stop : IsEnd e.stop
-  pub lit : IsBox e.lit
-  pub depth : e.depth ≤ MOST_DEPTH
-  pub words : e.words ≤ MOST_WORDS
-  pub scale : IsKey e.scale
-  pub addr : e.addr < ADDRESS_END
 
 -- the list is a certificate's, for a ROM at some map
 abbrev pub IsSomeCertificate : List Entry → Type 0

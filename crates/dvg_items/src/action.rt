@@ -4,7 +4,8 @@ ghost use Rattle.std.specs.Prelude.{◌≡◌, ◌<◌, ◌+◌, IfSome};
 ghost use Rattle.dvg_words.specs.declared.map.TheConstants.{ADDRESS_END};
 ghost use Rattle.dvg_items.specs.Known.{effect_of, place_past};
 ghost use Rattle.dvg_items.specs.Lit.{extent_of};
-ghost use Rattle.dvg_items.specs.Bounds.{IsClaim, IsNearPlace, IsNearEffect, IsNearExtent, IsSoundCursor};
+ghost use Rattle.dvg_cert.specs.Entry.{IsClaim};
+ghost use Rattle.dvg_items.specs.Bounds.{IsNearPlace, IsNearEffect, IsNearExtent, IsSoundCursor};
 
 use crate::cursor::Cursor;
 use crate::known::{Effect, draw_effect, place_past, stop_effect};

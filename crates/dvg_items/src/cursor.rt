@@ -3,10 +3,10 @@
 ghost use Rattle.std.specs.Prelude.{◌≡◌, ◌<◌, IfSome};
 ghost use Rattle.dvg_words.specs.declared.map.TheConstants.{ADDRESS_END};
 ghost use Rattle.dvg_words.specs.Decoding.{InstrFits};
-ghost use Rattle.dvg_cert.specs.Entry.{IsKey};
+ghost use Rattle.dvg_cert.specs.Entry.{IsKey, IsClaim};
 ghost use Rattle.dvg_items.specs.Seen.{seen_with};
 ghost use Rattle.dvg_items.specs.Cursor.{first_cursor};
-ghost use Rattle.dvg_items.specs.Bounds.{IsClaim, IsSomeCertificate, IsSoundCursor, IsSoundSeen};
+ghost use Rattle.dvg_items.specs.Bounds.{IsSoundCursor, IsSoundSeen};
 ghost use Rattle.dvg_items.specs.Known.{callee_at, target};
 
 use crate::action::action_at;
@@ -83,7 +83,6 @@ impl Cursor {
         format: Format,
         instr: Instr,
     ) -> Seen
-        requires entries { IsSomeCertificate (E.list entries.now) }
         requires here { IsSoundCursor self }
         requires near { self.at < ADDRESS_END }
         requires fields { InstrFits instr }

@@ -3,11 +3,11 @@
 ghost use Rattle.std.specs.Prelude.{◌≡◌, ◌≤◌, ◌<◌, ◌+◌, IfSome, unwrap_or};
 ghost use Rattle.dvg_words.specs.declared.map.TheConstants.{ADDRESS_END};
 ghost use Rattle.dvg_words.specs.Decoding.{InstrFits};
-ghost use Rattle.dvg_cert.specs.Entry.{IsKey, IsEnd};
+ghost use Rattle.dvg_cert.specs.Entry.{IsKey, IsEnd, IsClaim};
 ghost use Rattle.dvg_cert.specs.declared.limits.TheConstants.{MOST_WORDS};
 ghost use Rattle.dvg_items.specs.Known.{callee_at, scale_set, draw_effect, stop_effect, effect_of, place_past, callee_words, depth_under, known_past, start};
 ghost use Rattle.dvg_words.specs.Beam.{shift};
-ghost use Rattle.dvg_items.specs.Bounds.{IsNear, IsNearPlace, IsNearEffect, IsClaim, IsFewWords, IsSomeCertificate, IsSoundCursor};
+ghost use Rattle.dvg_items.specs.Bounds.{IsNear, IsNearPlace, IsNearEffect, IsFewWords, IsSoundCursor};
 
 use crate::item::{Item, Kind};
 use dvg_cert::{End, Entries, Entry, Key};
@@ -135,7 +135,6 @@ fn callee_words(callee: &Option<Entry>) -> u32
 /// The entry that a target and a known scale name. The scale is `Any` if it is unknown.
 #[inline(always)]
 pub fn callee<E: Entries>(entries: &E, target: Option<u16>, scale: Key) -> Option<Entry>
-    requires { IsSomeCertificate (E.list entries.now) }
     ensures value { result ≡ callee_at (E.list entries.now) target scale }
     ensures claim { IfSome result IsClaim }
 {

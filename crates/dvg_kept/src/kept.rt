@@ -1,6 +1,8 @@
 //! Frames over kept shapes.
 
-ghost use Rattle.std.specs.Prelude.{◌≡◌, ◌≤◌, [], Ok, IfOk, IfErr, IfSome, OnErr};
+ghost use Rattle.std.specs.Prelude.{◌≡◌, ◌≤◌, [], Contains, Ok, IfOk, IfErr, IfSome, OnErr};
+ghost use Rattle.dvg_cert.specs.Entry.{IsClaim};
+ghost use Rattle.dvg_cert.specs.declared.entry.Entry.{Entry as EntryValue};
 ghost use Rattle.dvg_cert.specs.declared.limits.TheConstants.{MOST_WORDS};
 ghost use Rattle.dvg_check.specs.Means.{Means};
 ghost use Rattle.dvg_check.specs.Rules.{GoodFrame};
@@ -51,6 +53,7 @@ impl<'a> Model for KeptShapes<'a> {
 
 /// These entries, and those of a certificate that are not among them, in the order of a certificate.
 fn merged(entries: MadeEntries, made: &[Entry]) -> Result<MadeEntries, AllocError>
+    requires { (e : EntryValue) → Contains made.now e → IsClaim e }
     ensures { IfOk result (IsMerged entries made.now) }
 {
     let mut merged = entries;

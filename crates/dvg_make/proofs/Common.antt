@@ -23,7 +23,7 @@ pub use Rattle.dvg_make.specs.Private.Covering.{KnowsMore, Loosens, LoosensPlace
 pub use Rattle.dvg_check.specs.declared.fault.Mode.{Mode}
 pub use Rattle.dvg_make.specs.Frames.{IsAskedFor, HasAsked, FramesMade, AllKeyed, FrameAsksFor, FrameMade}
 pub use Rattle.dvg_cert.proofs.OnlyEntries.{at_holds, at_means, found, not_before, before_next, before_later, rising_tail, first_or_later, later}
-pub use Rattle.dvg_cert.proofs.Pairs.{pair_test, pair_eq, lookup_is, values_of-append, keyed_push, length-values_of, key_test}
+pub use Rattle.dvg_cert.proofs.Pairs.{pair_test, pair_eq, lookup_is, values_of-append, keyed_claim, keyed_push, length-values_of, key_test}
 pub use Rattle.dvg_cert.specs.Entry.{IsKey, IsBox, IsEnd}
 pub use Rattle.dvg_make.specs.Judging.{HasCallCause, refusal_at, FrameRefused, VerdictByMade, AreLeast, CheckMeans, checked, refusal_by}
 pub use Rattle.dvg_items.specs.Lit.{relative_corners, extent_of}

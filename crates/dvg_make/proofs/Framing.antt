@@ -8,7 +8,6 @@ pub use Rattle.dvg_make.proofs.Merging.{Path, path_grows, call_of_path, call_gro
 use Rattle.dvg_make.proofs.Chains.{called_grows}
 use Rattle.dvg_make.proofs.Bettering.{better}
 use Rattle.dvg_make.proofs.FrameBest.{upheld, frame_cover}
-use Rattle.dvg_make.proofs.Onward.{claim_at}
 
 pub done_made : (rom : Rom) (done : List Entry) → IsDone rom done → AllMade rom done
 done_made rom done h e c = let is = h.entries e c in record { made = h.made e c; words = is.words_high; depth = is.depth }
@@ -227,11 +226,9 @@ module _ (rom : Rom) (words : List ℕ) (old done : List Entry) (at : ℕ) (scal
     pub partial : FrameWalk rom words old new at scale
     its : IsKeyed rom.machine new partial.path.items item
     callee_is : callee ≡ callee_at new (target Frame instr) scale
-    pub claim : IfSome callee IsClaim
 
-  pub called : rom.map.rom_last < ADDRESS_END → (new : List Entry) (callee : Option Entry) → IsCalledBy rom done instr scale new callee
-      → Called new callee
-  called last new callee c =
+  pub called : (new : List Entry) (callee : Option Entry) → IsCalledBy rom done instr scale new callee → Called new callee
+  called new callee c =
       let partial : FrameWalk rom words old new at scale =
       ⊎_elim (λ t. subst (λ d. FrameWalk rom words old d at scale) (sym (c.none t).0) w)
       (λ t. let m = c.some t.0 t.1 in call_made t.0 t.1 new m.0 m.1) (none_or_some (target Frame instr)) in
@@ -240,15 +237,13 @@ module _ (rom : Rom) (words : List ℕ) (old done : List Entry) (at : ℕ) (scal
         partial = partial;
         its = λ to t. subst (HasEntry new to) (sym partial.path.scale_is) (c.some to t).1;
         callee_is = named;
-        claim = claim_at rom new (target Frame instr) scale callee last partial.is_done.entries named;
       }
 
-  module _ (last : rom.map.rom_last < ADDRESS_END) (new : List Entry) (callee : Option Entry)
-      (c : IsCalledBy rom done instr scale new callee) where
+  module _ (new : List Entry) (callee : Option Entry) (c : IsCalledBy rom done instr scale new callee) where
     pub goes_on : (past : Key) → past ≡ unwrap_or (scale_set instr callee) scale → IsKey past → at < ADDRESS_END → InstrFits instr
         → (next : ℕ) → next_address Frame item ≡ Some next → FrameWalk rom words old new next past
     goes_on past past_is key near fits next goes =
-        let h = called last new callee c in
+        let h = called new callee c in
         let scale_is : scale_before (frame_context rom.machine new) (item ∷ h.partial.path.items) ≡ past =
         grind (arith, h.partial.path.scale_is, h.callee_is) in
         let path : Path rom.machine words new next past =
@@ -264,7 +259,7 @@ module _ (rom : Rom) (words : List ℕ) (old done : List Entry) (at : ℕ) (scal
 
     pub at_last : next_address Frame item ≡ None → IsFramed rom words old new
     at_last none =
-        let h = called last new callee c in
+        let h = called new callee c in
         framed rom words old new h.partial.calls h.partial.asked
         (ends rom.machine words new h.partial.path.items at h.partial.path.leads h.partial.path.keyed
         (λ i here it. let same : item ≡ i = item_same item i (sym here) (sym is ∙ it) in

@@ -1,11 +1,11 @@
 -- The made entries, as pairs of an address and key with an entry. Sorted by address and key, they rise.
-use Rattle.dvg_make.proofs.Common.{◌≡◌, ℕ, suc, ◌+◌, List, ◌∷◌, false, arith, entry_at, values_of, keys_of, Entry, Key, IsOwn, IsKeyed, IsRising, same_key, KeyBefore, Before, lookup_is, pair_test, pair_eq, key_test, values_of-append, keyed_push, length-values_of, insert_entry-new, cases_lt, nat_tests, All-tail}
+use Rattle.dvg_make.proofs.Common.{◌≡◌, ℕ, suc, ◌+◌, List, ◌∷◌, false, arith, entry_at, values_of, keys_of, Entry, Key, IsOwn, IsKeyed, IsRising, same_key, KeyBefore, Before, lookup_is, pair_test, pair_eq, key_test, values_of-append, keyed_claim, keyed_push, length-values_of, insert_entry-new, cases_lt, nat_tests, All-tail}
 use Rattle.std.specs.Ordering.{nat_cmp, is_lt, ordering_then}
 use Rattle.std.specs.List.{IsDistinct}
 use Rattle.std.specs.List.Sorted.{IsSorted}
 use Rattle.dvg_cert.specs.contracts.entry.KeyOrd.TheImpl.{ghosts as orders}
 
-pub ruleset pairs = (lookup_is, pair_test, entry_at, values_of, values_of-append, keyed_push, length-values_of, insert_entry-new)
+pub ruleset pairs = (lookup_is, pair_test, entry_at, values_of, values_of-append, keyed_claim, keyed_push, length-values_of, insert_entry-new)
 
 key_after : (k l : Key) → is_lt (orders.cmp l k) ≡ false → same_key k l ≡ false → KeyBefore k l
 key_after k l h s = grind (arith, cases_lt, nat_tests)

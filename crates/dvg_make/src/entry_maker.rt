@@ -2,9 +2,8 @@
 
 ghost use Rattle.std.specs.Prelude.{◌≡◌, ◌<◌, [], Some, OnOk, OnErr, IfOk, IfErr};
 ghost use Rattle.dvg_words.specs.declared.map.TheConstants.{ADDRESS_END};
-ghost use Rattle.dvg_cert.specs.Entry.{IsKey};
+ghost use Rattle.dvg_cert.specs.Entry.{IsKey, IsClaim};
 ghost use Rattle.dvg_cert.specs.Lookup.{entry_at};
-ghost use Rattle.dvg_items.specs.Bounds.{IsClaim};
 ghost use Rattle.dvg_make.specs.Made.{AllMade};
 ghost use Rattle.dvg_make.specs.Refusals.{BarsEntry};
 ghost use Rattle.dvg_make.specs.EntryMaker.{HasAllOf};

@@ -1,10 +1,10 @@
 //! The entries that a frame calls, one call after another.
 
-ghost use Rattle.std.specs.Prelude.{◌≡◌, OnOk, IfOk, IfErr};
+ghost use Rattle.std.specs.Prelude.{◌≡◌, OnOk, IfOk, IfErr, IfSome};
 ghost use Rattle.dvg_words.specs.Memory.{frame_word};
 ghost use Rattle.dvg_words.specs.Decoding.{InstrFits, CellFits, StandsBelow, cell_at};
 ghost use Rattle.dvg_words.specs.declared.map.TheConstants.{ADDRESS_END};
-ghost use Rattle.dvg_cert.specs.Entry.{IsKey};
+ghost use Rattle.dvg_cert.specs.Entry.{IsKey, IsClaim};
 ghost use Rattle.dvg_make.specs.Private.Making.{IsRightFor};
 ghost use Rattle.dvg_make.specs.Private.Partial.{Extends};
 ghost use Rattle.dvg_make.specs.Private.Framing.{IsCalledBy, IsFramed, BlocksTarget, BlocksHere};
@@ -38,6 +38,7 @@ impl Making {
         requires key { IsKey scale }
         ensures right { OnOk result (IsRightFor rom.now self.new) }
         ensures ok { IfOk result (IsCalledBy rom.now self.old.done instr.now scale self.new.done) }
+        ensures claim { IfOk result (λ callee. IfSome callee IsClaim) }
         ensures err { IfErr result (BlocksTarget rom.now self.old.done instr.now scale) }
     {
         let Some(to) = target(Kind::Frame, instr) else {

@@ -8,7 +8,7 @@ ghost use Rattle.dvg_check.specs.Finding.{FirstShapeFound, ShapeFaultFound};
 ghost use Rattle.dvg_check.specs.Rules.{Good, GoodShape};
 ghost use Rattle.dvg_check.specs.declared.fault.Mode.TheVariants.{Exact};
 ghost use Rattle.dvg_make.specs.Accounts.{entry_fault, IsAccount};
-ghost use Rattle.dvg_items.specs.Bounds.{IsClaim, IsSomeCertificate};
+ghost use Rattle.dvg_cert.specs.Entry.{IsClaim};
 ghost use Rattle.dvg_make.specs.Frames.{FrameMade};
 ghost use Rattle.dvg_make.specs.Made.{MadeEntry};
 ghost use Rattle.dvg_make.specs.Refusals.{FramesRefuse};
@@ -74,7 +74,6 @@ fn find_made_entry_fault(
     entry: &Entry,
     window: &Window,
 ) -> Result<(), ShapeFinding>
-    requires list { IsSomeCertificate entries.now }
     requires entry { IsClaim entry.now }
     requires made { MadeEntry rom.now entries.now entry.now }
     ensures ok { OnOk result (GoodShape Exact window.now rom.now entries.now entry.now) }

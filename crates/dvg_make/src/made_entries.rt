@@ -4,6 +4,7 @@ ghost use Rattle.std.specs.Prelude.{◌≡◌, ◌++◌, List, [], ◌∷◌, le
 ghost use Rattle.std.specs.Map.{values_of};
 ghost use Rattle.dvg_cert.specs.declared.entry.Entry.{Entry as EntryValue};
 ghost use Rattle.dvg_cert.specs.declared.entry.Key.{Key as KeyValue};
+ghost use Rattle.dvg_cert.specs.Entry.{IsClaim};
 ghost use Rattle.dvg_cert.specs.Order.{IsRising};
 ghost use Rattle.dvg_cert.specs.Lookup.{entry_at};
 ghost use Rattle.dvg_cert.specs.Private.Keyed.{IsKeyed};
@@ -40,7 +41,8 @@ impl MadeEntries {
 
     /// The entry with exactly this address and key.
     pub fn find(&self, addr: u16, key: Key) -> Option<Entry>
-        ensures { result ≡ entry_at self.now addr key }
+        ensures entry { result ≡ entry_at self.now addr key }
+        ensures claim { IfSome result IsClaim }
     {
         self.found.get(&(addr, key)).copied()
     }
@@ -72,7 +74,8 @@ impl MadeEntries {
 
     /// Adds an entry whose address and key have no entry yet.
     pub fn add(&mut self, entry: Entry) -> Result<(), AllocError>
-        requires { entry_at self.old entry.addr entry.key ≡ None }
+        requires new { entry_at self.old entry.addr entry.key ≡ None }
+        requires claim { IsClaim entry }
         ensures ok { OnOk result (self.new ≡ self.old ++ entry ∷ []) }
         ensures err { OnErr result (self.new ≡ self.old) }
     {

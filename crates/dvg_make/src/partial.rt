@@ -14,7 +14,8 @@ ghost use Rattle.dvg_items.specs.declared.item.Kind.TheVariants.{Shape};
 ghost use Rattle.dvg_items.specs.Known.{target, depth_under};
 ghost use Rattle.dvg_items.specs.Seen.{seen_with};
 ghost use Rattle.dvg_items.specs.Cursor.{step_past};
-ghost use Rattle.dvg_items.specs.Bounds.{IsSoundCursor, IsSoundStep, IsClaim};
+ghost use Rattle.dvg_cert.specs.Entry.{IsClaim};
+ghost use Rattle.dvg_items.specs.Bounds.{IsSoundCursor, IsSoundStep};
 ghost use Rattle.dvg_make.specs.Accounts.{IsStraight, SaysOf};
 ghost use Rattle.dvg_make.specs.Private.Partial.{start, entry_of, Passes, IsPartial, IsStopped, IsAbsent, IsCallee, LacksCallee, EndsBy, EndsByOne, Advances};
 ghost use Rattle.dvg_make.specs.Private.Making.{IsRightFor};
@@ -143,7 +144,6 @@ impl PartialEntry {
     fn known_end(&self, machine: Machine, tails: &MadeEntries) -> Option<Entry>
         requires here { IsSoundCursor self.now.cursor }
         requires near { self.now.cursor.at < ADDRESS_END }
-        requires tails { (tail : EntryValue) → Contains tails.now tail → IsClaim tail }
         ensures { IfSome result (EndsByOne self.now tails.now) }
     {
         if !is_mark(self.cursor.at) {
@@ -205,6 +205,7 @@ fn absence(rom: &RomImage, at: u16) -> EntryCause
 /// such entry.
 fn look_up(done: &MadeEntries, instr: &Instr, scale: Key) -> Result<Option<Entry>, u16>
     ensures ok { IfOk result (IsCallee done.now instr.now scale) }
+    ensures claim { IfOk result (λ callee. IfSome callee IsClaim) }
     ensures err { IfErr result (LacksCallee done.now instr.now scale) }
 {
     let Some(to) = target(Kind::Shape, instr) else {

@@ -4,10 +4,10 @@
 //! entry: the one of a shape that starts there. Tails are kept at marks, word addresses that are some words apart. The maker
 //! passes the items of a shape up to the first mark whose tail it kept, and joins the tail to what it knows by then.
 
-ghost use Rattle.std.specs.Prelude.{◌≡◌, ◌<◌, List, Contains, IfOk, IfSome, OnOk};
+ghost use Rattle.std.specs.Prelude.{◌≡◌, ◌<◌, List, IfOk, IfSome, OnOk};
 ghost use Rattle.dvg_words.specs.Memory.{Rom};
 ghost use Rattle.dvg_words.specs.declared.map.TheConstants.{ADDRESS_END};
-ghost use Rattle.dvg_cert.specs.Entry.{IsKey};
+ghost use Rattle.dvg_cert.specs.Entry.{IsKey, IsClaim};
 ghost use Rattle.dvg_cert.specs.declared.entry.Entry.{Entry as EntryValue};
 ghost use Rattle.dvg_make.specs.Private.Making.{IsRightFor, ArePartial};
 ghost use Rattle.dvg_make.specs.Private.Partial.{IsPartial};
@@ -49,9 +49,8 @@ fn push_mark(marks: &mut Vec<PartialEntry>, at: u16, scale: Key) -> Result<(), A
 
 impl Making {
     /// The entry for exactly this scale that an instruction calls, if it is made.
-    #[tactic(auto, using(dvg_items::proofs::Listed::listed_at))]
     fn made_callee(&self, instr: &Instr, scale: Key) -> Option<Entry>
-        ensures { IfSome result (λ callee. Contains self.now.done callee) }
+        ensures { IfSome result IsClaim }
     {
         let to = target(Kind::Shape, instr)?;
         self.done.find(to, scale)

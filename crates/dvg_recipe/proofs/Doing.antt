@@ -12,8 +12,8 @@ use Rattle.dvg_words.specs.Values.{DrawFits}
 use Rattle.dvg_words.specs.Decoding.{InstrFits}
 use Rattle.dvg_items.specs.Seen.{HasCallee}
 use Rattle.dvg_items.proofs.Leading.{item_same}
-use Rattle.dvg_cert.specs.Entry.{IsKey, IsEnd, IsBox, IsNumber}
-use Rattle.dvg_items.specs.Bounds.{IsNear, IsClaim}
+use Rattle.dvg_cert.specs.Entry.{IsKey, IsEnd, IsBox, IsNumber, IsClaim}
+use Rattle.dvg_items.specs.Bounds.{IsNear}
 use Rattle.dvg_recipe.specs.Limits.{PieceFits, ToFits, SizesFit, IsSvecSize, IsSpanBetween, LscaleFits, DrawRangeFits}
 use Rattle.dvg_recipe.proofs.Common.{◌<◌, ◌++◌, ⊎_elim, ap, cases_lt, length, take, take-suc, IfSome, Contains-append_cases, Contains-append_left, Contains-append_right}
 use Rattle.dvg_items.specs.Known.{callee_at, stop_effect, known_past}

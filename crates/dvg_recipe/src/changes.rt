@@ -4,9 +4,8 @@ ghost use Rattle.std.specs.Prelude.{◌≡◌, List, ◌≤◌, ◌*ℤ◌, pos,
 ghost use Rattle.dvg_words.specs.Decoding.{InstrFits, word_count};
 ghost use Rattle.dvg_words.specs.declared.machine.Machine.TheVariants.{Board};
 ghost use Rattle.dvg_words.specs.declared.instruction.Cell.TheVariants.{Holds};
-ghost use Rattle.dvg_cert.specs.Entry.{IsKey};
+ghost use Rattle.dvg_cert.specs.Entry.{IsKey, IsClaim};
 ghost use Rattle.dvg_cert.specs.declared.entry.Entry.{Entry};
-ghost use Rattle.dvg_items.specs.Bounds.{IsClaim, IsSomeCertificate};
 ghost use Rattle.dvg_items.specs.declared.item.Item.{Item};
 ghost use Rattle.dvg_items.specs.declared.known.Known.{Known};
 ghost use Rattle.dvg_recipe.specs.Limits.{DrawRangeFits, PieceFits};
@@ -292,7 +291,6 @@ pub fn words_act(first: u16, second: u16) -> Act
 
 /// What an act does at a scale.
 pub fn act_change<E: Entries>(entries: &E, act: &Act, scale: Key) -> Change
-    requires entries { IsSomeCertificate (E.list entries.now) }
     requires fits { ActFits act.now }
     requires key { IsKey scale }
     ensures value { result ≡ act_change (E.list entries.now) act.now scale }
@@ -313,7 +311,6 @@ pub fn act_change<E: Entries>(entries: &E, act: &Act, scale: Key) -> Change
 
 /// What the instruction of two words does at a scale.
 pub fn words_change<E: Entries>(entries: &E, first: u16, second: u16, scale: Key) -> Change
-    requires entries { IsSomeCertificate (E.list entries.now) }
     requires key { IsKey scale }
     ensures { IsSoundChange result }
 {

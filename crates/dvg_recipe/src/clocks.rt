@@ -9,7 +9,6 @@ ghost use Rattle.dvg_clocks.specs.declared.clocks.States.{States};
 ghost use Rattle.dvg_words.specs.Decoding.{InstrFits};
 ghost use Rattle.dvg_words.specs.declared.instruction.Instr.TheVariants.{Jmpl as Jumps};
 ghost use Rattle.dvg_cert.specs.Entry.{IsKey};
-ghost use Rattle.dvg_items.specs.Bounds.{IsSomeCertificate};
 ghost use Rattle.dvg_items.specs.Known.{callee_at};
 ghost use Rattle.dvg_items.specs.declared.item.Item.{Item as AnItem};
 ghost use Rattle.dvg_clocks.specs.declared.clocks.ClockRange.{ClockRange as Clocks};
@@ -98,7 +97,6 @@ fn add_at<E: Entries>(
     here: &MostClocks,
     next: &mut MostClocks,
 ) -> Result<(), SlowPiece>
-    requires entries { IsSomeCertificate (E.list counting.now.entries.now) }
     requires key { IsKey scale }
     requires fields { InstrFits item.now.instr }
     ensures past { OnOk result ((n : Clocks) → IsUnder n (most_at here.now scale)
@@ -127,7 +125,6 @@ fn add_item<E: Entries>(
     here: &MostClocks,
     next: &mut MostClocks,
 ) -> Result<(), SlowPiece>
-    requires entries { IsSomeCertificate (E.list counting.now.entries.now) }
     requires fields { InstrFits item.now.instr }
     ensures past { OnOk result (TakeOn counting.now.timing.now.states (E.list counting.now.entries.now) (clocks_in counting.now.shapes.now)
         (AreAlike counting.now.timing.now.states item.now) here.now next.new) }
@@ -148,7 +145,6 @@ fn add_place_at<E: Entries>(
     here: &MostClocks,
     next: &mut MostClocks,
 ) -> Result<(), SlowPiece>
-    requires entries { IsSomeCertificate (E.list counting.now.entries.now) }
     requires scale { scale ≤ 15 }
     ensures past { OnOk result (get_or range.now.scales scale false ≡ true
         → TakeOn counting.now.timing.now.states (E.list counting.now.entries.now) (clocks_in counting.now.shapes.now)
@@ -180,7 +176,6 @@ fn add_places<E: Entries>(
     here: &MostClocks,
     next: &mut MostClocks,
 ) -> Result<(), SlowPiece>
-    requires entries { IsSomeCertificate (E.list counting.now.entries.now) }
     ensures past { OnOk result (TakeOn counting.now.timing.now.states (E.list counting.now.entries.now) (clocks_in counting.now.shapes.now)
         (λ i. Takes (Place range.now) i.format i.instr) here.now next.new) }
     ensures kept { OnOk result (AreNoMore next.old next.new) }
@@ -199,7 +194,6 @@ fn add_calls<E: Entries>(
     here: &MostClocks,
     next: &mut MostClocks,
 ) -> Result<(), SlowPiece>
-    requires entries { IsSomeCertificate (E.list counting.now.entries.now) }
     requires fits { AreAddresses targets.now }
     ensures past { OnOk result (TakeOn counting.now.timing.now.states (E.list counting.now.entries.now) (clocks_in counting.now.shapes.now)
         (λ i. TakesCall targets.now i.instr) here.now next.new) }
@@ -235,7 +229,6 @@ fn add_fixed<E: Entries>(
     here: &MostClocks,
     next: &mut MostClocks,
 ) -> Result<(), SlowPiece>
-    requires entries { IsSomeCertificate (E.list counting.now.entries.now) }
     ensures past { OnOk result (TakeOn counting.now.timing.now.states (E.list counting.now.entries.now) (clocks_in counting.now.shapes.now)
         (λ i. Takes (Fixed words.0 words.1) i.format i.instr) here.now next.new) }
     ensures kept { OnOk result (AreNoMore next.old next.new) }
@@ -262,7 +255,6 @@ fn add_piece<E: Entries>(
     here: &MostClocks,
     next: &mut MostClocks,
 ) -> Result<(), SlowPiece>
-    requires entries { IsSomeCertificate (E.list counting.now.entries.now) }
     requires fits { PieceFits piece.now.kind }
     ensures { OnOk result (TakeOn counting.now.timing.now.states (E.list counting.now.entries.now) (clocks_in counting.now.shapes.now)
         (λ i. Takes piece.now.kind i.format i.instr) here.now next.new) }
@@ -284,7 +276,6 @@ fn past_row<E: Entries>(
     row: &[Piece],
     here: &MostClocks,
 ) -> Result<MostClocks, SlowPiece>
-    requires entries { IsSomeCertificate (E.list counting.now.entries.now) }
     requires fits { RowFits row.now }
     ensures { IfOk result (Spend counting.now.timing.now.states (E.list counting.now.entries.now) (clocks_in counting.now.shapes.now) (AddsRow row.now) here.now) }
 {
@@ -304,7 +295,6 @@ fn past_part<E: Entries>(
     counting: &Counting<E>,
     here: &MostClocks,
 ) -> Result<MostClocks, SlowPiece>
-    requires entries { IsSomeCertificate (E.list counting.now.entries.now) }
     requires fits { IsWithin part.now }
     ensures { IfOk result (Spend counting.now.timing.now.states (E.list counting.now.entries.now) (clocks_in counting.now.shapes.now) (Spells part.now) here.now) }
 {
@@ -332,7 +322,6 @@ fn past_turns<E: Entries>(
     most: u16,
     here: &MostClocks,
 ) -> Result<MostClocks, SlowPiece>
-    requires entries { IsSomeCertificate (E.list counting.now.entries.now) }
     requires fits { IsWithin body.now }
     requires turns { least ≤ most }
     ensures { IfOk result (Spend counting.now.timing.now.states (E.list counting.now.entries.now) (clocks_in counting.now.shapes.now) (Turns least most (Spells body.now)) here.now) }
@@ -355,7 +344,6 @@ fn past_jump<E: Entries>(
     piece: Option<u16>,
     here: &MostClocks,
 ) -> Result<MostClocks, SlowPiece>
-    requires entries { IsSomeCertificate (E.list counting.now.entries.now) }
     ensures { IfOk result (TakeOn counting.now.timing.now.states (E.list counting.now.entries.now) (clocks_in counting.now.shapes.now) (λ i. (to : ℕ) × (i.instr ≡ Jumps to)) here.now) }
 {
     let mut next = MostClocks::NONE;
@@ -370,7 +358,6 @@ fn past_jumps<E: Entries>(
     jumps: &[Jump],
     here: &MostClocks,
 ) -> Result<MostClocks, SlowPiece>
-    requires entries { IsSomeCertificate (E.list counting.now.entries.now) }
     requires fits { AreWithin jumps.now }
     ensures { IfOk result (Spend counting.now.timing.now.states (E.list counting.now.entries.now) (clocks_in counting.now.shapes.now) (SpellsJumps jumps.now) here.now) }
 {
@@ -384,7 +371,6 @@ fn past_jumps<E: Entries>(
 
 /// What may be taken where a list begins in an area.
 fn starts_in<E: Entries>(counting: &Counting<E>, area: &Area) -> Result<MostClocks, SlowPiece>
-    requires entries { IsSomeCertificate (E.list counting.now.entries.now) }
     ensures { IfOk result (StartWith counting.now.timing.now.states (E.list counting.now.entries.now) (clocks_in counting.now.shapes.now) (area.now ∷ [])) }
 {
     let mut first = MostClocks::NONE;
@@ -397,7 +383,6 @@ fn starts_in<E: Entries>(counting: &Counting<E>, area: &Area) -> Result<MostCloc
 
 /// What may be taken where lists begin.
 fn starts<E: Entries>(counting: &Counting<E>, lists: &[Area]) -> Result<MostClocks, SlowPiece>
-    requires entries { IsSomeCertificate (E.list counting.now.entries.now) }
     ensures { IfOk result (StartWith counting.now.timing.now.states (E.list counting.now.entries.now) (clocks_in counting.now.shapes.now) lists.now) }
 {
     let mut here = MostClocks::NONE;
@@ -409,7 +394,6 @@ fn starts<E: Entries>(counting: &Counting<E>, lists: &[Area]) -> Result<MostCloc
 
 /// What may be taken before the HALT of a recipe's lists.
 fn past_lists<E: Entries>(counting: &Counting<E>, recipe: &Recipe) -> Result<MostClocks, SlowPiece>
-    requires entries { IsSomeCertificate (E.list counting.now.entries.now) }
     ensures { IfOk result (EndWith counting.now.timing.now.states (E.list counting.now.entries.now) (clocks_in counting.now.shapes.now) recipe.now) }
 {
     let here = starts(counting, recipe.lists())?;
@@ -422,7 +406,6 @@ pub fn most_of_lists<E: Entries>(
     counting: &Counting<E>,
     recipe: &Recipe,
 ) -> Result<ClockRange, SlowPiece>
-    requires entries { IsSomeCertificate (E.list counting.now.entries.now) }
     ensures lists { IfOk result (AreListsUnder counting.now.timing.now.states (E.list counting.now.entries.now) (clocks_in counting.now.shapes.now) recipe.now) }
     ensures within { IfOk result (λ most. most.most ≤ counting.now.timing.now.limit) }
 {

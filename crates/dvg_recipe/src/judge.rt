@@ -153,7 +153,6 @@ fn add_act<E: Entries>(
     next: &mut Vec<Hull>,
     broken: &mut Option<FrameWhy>,
 ) -> Result<(), AllocError>
-    requires entries { IsSomeCertificate (E.list entries.now) }
     requires fits { ActFits act.now }
     ensures fine { IfOk result (λ _. broken.new ≡ None → broken.old ≡ None) }
     ensures leads { IfOk result (λ _. broken.new ≡ None → LeadOn asked.now.window (E.list entries.now) asked.now.budget (IsAct (E.list entries.now) act.now) here.now next.new.items) }
@@ -180,7 +179,6 @@ fn add_place<E: Entries>(
     next: &mut Vec<Hull>,
     broken: &mut Option<FrameWhy>,
 ) -> Result<(), AllocError>
-    requires entries { IsSomeCertificate (E.list entries.now) }
     requires fits { PieceFits (Place range.now) }
     requires scale { scale ≤ 15 }
     ensures fine { IfOk result (λ _. broken.new ≡ None → broken.old ≡ None) }
@@ -207,7 +205,6 @@ fn add_places<E: Entries>(
     next: &mut Vec<Hull>,
     broken: &mut Option<FrameWhy>,
 ) -> Result<(), AllocError>
-    requires entries { IsSomeCertificate (E.list entries.now) }
     requires fits { PieceFits (Place range.now) }
     ensures fine { IfOk result (λ _. broken.new ≡ None → broken.old ≡ None) }
     ensures leads { IfOk result (λ _. broken.new ≡ None → LeadOn asked.now.window (E.list entries.now) asked.now.budget (IsTaken (Place range.now)) here.now next.new.items) }
@@ -233,7 +230,6 @@ fn add_calls<E: Entries>(
     next: &mut Vec<Hull>,
     broken: &mut Option<FrameWhy>,
 ) -> Result<(), AllocError>
-    requires entries { IsSomeCertificate (E.list entries.now) }
     ensures fine { IfOk result (λ _. broken.new ≡ None → broken.old ≡ None) }
     ensures leads { IfOk result (λ _. broken.new ≡ None → LeadOn asked.now.window (E.list entries.now) asked.now.budget (λ known i. TakesCall targets.now i.instr) here.now next.new.items) }
     ensures noted { IfOk result (λ _. notes.new ≡ notes.old) }
@@ -256,7 +252,6 @@ fn add_items<E: Entries>(
     next: &mut Vec<Hull>,
     broken: &mut Option<FrameWhy>,
 ) -> Result<(), AllocError>
-    requires entries { IsSomeCertificate (E.list entries.now) }
     requires fits { PieceFits piece.now.kind }
     ensures fine { IfOk result (λ _. broken.new ≡ None → broken.old ≡ None) }
     ensures leads { IfOk result (λ _. broken.new ≡ None → LeadOn asked.now.window (E.list entries.now) asked.now.budget (IsTaken piece.now.kind) here.now next.new.items) }
@@ -287,7 +282,6 @@ pub fn add_piece<E: Entries>(
     here: &[Hull],
     next: &mut Vec<Hull>,
 ) -> Result<(), AllocError>
-    requires entries { IsSomeCertificate (E.list entries.now) }
     requires fits { PieceFits piece.now.kind }
     ensures leads { IfOk result (λ _. IfFine notes.old notes.new (LeadOn asked.now.window (E.list entries.now) asked.now.budget (IsTaken piece.now.kind) here.now next.new.items)) }
     ensures kept { IfOk result (λ _. AreUnder next.old.items next.new.items) }
@@ -307,7 +301,6 @@ pub fn past_piece<E: Entries>(
     piece: &Piece,
     here: &[Hull],
 ) -> Result<Vec<Hull>, AllocError>
-    requires entries { IsSomeCertificate (E.list entries.now) }
     requires fits { PieceFits piece.now.kind }
     ensures leads { IfOk result (λ next. IfFine notes.old notes.new (LeadOn asked.now.window (E.list entries.now) asked.now.budget (IsTaken piece.now.kind) here.now next.items)) }
 {
@@ -325,7 +318,6 @@ fn past_row<E: Entries>(
     row: &[Piece],
     here: Vec<Hull>,
 ) -> Result<Vec<Hull>, AllocError>
-    requires entries { IsSomeCertificate (E.list entries.now) }
     requires fits { RowFits row.now }
     ensures carries { IfOk result (λ next. IfFine notes.old notes.new (Carries asked.now.window (E.list entries.now) asked.now.budget (AddsRow row.now) here.items next.items)) }
 {
@@ -346,7 +338,6 @@ fn add_pieces<E: Entries>(
     here: &[Hull],
     next: &mut Vec<Hull>,
 ) -> Result<(), AllocError>
-    requires entries { IsSomeCertificate (E.list entries.now) }
     requires fits { RowFits row.now }
     ensures carries { IfOk result (λ _. IfFine notes.old notes.new (Carries asked.now.window (E.list entries.now) asked.now.budget (AddsRow row.now) here.now next.new.items)) }
     ensures kept { IfOk result (λ _. AreUnder next.old.items next.new.items) }
@@ -368,7 +359,6 @@ fn add_row<E: Entries>(
     here: &[Hull],
     next: &mut Vec<Hull>,
 ) -> Result<(), AllocError>
-    requires entries { IsSomeCertificate (E.list entries.now) }
     requires fits { RowFits row.now }
     ensures carries { IfOk result (λ _. IfFine notes.old notes.new (Carries asked.now.window (E.list entries.now) asked.now.budget (AddsRow row.now) here.now next.new.items)) }
     ensures kept { IfOk result (λ _. AreUnder next.old.items next.new.items) }
@@ -390,7 +380,6 @@ pub fn add_part<E: Entries>(
     here: &[Hull],
     next: &mut Vec<Hull>,
 ) -> Result<(), AllocError>
-    requires entries { IsSomeCertificate (E.list entries.now) }
     requires fits { IsWithin part.now }
     ensures carries { IfOk result (λ _. IfFine notes.old notes.new (Carries asked.now.window (E.list entries.now) asked.now.budget (Spells part.now) here.now next.new.items)) }
     ensures kept { IfOk result (λ _. AreUnder next.old.items next.new.items) }
@@ -428,7 +417,6 @@ fn add_repeat<E: Entries>(
     here: &[Hull],
     next: &mut Vec<Hull>,
 ) -> Result<(), AllocError>
-    requires entries { IsSomeCertificate (E.list entries.now) }
     requires fits { IsWithin body.now }
     requires turns { least ≤ most }
     ensures carries { IfOk result (λ _. IfFine notes.old notes.new (Carries asked.now.window (E.list entries.now) asked.now.budget (Turns least most (Spells body.now)) here.now next.new.items)) }
@@ -459,7 +447,6 @@ pub fn past_part<E: Entries>(
     notes: &mut Notes,
     here: &[Hull],
 ) -> Result<Vec<Hull>, AllocError>
-    requires entries { IsSomeCertificate (E.list entries.now) }
     requires fits { IsWithin part.now }
     ensures carries { IfOk result (λ next. IfFine notes.old notes.new (Carries asked.now.window (E.list entries.now) asked.now.budget (Spells part.now) here.now next.items)) }
 {
@@ -477,7 +464,6 @@ fn past_jumps<E: Entries>(
     jumps: &[Jump],
     here: Vec<Hull>,
 ) -> Result<Vec<Hull>, AllocError>
-    requires entries { IsSomeCertificate (E.list entries.now) }
     requires fits { AreWithin jumps.now }
     ensures carries { IfOk result (λ next. IfFine notes.old notes.new (Carries asked.now.window (E.list entries.now) asked.now.budget (SpellsJumps jumps.now) here.items next.items)) }
 {
@@ -589,7 +575,6 @@ pub fn past_recipe<E: Entries>(
     recipe: &Recipe,
     notes: &mut Notes,
 ) -> Result<Vec<Hull>, AllocError>
-    requires entries { IsSomeCertificate (E.list entries.now) }
     ensures good { IfOk result (λ ends. IfFine notes.old notes.new (AreGoodMembers asked.now.window (E.list entries.now) asked.now.budget recipe.now ends.items)) }
 {
     let here = starts(alloc, asked, notes, recipe.lists())?;

@@ -3,11 +3,11 @@
 ghost use Rattle.std.specs.Prelude.{◌≡◌, ◌↔◌, ◌<◌, ◌+◌, ◌∷◌, List, Some, IsTrue, OnOk, IfOk, IfErr, IfSome, take, reverse};
 ghost use Rattle.dvg_words.specs.declared.map.TheConstants.{ADDRESS_END};
 ghost use Rattle.dvg_words.specs.Decoding.{InstrFits};
-ghost use Rattle.dvg_cert.specs.Entry.{IsKey};
+ghost use Rattle.dvg_cert.specs.Entry.{IsKey, IsClaim};
 ghost use Rattle.dvg_cert.specs.Lookup.{entry_at};
 ghost use Rattle.dvg_items.specs.declared.item.Kind.TheVariants.{Frame};
 ghost use Rattle.dvg_items.specs.Known.{target};
-ghost use Rattle.dvg_items.specs.Bounds.{IsClaim, IsSoundCursor};
+ghost use Rattle.dvg_items.specs.Bounds.{IsSoundCursor};
 ghost use Rattle.dvg_make.specs.Made.{AllMade};
 ghost use Rattle.dvg_make.specs.Refusals.{BarsEntry};
 ghost use Rattle.dvg_recipe.specs.Recipes.{NamesMade, Names, ComesTo, IsPlaceIn, IsEndIn, LeadsInto, Arrives};

@@ -3,7 +3,6 @@
 ghost use Rattle.std.specs.Prelude.{◌≡◌, ◌≤◌, IfOk};
 ghost use Rattle.dvg_words.specs.declared.machine.Machine.TheVariants.{Board};
 ghost use Rattle.dvg_cert.specs.declared.limits.TheConstants.{MOST_WORDS};
-ghost use Rattle.dvg_items.specs.Bounds.{IsSomeCertificate};
 ghost use Rattle.dvg_make.specs.Made.{AllMade};
 ghost use Rattle.dvg_recipe.specs.Means.{AllMean};
 ghost use Rattle.dvg_recipe.specs.Members.{recipe_number};
@@ -84,9 +83,7 @@ fn stuck_or<E: Entries>(
     recipe: &Recipe,
     fault: ShapeFault,
     notes: &mut Notes,
-) -> RecipeRefusal
-    requires entries { IsSomeCertificate (E.list entries.now) }
-{
+) -> RecipeRefusal {
     if past_recipe(alloc, entries, asked, recipe, notes).is_err() {
         return RecipeRefusal::Memory;
     }

@@ -76,13 +76,10 @@ struct Search<'a, E: Entries> {
 impl<'a, E: Entries> Model for Search<'a, E> {
     ghost use Rattle.std.specs.Prelude.{List};
     ghost use Rattle.dvg_cert.specs.declared.entry.Entry.{Entry};
-    ghost use Rattle.dvg_items.specs.Bounds.{IsSomeCertificate};
 
     ghost Value = { List Entry };
 
     ghost view = { λ search. E.list search.entries.now };
-
-    ghost invariant = { λ search. IsSomeCertificate (E.list search.entries.now) };
 }
 
 /// What an item has to do.
@@ -647,9 +644,7 @@ pub fn find<E: Entries>(
     asked: &Asked,
     stop: &Stop,
     recipe: &Recipe,
-) -> Result<Option<LeadingFrame>, AllocError>
-    requires entries { IsSomeCertificate (E.list entries.now) }
-{
+) -> Result<Option<LeadingFrame>, AllocError> {
     let search = Search {
         alloc,
         entries,

@@ -1,7 +1,8 @@
 //! The calls by which a frame comes to an entry.
 
 ghost use Rattle.std.specs.Prelude.{◌≡◌, List, OnOk, IfOk, IfSome, IfNone};
-ghost use Rattle.dvg_items.specs.Bounds.{IsClaim, IsSomeCertificate};
+ghost use Rattle.dvg_cert.specs.Entry.{IsClaim};
+ghost use Rattle.dvg_items.specs.Bounds.{IsSomeCertificate};
 ghost use Rattle.dvg_survey.specs.Calls.{Call};
 ghost use Rattle.dvg_survey.specs.Chains.{IsChain};
 ghost use Rattle.dvg_survey.specs.Private.Reaching.{IsReachedByFrame, IsReachedByShape};

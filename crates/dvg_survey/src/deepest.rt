@@ -2,7 +2,8 @@
 
 ghost use Rattle.std.specs.Prelude.{◌≡◌, Contains, length, Some, IfOk, IfSome, IfNone};
 ghost use Rattle.dvg_cert.specs.declared.entry.Entry.{Entry};
-ghost use Rattle.dvg_items.specs.Bounds.{IsClaim, IsSomeCertificate, IsSoundSeen};
+ghost use Rattle.dvg_cert.specs.Entry.{IsClaim};
+ghost use Rattle.dvg_items.specs.Bounds.{IsSoundSeen};
 ghost use Rattle.dvg_items.specs.Known.{depth_under};
 ghost use Rattle.dvg_survey.specs.Calls.{Call};
 ghost use Rattle.dvg_survey.specs.Deepest.{BearsNot, FirstBears, GoDeepest};
@@ -47,7 +48,6 @@ pub fn deepest_calls<E: Entries>(
 /// The first call of an entry's shape that bears out the depth that the entry claims.
 #[tactic(auto, using(crate::proofs::Walking::begins))]
 fn first_bearing<E: Entries>(rom: &RomImage, entries: &E, entry: &Entry) -> Option<Call>
-    requires entries { IsSomeCertificate (E.list entries.now) }
     requires entry { IsClaim entry.now }
     ensures some { IfSome result (FirstBears rom.now (E.list entries.now) entry.now) }
     ensures none { IfNone result ((call : Call) → BearsNot rom.now (E.list entries.now) entry.now call) }

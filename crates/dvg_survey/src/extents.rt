@@ -5,7 +5,8 @@ ghost use Rattle.dvg_words.specs.Decoding.{InstrFits};
 ghost use Rattle.dvg_words.specs.declared.map.TheConstants.{ADDRESS_END};
 ghost use Rattle.dvg_cert.specs.declared.entry.Entry.{Entry as EntryValue};
 ghost use Rattle.dvg_cert.specs.declared.entry.Key.{Key};
-ghost use Rattle.dvg_items.specs.Bounds.{IsClaim, IsNearPlace, IsSomeCertificate, IsSoundCursor};
+ghost use Rattle.dvg_cert.specs.Entry.{IsClaim};
+ghost use Rattle.dvg_items.specs.Bounds.{IsNearPlace, IsSoundCursor};
 ghost use Rattle.dvg_items.specs.Known.{callee_at, effect_of, known_past as past_item, target};
 ghost use Rattle.dvg_items.specs.declared.known.Known.{Known as KnownValue};
 ghost use Rattle.dvg_items.specs.Seen.{seen_with};
@@ -54,7 +55,6 @@ fn place_set(machine: Machine, instr: &Instr, called: &Option<Entry>) -> Option<
 /// lights nothing at one.
 #[inline(always)]
 fn known_past<E: Entries>(machine: Machine, entries: &E, here: &Cursor, item: &Item) -> Known
-    requires entries { IsSomeCertificate (E.list entries.now) }
     requires here { IsSoundCursor here.now }
     requires place { IsNotAbsolute here.now.known.place }
     requires item { (item.now.at ≡ here.now.at) × (here.now.at < ADDRESS_END) × InstrFits item.now.instr }
@@ -82,7 +82,6 @@ fn pass_item<E: Entries>(
     item: &Item,
     lit: &mut LitBox,
 ) -> Known
-    requires entries { IsSomeCertificate (E.list entries.now) }
     requires here { IsSoundCursor here.now }
     requires item { (item.now.at ≡ here.now.at) × (here.now.at < ADDRESS_END) × InstrFits item.now.instr }
     ensures passed { (known : KnownValue) → IsAlike known here.now.known
@@ -102,7 +101,6 @@ fn pass_item<E: Entries>(
 
 /// The least box of what an entry's shape lights at absolute places, up to its end or to where another entry's shape goes on.
 fn own_extent<E: Entries>(rom: &RomImage, entries: &E, entry: &Entry) -> LitBox
-    requires entries { IsSomeCertificate (E.list entries.now) }
     requires entry { IsClaim entry.now }
     ensures { IsOwnExtent rom.now (E.list entries.now) entry.now result }
 {

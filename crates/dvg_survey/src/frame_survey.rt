@@ -2,7 +2,7 @@
 
 ghost use Rattle.std.specs.Prelude.{◌≡◌, [], IfOk, OnOk};
 ghost use Rattle.dvg_words.specs.Memory.{frame_word};
-ghost use Rattle.dvg_items.specs.Bounds.{IsSoundSeen, IsSomeCertificate};
+ghost use Rattle.dvg_items.specs.Bounds.{IsSoundSeen};
 ghost use Rattle.dvg_items.specs.Known.{Context, frame_context};
 ghost use Rattle.dvg_survey.specs.Clipping.{ClippedPast};
 ghost use Rattle.dvg_survey.specs.Faint.{is_faint, faint_past};
@@ -99,7 +99,6 @@ pub fn survey_items<E: Entries>(
     frame: &FrameOn,
     entries: &E,
 ) -> Result<FrameSurvey, AllocError>
-    requires { IsSomeCertificate (E.list entries.now) }
     ensures { IfOk result (IsSurvey (frame_context frame.now.machine (E.list entries.now)) (frame_word frame.now.machine frame.now.frame)) }
 {
     let mut survey = FrameSurvey::empty(alloc);

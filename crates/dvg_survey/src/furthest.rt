@@ -1,7 +1,8 @@
 //! The stroke by which a shape lights as far towards an edge as its entry's box.
 
 ghost use Rattle.std.specs.Prelude.{◌≡◌, ◌↔◌, Contains, IsTrue, length, IfSome, IfNone};
-ghost use Rattle.dvg_items.specs.Bounds.{IsClaim, IsSomeCertificate, IsSoundSeen};
+ghost use Rattle.dvg_cert.specs.Entry.{IsClaim};
+ghost use Rattle.dvg_items.specs.Bounds.{IsSoundSeen};
 ghost use Rattle.dvg_items.specs.Lit.{relative_corners};
 ghost use Rattle.dvg_survey.specs.Furthest.{IsOnSide, Reaches, FirstReaches, NoneReaches, FindsStroke};
 
@@ -43,7 +44,6 @@ fn first_reaching<E: Entries>(
     entry: &Entry,
     edge: Edge,
 ) -> Option<Seen>
-    requires entries { IsSomeCertificate (E.list entries.now) }
     requires entry { IsClaim entry.now }
     ensures some { IfSome result (FirstReaches rom.now (E.list entries.now) edge entry.now) }
     ensures none { IfNone result (NoneReaches rom.now (E.list entries.now) edge entry.now) }

@@ -9,7 +9,7 @@ ghost use Rattle.dvg_words.specs.declared.instruction.Instr.{Instr};
 ghost use Rattle.dvg_words.specs.declared.map.TheConstants.{ADDRESS_END};
 ghost use Rattle.dvg_cert.specs.Entry.{IsKey};
 ghost use Rattle.dvg_cert.specs.declared.entry.Key.TheVariants.{Any};
-ghost use Rattle.dvg_items.specs.Bounds.{IsSomeCertificate, IsSoundCursor, IsSoundSeen};
+ghost use Rattle.dvg_items.specs.Bounds.{IsSoundCursor, IsSoundSeen};
 ghost use Rattle.dvg_items.specs.Least.{IsLeast};
 ghost use Rattle.dvg_items.specs.Lit.{absolute_corners};
 ghost use Rattle.dvg_items.specs.declared.item.Kind.TheVariants.{Frame, Shape};
@@ -60,7 +60,6 @@ impl WalkContext {
 
 /// What the rules see of the item at a cursor; `None` where no item stands there.
 pub fn see<F: Fetch, E: Entries>(memory: &F, entries: &E, kind: Kind, here: &Cursor) -> Option<Seen>
-    requires entries { IsSomeCertificate (E.list entries.now) }
     requires here { IsSoundCursor here.now }
     ensures some { IfSome result (IsSeenAt (F.words memory.now).machine (E.list entries.now) kind (F.words memory.now) here.now) }
     ensures sound { IfSome result IsSoundSeen }
@@ -97,7 +96,6 @@ pub fn new_calls<E: Entries>(
     entry: &Entry,
     visited: &mut KeyedWords,
 ) -> Result<Vec<Call>, AllocError>
-    requires entries { IsSomeCertificate (E.list entries.now) }
     requires key { IsKey entry.now.key }
     ensures { IfOk result (λ calls. AreNewCalls rom.now (E.list entries.now) entry.now visited.old visited.new calls.items) }
 {

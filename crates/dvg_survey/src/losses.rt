@@ -4,7 +4,6 @@ ghost use Rattle.std.specs.Prelude.{◌≡◌, ◌<◌, Contains, IfSome, IfNone
 ghost use Rattle.dvg_words.specs.Memory.{frame_word, rom_word};
 ghost use Rattle.dvg_words.specs.declared.map.TheConstants.{ADDRESS_END};
 ghost use Rattle.dvg_cert.specs.Entry.{IsKey};
-ghost use Rattle.dvg_items.specs.Bounds.{IsSomeCertificate};
 ghost use Rattle.dvg_items.specs.Known.{frame_context, shape_context};
 ghost use Rattle.dvg_items.specs.declared.item.Kind.TheVariants.{Frame, Shape};
 ghost use Rattle.dvg_survey.specs.Losses.{AreLosses, NoneLead, place_loss, scale_loss};
@@ -74,7 +73,6 @@ fn losses_before<F: Fetch, E: Entries>(
     walk: &WalkContext,
     at: u16,
 ) -> Option<Losses>
-    requires entries { IsSomeCertificate (E.list entries.now) }
     requires first { walk.now.first < ADDRESS_END }
     requires scale { IsKey walk.now.scale }
     ensures some { IfSome result (AreLosses (context_of (F.words memory.now).machine (E.list entries.now) walk.now) (F.words memory.now) walk.now.first at) }

@@ -6,8 +6,8 @@
 
 ghost use Rattle.std.specs.Prelude.{◌≡◌, ◌↔◌, ◌≤ℤ◌, ◌+ℤ◌, ◌*ℤ◌, pos, ℕ, ℤ, List, Contains, IsTrue, IsFalse, IfOk};
 ghost use Rattle.dvg_words.specs.Memory.{Rom as RomValue};
-ghost use Rattle.dvg_cert.specs.Entry.{IsBox, IsNumber};
-ghost use Rattle.dvg_items.specs.Bounds.{IsClaim, IsSomeCertificate, IsSoundSeen};
+ghost use Rattle.dvg_cert.specs.Entry.{IsBox, IsNumber, IsClaim};
+ghost use Rattle.dvg_items.specs.Bounds.{IsSomeCertificate, IsSoundSeen};
 ghost use Rattle.dvg_items.specs.Lit.{LitInWindow, box_extent};
 ghost use Rattle.dvg_items.specs.declared.seen.Seen.{Seen as SeenValue};
 ghost use Rattle.dvg_check.specs.Rules.{FrameKeeps, ShapeKeeps};
@@ -133,7 +133,6 @@ fn is_clean<E: Entries>(
     entry: &Entry,
     broken: &KeyedWords,
 ) -> bool
-    requires entries { IsSomeCertificate (E.list entries.now) }
     requires entry { IsClaim entry.now }
     ensures clean { IsTrue result → IsClean window.now rom.now (E.list entries.now) broken.now entry.now }
     ensures faulty { IsFalse result → IsFaulty window.now rom.now (E.list entries.now) broken.now entry.now }

@@ -2,7 +2,7 @@
 
 ghost use Rattle.std.specs.Prelude.{◌≡◌, ◌<◌, [], length, slice_get, OnOk, IfOk};
 ghost use Rattle.std.specs.List.{All};
-ghost use Rattle.dvg_items.specs.Bounds.{IsClaim};
+ghost use Rattle.dvg_cert.specs.Entry.{IsClaim};
 ghost use Rattle.dvg_survey.specs.Calls.{Call};
 ghost use Rattle.dvg_survey.specs.Private.Reaching.{reach, reach_all, IsBackward, IsTrace};
 

@@ -1,8 +1,13 @@
 use Rattle.std.proofs.Common.{arith, ◌+◌, ◌<◌, sym, subst, ◌∙◌, List, length}
+use Rattle.std.proofs.lemmas.List.Elements.{Contains-get_or}
 use Rattle.dvg_make.proofs.Common.{Entry}
 use Rattle.dvg_kept.proofs.Merging.{Added, more_added, same_added, some_of}
 use Rattle.dvg_kept.proofs.kept.merged.Goals.{then-is_none+in_ok-add, else-is_none}
 use Rattle.dvg_kept.proofs.kept.merged.Goals as goal
+
+pub add-requires-clause-claim : goal.add-requires-clause-claim
+add-requires-clause-claim c =
+    c.requires _ (Contains-get_or c.args.made.now c.loop-entry.entry-index _ (omega (arith, c.loop-entry-test.true)))
 
 pub loop-entry-preserved : goal.loop-entry-preserved
 loop-entry-preserved c =
@@ -15,5 +20,5 @@ loop-entry-preserved c =
       | else-is_none w ↦
           let has = some_of _ _ c.is_none.ensures w.if-is_none.false in
           subst (λ (l : List Entry). Added c.args.entries c.args.made.now (n + 1) l) (sym w.merged-is)
-          (same_added c.args.entries c.args.made.now n c.loop-entry.merged c.loop-entry.invariant lt _ has.0 (sym c.find.ensures ∙ has.1))
+          (same_added c.args.entries c.args.made.now n c.loop-entry.merged c.loop-entry.invariant lt _ has.0 (sym c.find.ensures.entry ∙ has.1))
     ]

@@ -7,10 +7,11 @@ use Rattle.dvg_recipe.proofs.Leads.{each_next}
 use Rattle.dvg_recipe.proofs.Spending.{no_more_on, on_more, on_fewer, on_calls, calls_alike}
 use Rattle.dvg_recipe.proofs.clocks.add_calls.Goals as goal
 
-pub add_item-requires-clause-fields : goal.add_item-requires-clause-fields
-add_item-requires-clause-fields g c =
-    subst (λ (j : Item). InstrFits j.instr) (sym c.somewhere-call.ensures)
-    (omega (arith, c.requires.fits.each _ (Contains-get_or c.args.targets.now c.loop-to.to-index 0 c.loop-to-test.true)))
+pub add_item-requires : goal.add_item-requires
+add_item-requires g c = record {
+  fields = subst (λ (j : Item). InstrFits j.instr) (sym c.somewhere-call.ensures)
+      (omega (arith, c.requires.fits.each _ (Contains-get_or c.args.targets.now c.loop-to.to-index 0 c.loop-to-test.true)));
+}
 
 pub loop-to-preserved : goal.loop-to-preserved
 loop-to-preserved g c =

@@ -7,15 +7,16 @@ use Rattle.dvg_recipe.proofs.Leading.{if_ok_on}
 use Rattle.dvg_recipe.proofs.Spending.{end_with}
 use Rattle.dvg_recipe.proofs.clocks.past_lists.Goals as goal
 
-pub past_jumps-requires-clause-fits : goal.past_jumps-requires-clause-fits
-past_jumps-requires-clause-fits g c =
-    record {
-      each = λ jump there. (
-        MOST_LEVELS,
-        MOST_NESTED,
-        c.jumps.ensures.fits jump (subst (λ (l : List Jump). Contains l jump) c.jumps.ensures.value there),
-      );
-    }
+pub past_jumps-requires : goal.past_jumps-requires
+past_jumps-requires g c = record {
+  fits = record {
+    each = λ jump there. (
+      MOST_LEVELS,
+      MOST_NESTED,
+      c.jumps.ensures.fits jump (subst (λ (l : List Jump). Contains l jump) c.jumps.ensures.value there),
+    );
+  };
+}
 
 pub returns : goal.returns
 returns g c =

@@ -6,10 +6,11 @@ use Rattle.dvg_recipe.specs.Private.Clocks.{TakeOn}
 use Rattle.dvg_recipe.proofs.Spending.{row_next}
 use Rattle.dvg_recipe.proofs.clocks.past_row.Goals as goal
 
-pub add_piece-requires-clause-fits : goal.add_piece-requires-clause-fits
-add_piece-requires-clause-fits g c =
-    subst (λ (p : Piece). PieceFits p.kind) (sym c.piece-item.is)
-    (c.requires.fits.each _ (Contains-get_or c.args.row.now c.loop-piece.piece-index c.piece-item.result c.loop-piece-test.true))
+pub add_piece-requires : goal.add_piece-requires
+add_piece-requires g c = record {
+  fits = subst (λ (p : Piece). PieceFits p.kind) (sym c.piece-item.is)
+      (c.requires.fits.each _ (Contains-get_or c.args.row.now c.loop-piece.piece-index c.piece-item.result c.loop-piece-test.true));
+}
 
 pub loop-piece-preserved : goal.loop-piece-preserved
 loop-piece-preserved g c =

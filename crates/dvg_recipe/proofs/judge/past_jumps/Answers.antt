@@ -5,10 +5,11 @@ use Rattle.dvg_recipe.specs.Private.Judging.{Carries, IsJump, IsWithin}
 use Rattle.dvg_recipe.proofs.Onward.{from_as, jumps_next}
 use Rattle.dvg_recipe.proofs.judge.past_jumps.Goals as goal
 
-pub past_part-requires-clause-fits : goal.past_part-requires-clause-fits
-past_part-requires-clause-fits g c =
-    subst (λ (j : Jump). IsWithin j.body) (sym c.jump-item.is)
-    (c.requires.fits.each _ (Contains-get_or c.args.jumps.now c.loop-jump.jump-index c.jump-item.result c.loop-jump-test.true))
+pub past_part-requires : goal.past_part-requires
+past_part-requires g c = record {
+  fits = subst (λ (j : Jump). IsWithin j.body) (sym c.jump-item.is)
+      (c.requires.fits.each _ (Contains-get_or c.args.jumps.now c.loop-jump.jump-index c.jump-item.result c.loop-jump-test.true));
+}
 
 pub loop-jump-preserved : goal.loop-jump-preserved
 loop-jump-preserved g c =

@@ -6,10 +6,11 @@ use Rattle.dvg_recipe.specs.Private.Judging.{IsTaken}
 use Rattle.dvg_recipe.proofs.Onward.{row_next}
 use Rattle.dvg_recipe.proofs.judge.past_row.Goals as goal
 
-pub past_piece-requires-clause-fits : goal.past_piece-requires-clause-fits
-past_piece-requires-clause-fits g c =
-    subst (λ (p : Piece). PieceFits p.kind) (sym c.piece-item.is)
-    (c.requires.fits.each _ (Contains-get_or c.args.row.now c.loop-piece.piece-index c.piece-item.result c.loop-piece-test.true))
+pub past_piece-requires : goal.past_piece-requires
+past_piece-requires g c = record {
+  fits = subst (λ (p : Piece). PieceFits p.kind) (sym c.piece-item.is)
+      (c.requires.fits.each _ (Contains-get_or c.args.row.now c.loop-piece.piece-index c.piece-item.result c.loop-piece-test.true));
+}
 
 pub loop-piece-preserved : goal.loop-piece-preserved
 loop-piece-preserved g c =

@@ -1,7 +1,7 @@
-use Rattle.dvg_survey.proofs.Common.{arith, context_of}
+use Rattle.dvg_survey.proofs.Common.{arith, context_of, leads_on}
+use Rattle.dvg_items.proofs.Near.{next_further}
 use Rattle.dvg_survey.proofs.Walking.{losses_past, none_last}
 use Rattle.dvg_survey.proofs.losses.losses_before.Goals as goal
-use Rattle.dvg_survey.proofs.Common.{common_steps}
 use Rattle.dvg_survey.proofs.Walking.{begins, all_here, none_past}
 
 pub items-preserved : goal.items-preserved
@@ -23,4 +23,11 @@ pub returns-in_default-clause-none : goal.returns-in_default-clause-none
 returns-in_default-clause-none g c = grind (arith, begins, all_here, none_past)
 
 pub items-smaller : goal.items-smaller
-items-smaller g c = grind (arith, common_steps)
+items-smaller g c =
+    let goes = leads_on c.args.walk.now.kind c.in-Some.seen c.step.result c.in-Onward.next c.in-Onward.is c.step.ensures.value in
+    omega (
+      arith,
+      c.in-Some.ensures.some.at,
+      c.in-Some.ensures.sound.at,
+      (next_further c.args.walk.now.kind c.in-Some.seen.item c.in-Onward.next.at goes.0),
+    )

@@ -4,10 +4,11 @@ use Rattle.dvg_survey.proofs.Sweeping.{kept_on, marked_on}
 use Rattle.dvg_survey.proofs.places.sweep.Goals.{then-is_clean+in_ok-push, else-is_clean}
 use Rattle.dvg_survey.proofs.places.sweep.Goals as goal
 
-pub is_clean-requires-clause-entry : goal.is_clean-requires-clause-entry
-is_clean-requires-clause-entry g c =
-    listed_claim (g.E.Entries.list c.args.entries.now) _ c.requires.entries
-    (c.requires.swept _ (Contains-get_or c.args.swept.now c.loop-entry.entry-index _ c.loop-entry-test.true))
+pub is_clean-requires : goal.is_clean-requires
+is_clean-requires g c = record {
+  entry = listed_claim (g.E.Entries.list c.args.entries.now) _ c.requires.entries
+      (c.requires.swept _ (Contains-get_or c.args.swept.now c.loop-entry.entry-index _ c.loop-entry-test.true));
+}
 
 pub add-requires-clause-at : goal.add-requires-clause-at
 add-requires-clause-at g c =

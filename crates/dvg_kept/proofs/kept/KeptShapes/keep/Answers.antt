@@ -1,9 +1,13 @@
 use Rattle.std.proofs.Common.{arith, ◌≤◌, ◌+◌, length, sym, subst}
+use Rattle.dvg_items.proofs.Listed.{listed_claim}
 use Rattle.dvg_make.proofs.Common.{MOST_ENTRIES}
 use Rattle.dvg_kept.specs.Kept.{Kept, IsKept}
 use Rattle.dvg_kept.specs.Private.Own.{IsMerged}
 use Rattle.dvg_kept.proofs.Keeping.{kept_again}
 use Rattle.dvg_kept.proofs.kept.KeptShapes.keep.Goals as goal
+
+pub merged-requires : goal.merged-requires
+merged-requires c = λ e listed. listed_claim c.args.made.now e (c.args.self.now.rom.map, c.requires.certificate) listed
 
 pub invariant_of-self : goal.invariant_of-self
 invariant_of-self c =

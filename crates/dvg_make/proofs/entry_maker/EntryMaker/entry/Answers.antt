@@ -1,7 +1,6 @@
 use Rattle.dvg_make.proofs.Common.{sym, subst, ◌∙◌, BarsEntry}
 use Rattle.dvg_make.specs.EntryMaker.{MadeSoFar}
 use Rattle.dvg_make.proofs.Framing.{done_made, bars_entry}
-use Rattle.dvg_make.proofs.Onward.{found_claim}
 use Rattle.dvg_make.proofs.entry_maker.EntryMaker.entry.Goals as goal
 
 pub invariant_of-self : goal.invariant_of-self
@@ -16,7 +15,3 @@ returns-in-Err-clause-err c =
 
 pub returns-clause-made : goal.returns-clause-made
 returns-clause-made c = done_made _ _ c.in_default.ensures.right.done
-
-pub returns-clause-claim : goal.returns-clause-claim
-returns-clause-claim c =
-    found_claim _ _ _ c.args.addr c.args.key _ c.requires.near c.in_default.ensures.right.done.entries (sym c.find.ensures ∙ c.in-Some.is)

@@ -1,5 +1,5 @@
 use Rattle.dvg_make.proofs.Common.{refl, sym, subst, arith, ◌∙◌, IsFinished, IsStopped}
-use Rattle.dvg_make.proofs.Onward.{claim_of, waits, stops_absent, stops_said, onward, entry_claim, ended}
+use Rattle.dvg_make.proofs.Onward.{waits, stops_absent, stops_said, onward, ended}
 use Rattle.dvg_make.proofs.Turns.{if_err_same}
 use Rattle.dvg_make.proofs.Joining.{joined_one}
 use Rattle.dvg_make.proofs.making.Making.advance.Goals as goal
@@ -7,24 +7,11 @@ use Rattle.dvg_make.proofs.making.Making.advance.Goals as goal
 pub returns-in-Err-clause-ok : goal.returns-in-Err-clause-ok
 returns-in-Err-clause-ok c = grind (arith, waits)
 
-pub known_end-requires-clause-tails : goal.known_end-requires-clause-tails
-known_end-requires-clause-tails c =
-    λ t listed. entry_claim c.args.rom.now.map.rom_first c.args.rom.now.map.rom_last t (omega (arith, c.requires.right.map.inside))
-    (c.requires.right.tails t listed).entry
-
 pub returns-in-Some-clause-ok : goal.returns-in-Some-clause-ok
 returns-in-Some-clause-ok c =
     let f = joined_one c.args.rom.now c.args.self.now.done c.args.self.now.tails c.requires.right.done c.requires.right.tails
     c.loop-format.partial c.loop-format.invariant.partial c.in-Some.entry c.in-Some.ensures in
     record { addr = f.addr ∙ c.loop-format.invariant.addr; key = f.key ∙ c.loop-format.invariant.key; entry = f.entry; made = f.made }
-
-pub pass-requires-clause-callee : goal.pass-requires-clause-callee
-pass-requires-clause-callee c =
-    grind (
-      arith,
-      (claim_of c.args.rom.now c.args.self.now.done c.in-Holds.instr c.loop-format.partial.cursor.known.scale c.in-Ok.callee
-          (omega (arith, c.requires.right.map.inside)) c.requires.right.done.entries c.in-Ok.ensures.ok),
-    )
 
 pub returns-in_err-step-clause-err : goal.returns-in_err-step-clause-err
 returns-in_err-step-clause-err c =
@@ -38,13 +25,11 @@ loop-format-preserved c = grind (arith, onward)
 
 pub returns-in-Last-clause-ok : goal.returns-in-Last-clause-ok
 returns-in-Last-clause-ok c =
-    let claim = claim_of c.args.rom.now c.args.self.now.done c.in-Holds.instr c.loop-format.partial.cursor.known.scale c.in-Ok.callee
-    (omega (arith, c.requires.right.map.inside)) c.requires.right.done.entries c.in-Ok.ensures.ok in
     subst (IsFinished c.args.rom.now c.args.self.now.done c.args.from) (sym c.entry-entry.ensures)
     (ended c.args.rom.now c.args.self.now.done c.args.from c.loop-format.partial c.loop-format.invariant c.in-Holds.format
     c.in-Holds.instr (sym c.in-Holds.ensures.value) c.in-Ok.callee c.in-Ok.ensures.ok c.in_ok-step.lit
     (rw c.machine-machine.ensures at c.in_ok-step.ensures.ok) c.in_ok-step.step c.in-Last.known c.in-Last.is
-    (rw c.machine-machine.ensures at c.in_ok-step.ensures.step) c.requires.right.done c.in-Holds.ensures.fields claim)
+    (rw c.machine-machine.ensures at c.in_ok-step.ensures.step) c.requires.right.done c.in-Holds.ensures.fields c.in-Ok.ensures.claim)
 
 pub returns-clause-err : goal.returns-clause-err
 returns-clause-err c =

@@ -1,4 +1,5 @@
 use Rattle.dvg_make.proofs.Common.{◌∷◌, []}
+use Rattle.dvg_cert.proofs.ListParts.{entry_claim, near_last}
 use Rattle.dvg_make.proofs.Chains.{done_more}
 use Rattle.dvg_make.proofs.Joining.{tails_grow}
 use Rattle.dvg_make.proofs.Merging.{extends_more}
@@ -6,6 +7,9 @@ use Rattle.dvg_make.proofs.making.Making.finish.Goals as goal
 
 pub keep_tails-requires-clause-key : goal.keep_tails-requires-clause-key
 keep_tails-requires-clause-key c = c.requires.made.entry.key
+
+pub add-requires-clause-claim : goal.add-requires-clause-claim
+add-requires-clause-claim c = entry_claim _ _ c.args.entry (near_last _ c.requires.right.map) c.requires.made.entry
 
 pub returns-clause-right : goal.returns-clause-right
 returns-clause-right c =

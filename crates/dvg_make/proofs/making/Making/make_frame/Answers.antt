@@ -15,15 +15,6 @@ returns-in-Err-clause-err c =
           c.in-Err.blocked c.in-Err.ensures.err c.args.index),
     )
 
-pub scale_past-scale-requires-clause-callee : goal.scale_past-scale-requires-clause-callee
-scale_past-scale-requires-clause-callee c =
-    grind (
-      arith,
-      (called c.args.rom.now c.args.frame.now c.args.self.now.done c.loop-format.self.done c.loop-format.at
-          c.loop-format.scale c.loop-format.invariant.partial c.in-Holds.format c.in-Holds.instr (sym c.in-Holds.ensures.value)
-          (omega (arith, c.loop-format.invariant.right.map.inside)) c.make_call.new.self.done c.in-Ok.callee c.in-Ok.ensures.ok).claim,
-    )
-
 pub loop-format-preserved : goal.loop-format-preserved
 loop-format-preserved c = grind (arith, goes_on)
 
@@ -33,7 +24,7 @@ returns-in-None-clause-grows c =
       arith,
       (called c.args.rom.now c.args.frame.now c.args.self.now.done c.loop-format.self.done c.loop-format.at
           c.loop-format.scale c.loop-format.invariant.partial c.in-Holds.format c.in-Holds.instr (sym c.in-Holds.ensures.value)
-          (omega (arith, c.loop-format.invariant.right.map.inside)) c.make_call.new.self.done c.in-Ok.callee c.in-Ok.ensures.ok).partial.grows,
+          c.make_call.new.self.done c.in-Ok.callee c.in-Ok.ensures.ok).partial.grows,
     )
 
 pub returns-in-None-clause-ok : goal.returns-in-None-clause-ok
@@ -42,7 +33,7 @@ returns-in-None-clause-ok c =
       arith,
       (at_last c.args.rom.now c.args.frame.now c.args.self.now.done c.loop-format.self.done c.loop-format.at
           c.loop-format.scale c.loop-format.invariant.partial c.in-Holds.format c.in-Holds.instr (sym c.in-Holds.ensures.value)
-          (omega (arith, c.loop-format.invariant.right.map.inside)) c.make_call.new.self.done c.in-Ok.callee c.in-Ok.ensures.ok
+          c.make_call.new.self.done c.in-Ok.callee c.in-Ok.ensures.ok
           (sym c.in-None.ensures)),
     )
 

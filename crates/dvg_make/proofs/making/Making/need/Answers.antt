@@ -10,7 +10,7 @@ returns-in-Err-clause-err c =
     record {
       bars = rw c.obstacle-obstacle.ensures
           (first_fault c.args.rom.now c.args.self.now.done c.args.addr c.args.key c.requires.right.done
-          (nothing_found _ _ c.find.ensures (search rules)) c.new-stack.result c.new-stack.ensures c.start.result.cursor.at
+          (nothing_found _ _ c.find.ensures.entry (search rules)) c.new-stack.result c.new-stack.ensures c.start.result.cursor.at
           c.in-Err.cause c.in-Err.ensures.err);
       told = record {
         list = c.args.self.now.done;
@@ -20,7 +20,7 @@ returns-in-Err-clause-err c =
             (c.in-Err.ensures.same ∙ c.new-stack.ensures);
         room = room_of_none c.args.self.now.done c.begin.new.stack (c.in-Err.ensures.same ∙ c.new-stack.ensures) c.requires.right.done.room;
         tells = tells_first c.args.rom.now c.args.self.now.done c.args.addr c.args.key c.requires.right.done.unique
-            (nothing_found _ _ c.find.ensures (search rules)) c.new-stack.result c.begin.new.stack c.new-stack.ensures
+            (nothing_found _ _ c.find.ensures.entry (search rules)) c.new-stack.result c.begin.new.stack c.new-stack.ensures
             c.in-Err.ensures.same c.obstacle-obstacle.result c.in-Err.cause (rw c.start.ensures at c.obstacle-obstacle.ensures)
             c.in-Err.ensures.err;
       };
@@ -32,7 +32,7 @@ returns-in-Err-clause-err c =
 pub loop-partial-init : goal.loop-partial-init
 loop-partial-init c =
     let made = first_ok c.args.rom.now c.args.self.now.done c.args.addr c.args.key c.requires.right.done c.requires.near c.requires.key
-    (nothing_found _ _ c.find.ensures (search rules)) c.new-stack.result c.begin.new.stack c.new-stack.ensures
+    (nothing_found _ _ c.find.ensures.entry (search rules)) c.new-stack.result c.begin.new.stack c.new-stack.ensures
     c.in_default.ensures.ok in
     grind (
       arith,
