@@ -8,8 +8,8 @@ use Rattle.dvg_check.specs.Numbers.{refusal_number}
 use Rattle.dvg_check.specs.declared.fault.Mode.TheVariants.{Exact}
 use Rattle.dvg_check.specs.declared.verdict.Yes.{Yes}
 use Rattle.dvg_check.specs.declared.verdict.Refusal.{Refusal}
-use Rattle.dvg_check.specs.declared.finding.RomFinding.{RomFinding}
-use Rattle.dvg_check.specs.declared.finding.RomFinding.TheVariants as finding
+use Rattle.dvg_check.specs.declared.finding.Finding.{Finding}
+use Rattle.dvg_check.specs.declared.finding.Finding.TheVariants as finding
 use Rattle.dvg_account.specs.Accepted.{AcceptedLines, AreImagesOf}
 use Rattle.dvg_account.specs.Plain.{plain_lines}
 use Rattle.dvg_account.specs.Refused.{FrameLines, ShapeLines}
@@ -27,7 +27,7 @@ use Rattle.dvg_make.specs.declared.judging.FrameRefusal.TheVariants.{Check}
 
 -- the lines of a refusal of inputs with these images: those of the first fault of the shapes or the frame, where that is its cause,
 -- else of its number
-abbrev pub RefusedLines : Inputs → Option Rom → Option (List ℕ) → Refusal → Option RomFinding → List Told → Type 0
+abbrev pub RefusedLines : Inputs → Option Rom → Option (List ℕ) → Refusal → Option Finding → List Told → Type 0
 RefusedLines inputs rom frame refusal (Some (finding.Shape f)) lines =
     IfSome inputs.cert (λ cert. IfSome rom (λ r. ShapeLines inputs r frame cert.now.entries f lines))
 RefusedLines inputs rom frame refusal (Some (finding.Frame f)) lines =
@@ -35,25 +35,25 @@ RefusedLines inputs rom frame refusal (Some (finding.Frame f)) lines =
 RefusedLines inputs rom frame refusal cause lines = (why : PlainWhy) × (lines ≡ plain_lines inputs.machine (refusal_number refusal) why)
 
 -- the lines of a verdict on inputs with these images
-abbrev pub LinesOf : Inputs → Option Rom → Option (List ℕ) → Result Yes Refusal → Option RomFinding → List Told → Type 0
+abbrev pub LinesOf : Inputs → Option Rom → Option (List ℕ) → Result Yes Refusal → Option Finding → List Told → Type 0
 LinesOf inputs rom frame (Ok y) cause lines = AcceptedLines inputs rom frame y lines
 LinesOf inputs rom frame (Err refusal) cause lines = RefusedLines inputs rom frame refusal cause lines
 
 -- the lines of a verdict on inputs
-pub record VerdictLines (inputs : Inputs) (verdict : Result Yes Refusal) (cause : Option RomFinding) (lines : List Told) : Type 0 where
+pub record VerdictLines (inputs : Inputs) (verdict : Result Yes Refusal) (cause : Option Finding) (lines : List Told) : Type 0 where
   pub rom : Option Rom
   pub frame : Option (List ℕ)
   pub are_images : IfSome inputs.cert (λ cert. AreImagesOf inputs.machine cert.now.map inputs.rom.now inputs.frame.now rom frame)
   pub told : LinesOf inputs rom frame verdict cause lines
 
 -- the lines of a verdict on a frame; a refusal of the maker is told as one for memory
-abbrev pub FrameVerdictLines : Inputs → Result Yes FrameRefusal → Option RomFinding → List Told → Type 0
+abbrev pub FrameVerdictLines : Inputs → Result Yes FrameRefusal → Option Finding → List Told → Type 0
 FrameVerdictLines inputs (Ok y) cause lines = VerdictLines inputs (Ok y) None lines
 FrameVerdictLines inputs (Err (Check refusal)) cause lines = VerdictLines inputs (Err refusal) cause lines
 FrameVerdictLines inputs (Err refusal) cause lines = lines ≡ plain_lines inputs.machine 63 Nothing
 
 -- the lines of a verdict on inputs with these images that comes with the cause of a refusal
-abbrev pub JudgedLines : Inputs → Rom → List ℕ → Result Yes RomFinding → List Told → Type 0
+abbrev pub JudgedLines : Inputs → Rom → List ℕ → Result Yes Finding → List Told → Type 0
 JudgedLines inputs rom frame (Ok y) lines = AcceptedLines inputs (Some rom) (Some frame) y lines
 JudgedLines inputs rom frame (Err f) lines = RefusedLines inputs (Some rom) (Some frame) (refusal_of f) (Some f) lines
 

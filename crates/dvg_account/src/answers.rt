@@ -8,7 +8,7 @@ use crate::accepted::accepted_lines;
 use crate::inputs::Inputs;
 use crate::piece::Piece;
 use crate::refused::refused_lines;
-use dvg_check::{Refusal, RomFinding, Yes};
+use dvg_check::{Finding, Refusal, Yes};
 use dvg_words::{FrameImage, RomImage};
 use std::alloc::{AllocError, Global};
 
@@ -19,7 +19,7 @@ fn lines_of(
     rom: Option<&RomImage>,
     frame: Option<&FrameImage>,
     verdict: &Result<Yes, Refusal>,
-    cause: Option<&RomFinding>,
+    cause: Option<&Finding>,
 ) -> Result<Vec<Piece>, AllocError>
     ensures { IfOk result (λ lines. LinesOf inputs.now (option_copied rom.entry) (option_copied frame.entry) verdict.now
         (option_copied cause.entry) (told lines.items)) }
@@ -35,7 +35,7 @@ pub fn verdict_lines(
     alloc: Global,
     inputs: &Inputs,
     verdict: &Result<Yes, Refusal>,
-    cause: Option<&RomFinding>,
+    cause: Option<&Finding>,
 ) -> Result<Vec<Piece>, AllocError>
     ensures { IfOk result (λ lines. VerdictLines inputs.now verdict.now (option_copied cause.entry) (told lines.items)) }
 {

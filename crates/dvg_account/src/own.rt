@@ -10,7 +10,7 @@ use crate::inputs::{Inputs, PlainWhy, plain_lines};
 use crate::making::unmade_lines;
 use crate::piece::Piece;
 use crate::refused::refused_lines;
-use dvg_check::{Mode, RomFinding, Yes};
+use dvg_check::{Finding, Mode, Yes};
 use dvg_make::{EntryCause, FrameRefusal, JudgedFrame, MakeAccount, MakeFault};
 use dvg_words::{FrameImage, RomImage};
 use std::alloc::{AllocError, Global};
@@ -66,7 +66,7 @@ fn judged_lines(
     inputs: &Inputs,
     rom: &RomImage,
     frame: &FrameImage,
-    verdict: &Result<Yes, RomFinding>,
+    verdict: &Result<Yes, Finding>,
 ) -> Result<Vec<Piece>, AllocError>
     ensures { IfOk result (λ lines. JudgedLines inputs.now rom.now frame.now verdict.now (told lines.items)) }
 {
@@ -92,7 +92,7 @@ pub fn frame_lines(
     alloc: Global,
     inputs: &Inputs,
     verdict: &Result<Yes, FrameRefusal>,
-    cause: Option<&RomFinding>,
+    cause: Option<&Finding>,
 ) -> Result<Vec<Piece>, AllocError>
     ensures { IfOk result (λ lines. FrameVerdictLines inputs.now verdict.now (option_copied cause.entry) (told lines.items)) }
 {

@@ -22,7 +22,7 @@ use crate::piece::Piece::{self, Cure, Line, Name, OrHalt, Rule, Text, ToDo};
 use crate::piece::Role;
 use crate::why::{push_frame_why, push_shape_why};
 use dvg_cert::{Cert, Entries, Entry, HashIndex, ListIndex};
-use dvg_check::{FrameCause, FrameFinding, Refusal, RomFinding, ShapeFinding, ShapeWhy};
+use dvg_check::{Finding, FrameCause, FrameFinding, Refusal, ShapeFinding, ShapeWhy};
 use dvg_items::Kind;
 use dvg_survey::{Losses, find_chain, frame_losses, shape_losses};
 use dvg_words::{FrameImage, FrameOn, Machine, RomImage};
@@ -36,16 +36,16 @@ pub fn refused_lines(
     rom: Option<&RomImage>,
     frame: Option<&FrameImage>,
     refusal: &Refusal,
-    cause: Option<&RomFinding>,
+    cause: Option<&Finding>,
 ) -> Result<Vec<Piece>, AllocError>
     ensures { IfOk result (λ lines. RefusedLines inputs.now (option_copied rom.entry) (option_copied frame.entry) refusal.now
         (option_copied cause.entry) (told lines.items)) }
 {
     match (cause, inputs.cert, rom, frame) {
-        (Some(RomFinding::Shape(finding)), Some(cert), Some(rom), frame) => {
+        (Some(Finding::Shape(finding)), Some(cert), Some(rom), frame) => {
             shape_lines(alloc, inputs, rom, cert, frame, finding)
         }
-        (Some(RomFinding::Frame(finding)), Some(cert), rom, Some(frame)) => {
+        (Some(Finding::Frame(finding)), Some(cert), rom, Some(frame)) => {
             frame_lines(alloc, inputs, rom, cert, frame, finding)
         }
         _ => {

@@ -10,7 +10,7 @@ use dvg_check::{Edge, Leaving, Yes};
 use dvg_items::Item;
 use dvg_labels::Labels;
 use dvg_make::FrameRefusal;
-use dvg_spelling::{FrameAnswer, Rule, frame_report_of, own_rule_of, rule_of};
+use dvg_spelling::{Answer, Report, Rule, own_rule_of, rule_of};
 use dvg_words::{Draw, Format, Instr, RomMap};
 use std::alloc::{AllocError, Global};
 
@@ -214,11 +214,10 @@ fn last_of(map: RomMap, bytes: usize) -> Option<u16> {
 
 /// The answer to a frame, as its line has it.
 fn push_answer(text: &mut Text, answer: &Result<Yes, FrameRefusal>) {
-    let report = frame_report_of(&FrameAnswer::Judged(*answer));
-    let line = report.as_bytes();
-    if let Some(answer) = line.get(2..line.len().saturating_sub(1)) {
-        text.push_ascii(answer);
-    }
+    let answer = Answer::Judged(*answer);
+    let mut line = Report::new();
+    answer.push_to(&mut line);
+    text.push_ascii(line.as_bytes());
 }
 
 /// Where an item stands: its word address, and the processor's address of its first byte.

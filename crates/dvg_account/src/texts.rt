@@ -10,7 +10,7 @@ use crate::swapped::{Swapped, find_swapped};
 use crate::text::Text;
 use crate::time::{slow_lines, time_lines};
 use dvg_cert::Cert;
-use dvg_check::{Refusal, RomFinding, Yes};
+use dvg_check::{Finding, Refusal, Yes};
 use dvg_clocks::{FrameTime, TimedJudging, TimedRefusal};
 use dvg_labels::Labels;
 use dvg_make::{FrameRefusal, JudgedFrame, MakeAccount, own_verdict};
@@ -48,7 +48,7 @@ pub fn verdict_text(
     alloc: Global,
     inputs: &Inputs,
     verdict: &Result<Yes, Refusal>,
-    cause: Option<&RomFinding>,
+    cause: Option<&Finding>,
 ) -> Result<String, AllocError> {
     let lines = verdict_lines(alloc, inputs, verdict, cause)?;
     let swapped = match verdict {
@@ -64,7 +64,7 @@ pub fn frame_text(
     alloc: Global,
     inputs: &Inputs,
     verdict: &Result<Yes, FrameRefusal>,
-    cause: Option<&RomFinding>,
+    cause: Option<&Finding>,
 ) -> Result<String, AllocError> {
     let lines = frame_lines(alloc, inputs, verdict, cause)?;
     let swapped = swapped_for_frame(alloc, inputs, verdict)?;

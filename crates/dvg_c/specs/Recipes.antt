@@ -7,7 +7,7 @@ use Rattle.dvg_words.specs.declared.machine.Machine.TheVariants.{Board}
 use Rattle.dvg_check.specs.FirstFault.{shape_number, frame_number}
 use Rattle.dvg_make.specs.declared.fault.EntryFault.{EntryFault}
 use Rattle.dvg_make.specs.declared.fault.EntryFault.TheVariants as fault
-use Rattle.dvg_recipe.specs.declared.verdict.RecipeYes.{RecipeYes}
+use Rattle.dvg_check.specs.declared.verdict.Yes.{Yes}
 use Rattle.dvg_recipe_text.specs.Faults.{text_number}
 use Rattle.dvg_recipe_text.specs.declared.fault.RecipeTextFault.{RecipeTextFault}
 use Rattle.dvg_recipe_text.specs.declared.reader.ReadRecipe.{ReadRecipe}
@@ -58,12 +58,12 @@ told_recipe_no (no.Frame why line) = at_line (frame_number why) line
 told_recipe_no no.NoMemory = recipe_numbered 63
 
 -- a verdict on a recipe
-abbrev pub told_recipe : Result RecipeYes RecipeNo → RecipeAnswer
+abbrev pub told_recipe : Result Yes RecipeNo → RecipeAnswer
 told_recipe (Ok y) = record (recipe_numbered 0) { shapes = y.shapes; words = y.words; depth = y.depth }
 told_recipe (Err n) = told_recipe_no n
 
 -- the counts of a recipe that is accepted
-abbrev pub recipe_yes_of : RecipeAnswer → RecipeYes
+abbrev pub recipe_yes_of : RecipeAnswer → Yes
 recipe_yes_of a = record { shapes = a.shapes; words = a.words; depth = a.depth }
 
 -- what is asked of its frames
@@ -71,12 +71,12 @@ abbrev pub options_of : MemoryMap → ℕ → Window → RecipeOptions
 options_of map budget w = record { map = map; budget = budget; window = w }
 
 -- what is out of range, the map or the window, which are those of a board; or a verdict on the text
-abbrev pub RecipeVerdict : List ℕ → MemoryMap → ℕ → Window → Result (Result RecipeYes RecipeNo) OutOfRange → Type 0
+abbrev pub RecipeVerdict : List ℕ → MemoryMap → ℕ → Window → Result (Result Yes RecipeNo) OutOfRange → Type 0
 RecipeVerdict rom map budget w (Ok v) = AreTaken BOARD map w × IsVerdict rom (options_of map budget w) v
 RecipeVerdict rom map budget w (Err b) = IsBad BOARD map w b
 
 -- the answer in plain numbers, but for what shows why
-abbrev pub told_judged : Result (Result RecipeYes RecipeNo) OutOfRange → RecipeAnswer
+abbrev pub told_judged : Result (Result Yes RecipeNo) OutOfRange → RecipeAnswer
 told_judged (Ok v) = told_recipe v
 told_judged (Err b) = recipe_numbered (bad_number b)
 
@@ -90,7 +90,7 @@ TellsWitness found.NoMemory bare old new a = (a ≡ record bare { witness = NO_T
 
 -- it is told what the recipe comes to, and of a frame. Which frame that is, is only tested
 pub record IsJudged (rom : List ℕ) (map : MemoryMap) (budget : ℕ) (w : Window) (old new : List ℕ) (a : RecipeAnswer) : Type 0 where
-  pub verdict : Result (Result RecipeYes RecipeNo) OutOfRange
+  pub verdict : Result (Result Yes RecipeNo) OutOfRange
   pub holds : RecipeVerdict rom map budget w verdict
   pub shown : Witness
   pub told : TellsWitness shown (told_judged verdict) old new a

@@ -3,8 +3,8 @@ use Rattle.std.specs.Prelude.{◌≡◌, ◌≤◌, ◌<◌, ◌++◌, ℕ, List
 use Rattle.dvg_words.specs.Values.{MemoryMap, Window}
 use Rattle.dvg_check.specs.declared.verdict.Yes.{Yes}
 use Rattle.dvg_make.specs.declared.judging.FrameRefusal.{FrameRefusal}
-use Rattle.dvg_spelling.specs.Report.{answer_text}
-use Rattle.dvg_spelling.specs.declared.outcome.FrameAnswer.TheVariants.{Judged}
+use Rattle.dvg_spelling.specs.Report.{answer_text, frame_refusal_text}
+use Rattle.dvg_spelling.specs.declared.outcome.Answer.TheVariants.{Judged}
 use Rattle.dvg_c.specs.declared.text.TextAnswer.{TextAnswer}
 use Rattle.dvg_c.specs.declared.answer.TheConstants.{SHORT_BUFFER, NO_TEXT_MEMORY}
 use Rattle.dvg_c.specs.declared.answer.OutOfRange.{OutOfRange}
@@ -26,7 +26,7 @@ TellsText (Err number) old new t = (t.number ≡ number) × (t.length ≡ 0) × 
 -- the account of a verdict: its line, as `frames` writes it behind the frame's name, and what follows
 pub record IsAccount (v : Result Yes FrameRefusal) (text : List ℕ) : Type 0 where
   pub behind : List ℕ
-  pub text_is : text ≡ answer_text (Judged v) ++ codes "\n" ++ behind
+  pub text_is : text ≡ answer_text frame_refusal_text (Judged v) ++ codes "\n" ++ behind
 
 -- the text is the account of what a frame comes to, or there is none: for want of memory, or because something is out of range
 abbrev pub Explains : Result (Result Yes FrameRefusal) OutOfRange → Result (List ℕ) ℕ → Type 0

@@ -1,16 +1,13 @@
 //! The account of a frame that is judged from the ROM alone.
 
 ghost use Rattle.std.specs.Prelude.{◌≡◌, ◌++◌, IfOk, IfSome, codes};
-ghost use Rattle.dvg_spelling.specs.Report.{answer_text};
-ghost use Rattle.dvg_spelling.specs.declared.outcome.FrameAnswer.TheVariants.{Judged};
+ghost use Rattle.dvg_spelling.specs.Report.{answer_text, frame_refusal_text};
+ghost use Rattle.dvg_spelling.specs.declared.outcome.Answer.TheVariants.{Judged};
 ghost use Rattle.dvg_c.specs.Texts.{IsAccount};
 
 use dvg_check::Yes;
-use dvg_cmd::{Behind, FrameAnswer, FrameRefusal, frame_report_of};
+use dvg_cmd::{Answer, Behind, FrameRefusal, Report};
 use std::alloc::{AllocError, Global};
-
-/// How many bytes a colon and a space are, which stand between a frame's name and its answer.
-const BEHIND_NAME: usize = 2;
 
 /// The line of a verdict, and an account behind it.
 fn text_of(
@@ -18,11 +15,14 @@ fn text_of(
     verdict: &Result<Yes, FrameRefusal>,
     account: &[u8],
 ) -> Result<Vec<u8>, AllocError>
-    ensures { IfOk result (λ text. text.items ≡ answer_text (Judged verdict.now) ++ codes "\n" ++ account.now) }
+    ensures { IfOk result (λ text. text.items ≡ answer_text frame_refusal_text (Judged verdict.now) ++ codes "\n" ++ account.now) }
 {
-    let report = frame_report_of(&FrameAnswer::Judged(*verdict));
+    let answer = Answer::Judged(*verdict);
+    let mut line = Report::new();
+    answer.push_to(&mut line);
+    let line = line.ended();
     let mut text = Vec::new(alloc);
-    text.extend_from_slice(&report.as_bytes()[BEHIND_NAME..])?;
+    text.extend_from_slice(line.as_bytes())?;
     text.extend_from_slice(account)?;
     Ok(text)
 }

@@ -11,9 +11,10 @@ use crate::answer::{NO_TEXT_MEMORY, OutOfRange, numbered, scale_of, unmade};
 use crate::map::{MapEnds, map_between};
 use crate::text::put_text;
 use crate::window::{WindowEnds, window_for};
+use dvg_check::Yes;
 use dvg_cmd::{Detail, EntryFault};
 use dvg_recipe_cmd::{
-    Membership, RecipeNo, RecipeOptions, RecipeYes, Recorded, Witness, membership_of, ready,
+    Membership, RecipeNo, RecipeOptions, Recorded, Witness, membership_of, ready,
 };
 use dvg_recipe_text::read_recipe;
 use dvg_words::{Machine, RomMap};
@@ -116,7 +117,7 @@ fn refused_recipe(no: &RecipeNo) -> RecipeAnswer
 }
 
 /// The answer of a verdict on a recipe.
-pub fn recipe_answer_of(verdict: &Result<RecipeYes, RecipeNo>) -> RecipeAnswer
+pub fn recipe_answer_of(verdict: &Result<Yes, RecipeNo>) -> RecipeAnswer
     ensures value { result ≡ told_recipe verdict.now }
     ensures accepted { result.number ≡ 0 → verdict.now ≡ Ok (recipe_yes_of result) }
 {

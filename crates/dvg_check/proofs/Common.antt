@@ -51,7 +51,7 @@ pub use Rattle.dvg_cert.specs.declared.entry.LitBox.{LitBox}
 pub use Rattle.dvg_words.specs.Values.{Source, asteroids}
 pub use Rattle.dvg_check.specs.Private.Judging.{WalksTo, seen_by, KeepsAll, BreaksFirst}
 pub use Rattle.dvg_words.specs.Decoding.{cell_of_format, is_plain_labs, LabsOnScreen}
-pub use Rattle.dvg_items.proofs.Listed.{listed_claim, named_listed, listed_at, named_claim}
+pub use Rattle.dvg_items.proofs.Listed.{listed_claim, named_listed, listed_at}
 pub use Rattle.dvg_cert.specs.declared.entry.End.{End}
 pub use Rattle.dvg_cert.specs.declared.entry.Key.{Key}
 pub use Rattle.dvg_items.specs.declared.known.Known.{Known}

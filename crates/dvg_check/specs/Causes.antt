@@ -25,8 +25,8 @@ pub use Rattle.dvg_check.specs.declared.cause.FrameCause.{FrameCause}
 pub use Rattle.dvg_check.specs.declared.cause.FrameCause.TheVariants as cause
 pub use Rattle.dvg_check.specs.declared.cause.ShapeCause.{ShapeCause}
 pub use Rattle.dvg_check.specs.declared.cause.ShapeCause.TheVariants as shape_cause
-pub use Rattle.dvg_check.specs.declared.finding.RomFinding.{RomFinding}
-pub use Rattle.dvg_check.specs.declared.finding.RomFinding.TheVariants as finding
+pub use Rattle.dvg_check.specs.declared.finding.Finding.{Finding}
+pub use Rattle.dvg_check.specs.declared.finding.Finding.TheVariants as finding
 
 -- what was found is an item, and this holds of it
 abbrev pub OfSeen : Found → (SeenItem → Type 0) → Type 0
@@ -95,19 +95,19 @@ abbrev pub ShapeCauseOf : Window → ShapeFinding → Type 0
 ShapeCauseOf w f = ClaimCauseOf w f.entry f.fault.why f.before.scale f.found f.cause
 
 -- the refusal that a finding tells of (profile)
-abbrev pub refusal_of : RomFinding → Refusal
+abbrev pub refusal_of : Finding → Refusal
 refusal_of finding.RomLength = refusal.Image image.RomLength
 refusal_of finding.IndexMemory = refusal.IndexMemory
 refusal_of (finding.Shape f) = refusal.Shape f.fault
 refusal_of (finding.Frame f) = refusal.Frame f.fault
 
 -- the verdict, with a refusal in the place of its finding (profile)
-abbrev pub verdict_of : Result Yes RomFinding → Result Yes Refusal
+abbrev pub verdict_of : Result Yes Finding → Result Yes Refusal
 verdict_of (Ok y) = Ok y
 verdict_of (Err f) = Err (refusal_of f)
 
 -- the finding of an item says what is known where the first fault is, and the rule's own numbers (profile)
-abbrev pub TellsOf : Mode → Window → Rom → List Entry → List ℕ → ℕ → RomFinding → Type 0
+abbrev pub TellsOf : Mode → Window → Rom → List Entry → List ℕ → ℕ → Finding → Type 0
 TellsOf mode w rom list words budget (finding.Shape f) = FirstShapeFound mode w rom list f × ShapeCauseOf w f
 TellsOf mode w rom list words budget (finding.Frame f) = FirstFrameFound w rom.machine words list budget f × CauseOf w budget f
 TellsOf mode w rom list words budget f = Unit {0}

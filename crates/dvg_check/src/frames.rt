@@ -100,7 +100,7 @@ pub struct Accepted {
 
 /// Judges a frame by entries: its words and its depth where it keeps all rules, else its first fault, what is known there, and its
 /// cause.
-pub fn find_frame_fault<E: Entries>(
+pub fn judge_frame<E: Entries>(
     machine: Machine,
     frame: &FrameImage,
     entries: &E,
@@ -155,7 +155,7 @@ pub fn check_frame<E: Entries>(
 {
     rom.prove_whole();
     cert.prove_certificate();
-    match find_frame_fault(rom.machine(), frame, entries, budget, window) {
+    match judge_frame(rom.machine(), frame, entries, budget, window) {
         Ok(accepted) => Ok(accepted),
         Err(finding) => Err(finding.fault),
     }

@@ -10,8 +10,8 @@ ghost use Rattle.dvg_check.specs.Finding.{FirstFrameFound, FirstShapeFound, IsSo
 ghost use Rattle.dvg_check.specs.Means.{Means};
 
 use crate::fault::{FrameFault, FrameFinding, Mode, ShapeFault, ShapeFinding};
-use crate::frames::{Accepted, find_frame_fault};
-use crate::shapes::find_shape_fault;
+use crate::frames::{Accepted, judge_frame};
+use crate::shapes::judge_shapes;
 use dvg_cert::{Cert, Entries};
 use dvg_words::{FrameImage, RomImage, Window};
 use std::marker::Model;
@@ -58,15 +58,15 @@ impl<'a, E: Entries> JudgedShapes<'a, E> {
         ensures good { OnOk result (Good mode window rom.now cert.now.entries) }
         ensures err { IfErr result (FirstShapeFault mode window rom.now cert.now.entries) }
     {
-        match JudgedShapes::find_shape_fault(rom, cert, entries, window, mode) {
+        match JudgedShapes::judge_shapes(rom, cert, entries, window, mode) {
             Ok(shapes) => Ok(shapes),
             Err(finding) => Err(finding.fault),
         }
     }
 
     /// Judges each entry's shape, as [`judge`](JudgedShapes::judge) does; with the first fault it answers what the function
-    /// [`find_shape_fault`] does. On the profile a yes for `CLIPPED` says nothing of the screen.
-    pub fn find_shape_fault(
+    /// [`judge_shapes`] does. On the profile a yes for `CLIPPED` says nothing of the screen.
+    pub fn judge_shapes(
         rom: &'a RomImage<'a>,
         cert: &Cert,
         entries: &'a E,
@@ -83,7 +83,7 @@ impl<'a, E: Entries> JudgedShapes<'a, E> {
     {
         rom.prove_whole();
         cert.prove_certificate();
-        find_shape_fault(rom, cert, entries, &window, mode)?;
+        judge_shapes(rom, cert, entries, &window, mode)?;
         Ok(JudgedShapes {
             rom,
             entries,
@@ -103,7 +103,7 @@ impl<'a, E: Entries> JudgedShapes<'a, E> {
     /// is known there: place, scale, words and depth before the item that breaks a rule, what stands there, and the rule's own
     /// numbers (profile). On the profile a yes for `CLIPPED` says nothing of the screen.
     #[inline(never)]
-    pub fn find_fault(&self, frame: &FrameImage, budget: u32) -> Result<Accepted, FrameFinding>
+    pub fn judge_frame(&self, frame: &FrameImage, budget: u32) -> Result<Accepted, FrameFinding>
         requires { budget ≤ MOST_WORDS }
         ensures ok { IfOk result (λ yes. GoodFrame self.now.window self.now.rom.machine frame.now self.now.list budget yes.words yes.depth) }
         ensures err { IfErr result (FirstFrameFound self.now.window self.now.rom.machine frame.now self.now.list budget) }
@@ -114,7 +114,7 @@ impl<'a, E: Entries> JudgedShapes<'a, E> {
         frame.prove_whole();
         let machine = self.rom.machine();
         self.window.prove_for_board();
-        find_frame_fault(machine, frame, self.entries, budget, &self.window)
+        judge_frame(machine, frame, self.entries, budget, &self.window)
     }
 
     /// Shapes that are known to be good in this mode, such as those that [`judge`](JudgedShapes::judge) took before, kept with
@@ -154,7 +154,7 @@ impl<'a, E: Entries> JudgedShapes<'a, E> {
         ensures err { IfErr result (FirstFrameFault self.now.window self.now.rom.machine frame.now self.now.list budget) }
         ensures means { IfOk result (λ yes. Means self.now.mode (record { frame = frame.now; rom = self.now.rom }) self.now.window yes.words yes.depth) }
     {
-        match self.find_fault(frame, budget) {
+        match self.judge_frame(frame, budget) {
             Ok(accepted) => Ok(accepted),
             Err(finding) => Err(finding.fault),
         }

@@ -28,10 +28,10 @@ pub use cause::{FrameCause, ShapeCause};
 pub use fault::{
     Found, FrameFault, FrameFinding, FrameWhy, Mode, ShapeFault, ShapeFinding, ShapeWhy,
 };
-pub use finding::{RomFinding, find_parts_fault, find_rom_fault};
+pub use finding::{Finding, judge_parts, judge_rom};
 pub use frames::{Accepted, check_frame};
 pub use judged::JudgedShapes;
 pub use keys::{KEYS, Keys, key_index};
 pub use leaving::{BoxLeaving, Edge, Leaving, Limits, leaves_box, leaves_window};
-pub use shapes::{check_shapes, check_shapes_exact, find_entry_fault, find_shape_fault};
+pub use shapes::{check_shapes, check_shapes_exact, judge_entry, judge_shapes};
 pub use verdict::{Refusal, Yes, check_parts, check_parts_exact, check_rom, frame_of};

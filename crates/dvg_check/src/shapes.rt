@@ -118,9 +118,9 @@ impl Rules for ShapeRules {
     }
 }
 
-/// Judges the shape of one entry item by item; with its first fault it answers what [`find_shape_fault`] does (profile). On the
+/// Judges the shape of one entry item by item; with its first fault it answers what [`judge_shapes`] does (profile). On the
 /// profile a yes for `CLIPPED` says nothing of the screen.
-pub fn find_entry_fault<E: Entries>(
+pub fn judge_entry<E: Entries>(
     mode: Mode,
     window: &Window,
     rom: &RomImage,
@@ -163,7 +163,7 @@ pub fn find_entry_fault<E: Entries>(
 ///
 /// It goes by tails as far as these show the shapes to be good, and from there on item by item. On the profile a yes for `CLIPPED`
 /// says nothing of the screen.
-pub fn find_shape_fault<E: Entries>(
+pub fn judge_shapes<E: Entries>(
     rom: &RomImage,
     cert: &Cert,
     entries: &E,
@@ -179,7 +179,7 @@ pub fn find_shape_fault<E: Entries>(
     let list = cert.entries();
     let mut index = first_doubtful(mode, window, rom, entries, list);
     'entries: while index < list.len() {
-        if let Err(finding) = find_entry_fault(mode, window, rom, entries, &list[index]) {
+        if let Err(finding) = judge_entry(mode, window, rom, entries, &list[index]) {
             return Err(finding);
         }
         index += 1;
@@ -199,7 +199,7 @@ pub fn check_shapes_in<E: Entries>(
     ensures ok { OnOk result (Good mode window.now rom.now cert.now.entries) }
     ensures err { IfErr result (FirstShapeFault mode window.now rom.now cert.now.entries) }
 {
-    match find_shape_fault(rom, cert, entries, window, mode) {
+    match judge_shapes(rom, cert, entries, window, mode) {
         Ok(()) => Ok(()),
         Err(finding) => Err(finding.fault),
     }

@@ -9,7 +9,7 @@ ghost use Rattle.dvg_check.specs.Means.{Means};
 ghost use Rattle.dvg_check.specs.declared.verdict.Refusal.TheVariants as refusals;
 
 use crate::fault::{FrameFault, Mode, ShapeFault};
-use crate::finding::{find_parts_fault, find_rom_fault};
+use crate::finding::{judge_parts, judge_rom};
 use dvg_cert::{Cert, CertFault, MOST_WORDS};
 use dvg_words::{FrameImage, ImageFault, Machine, RomImage, Window};
 use std::alloc::Global;
@@ -132,7 +132,7 @@ pub fn check_rom(
     ensures verdict { RomVerdict machine mode window rom.now cert.now frame.now budget result }
     ensures means { IfOk result (λ yes. Means mode (memory_on machine cert.now.map frame.now rom.now) window yes.words yes.depth) }
 {
-    match find_rom_fault(machine, alloc, rom, frame, cert, budget, window, mode) {
+    match judge_rom(machine, alloc, rom, frame, cert, budget, window, mode) {
         Ok(yes) => Ok(yes),
         Err(finding) => Err(finding.refusal()),
     }
@@ -158,7 +158,7 @@ pub fn check_parts(
     ensures verdict { PartsVerdict Bound window rom.now cert.now.entries frame.now budget result }
     ensures means { IfOk result (λ yes. Means Bound (record { frame = frame.now; rom = rom.now }) window yes.words yes.depth) }
 {
-    match find_parts_fault(alloc, rom, frame, cert, budget, window, Mode::Bound) {
+    match judge_parts(alloc, rom, frame, cert, budget, window, Mode::Bound) {
         Ok(yes) => Ok(yes),
         Err(finding) => Err(finding.refusal()),
     }
@@ -179,7 +179,7 @@ pub fn check_parts_exact(
     ensures verdict { PartsVerdict Exact window rom.now cert.now.entries frame.now budget result }
     ensures means { IfOk result (λ yes. Means Exact (record { frame = frame.now; rom = rom.now }) window yes.words yes.depth) }
 {
-    match find_parts_fault(alloc, rom, frame, cert, budget, window, Mode::Exact) {
+    match judge_parts(alloc, rom, frame, cert, budget, window, Mode::Exact) {
         Ok(yes) => Ok(yes),
         Err(finding) => Err(finding.refusal()),
     }

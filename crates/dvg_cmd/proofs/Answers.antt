@@ -7,6 +7,7 @@ use Rattle.dvg_clocks.specs.declared.judging.TimedRefusal.{TimedRefusal}
 use Rattle.dvg_clocks.specs.declared.judging.TimedRefusal.TheVariants as timed
 use Rattle.dvg_clocks.specs.declared.judging.TimedYes.{TimedYes}
 use Rattle.dvg_check.specs.declared.verdict.Refusal.{Refusal}
+use Rattle.dvg_spelling.specs.declared.outcome.ItemPlace.TheVariants as place
 use Rattle.dvg_make.specs.declared.judging.FrameRefusal.TheVariants.{Check}
 use Rattle.dvg_cmd.specs.Frames.{Slow, Timed, TimedAnswer, Unread, judged_timed, refusal_in, timed_answer, told_with, yes_in}
 use Rattle.dvg_cmd.specs.Kept.{IsKeptFor, IsTimedFor}
@@ -177,10 +178,10 @@ module _ (asked : ClockOptions) (machine : Machine) (rom : List ℕ) (map : Memo
               }
       by (Err (timed.Slow at)) on = shown asked.line refl
         where
-          shown : (l : LineClocks) → asked.line ≡ l → IsAnswerOf (judged_timed asked machine rom map budget w) bytes (told_with l (Slow at))
+          shown : (l : LineClocks) → asked.line ≡ l → IsAnswerOf (judged_timed asked machine rom map budget w) bytes (told_with l (Slow (place.Frame at)))
           shown line.Told is =
               record {
-                answer = (Slow at, (a.in_range, a.rom_length, on.verdict), ap (λ l. told_with l (Slow at)) (sym is));
+                answer = (Slow (place.Frame at), (a.in_range, a.rom_length, on.verdict), ap (λ l. told_with l (Slow (place.Frame at))) (sym is));
                 judged =
                     refl;
                 whole = tt;
@@ -189,7 +190,7 @@ module _ (asked : ClockOptions) (machine : Machine) (rom : List ℕ) (map : Memo
               }
           shown line.LeftOut is =
               record {
-                answer = (Slow at, (a.in_range, a.rom_length, on.verdict), ap (λ l. told_with l (Slow at)) (sym is));
+                answer = (Slow (place.Frame at), (a.in_range, a.rom_length, on.verdict), ap (λ l. told_with l (Slow (place.Frame at))) (sym is));
                 judged =
                     refl;
                 whole = tt;

@@ -9,8 +9,9 @@ use Rattle.dvg_words.specs.declared.instruction.Instr.TheVariants.{Jsrl}
 use Rattle.dvg_text.specs.Devices.{count_after}
 use Rattle.dvg_check.specs.declared.verdict.Refusal.TheVariants.{Frame}
 use Rattle.dvg_make.specs.declared.judging.FrameRefusal.TheVariants.{Make, Check}
-use Rattle.dvg_spelling.specs.declared.outcome.FrameAnswer.{FrameAnswer}
-use Rattle.dvg_spelling.specs.declared.outcome.FrameAnswer.TheVariants.{Judged, Slow}
+use Rattle.dvg_spelling.specs.Outcomes.{FrameAnswer}
+use Rattle.dvg_spelling.specs.declared.outcome.ItemPlace.TheVariants as place
+use Rattle.dvg_spelling.specs.declared.outcome.Answer.TheVariants.{Judged, Slow}
 use Rattle.dvg_spelling.specs.Each.{of_each}
 pub use Rattle.dvg_cmd.specs.declared.called.Called.{Called}
 pub use Rattle.dvg_cmd.specs.declared.called.CalledCount.{CalledCount}
@@ -19,7 +20,7 @@ pub use Rattle.dvg_cmd.specs.declared.called.CalledCount.{CalledCount}
 abbrev pub refused_at : FrameAnswer → Option ℕ
 refused_at (Judged (Err (Make at why))) = Some at
 refused_at (Judged (Err (Check (Frame fault)))) = Some fault.word
-refused_at (Slow at) = Some at
+refused_at (Slow (place.Frame at)) = Some at
 refused_at answer = None
 
 -- the shape that an item calls, if it is a call

@@ -1,5 +1,5 @@
 -- The verdict on a frame by its own certificate, or over judged shapes, and what a run writes of it. All of it is this project's own.
-use Rattle.std.specs.Prelude.{◌≡◌, ℕ, Bool, true, false, List, ◌≤◌, take, length, Option, Some, None, IfSome, Result, Ok, Err}
+use Rattle.std.specs.Prelude.{◌≡◌, ℕ, List, ◌≤◌, take, length, Option, Some, None, IfSome, Result, Ok, Err}
 use Rattle.dvg_words.specs.declared.machine.Machine.{Machine}
 use Rattle.dvg_words.specs.declared.machine.Machine.TheVariants.{Board}
 use Rattle.dvg_words.specs.Values.{MemoryMap, Window}
@@ -32,11 +32,12 @@ use Rattle.dvg_cmd.specs.declared.timed_judge.LineClocks.TheVariants as line
 use Rattle.dvg_cmd.specs.declared.timed_judge.ClockOptions.{ClockOptions}
 use Rattle.dvg_cmd.specs.SafeFrames.{MeansFrame}
 use Rattle.dvg_cmd.specs.Start.{started}
-pub use Rattle.dvg_spelling.specs.declared.outcome.FrameAnswer.{FrameAnswer}
-pub use Rattle.dvg_spelling.specs.declared.outcome.FrameAnswer.TheVariants.{Judged, Timed, Slow, Unread}
+use Rattle.dvg_spelling.specs.declared.outcome.ItemPlace.TheVariants as place
+use Rattle.dvg_spelling.specs.declared.outcome.Answer.{Answer}
+pub use Rattle.dvg_spelling.specs.declared.outcome.Answer.TheVariants.{Judged, Timed, Slow, Unread}
 pub use Rattle.dvg_spelling.specs.declared.outcome.Outcome.{Outcome}
 pub use Rattle.dvg_spelling.specs.declared.outcome.Outcome.TheVariants as outcome
-pub use Rattle.dvg_spelling.specs.Outcomes.{frame_outcome_of, worse}
+pub use Rattle.dvg_spelling.specs.Outcomes.{FrameAnswer, is_unread, worse}
 
 -- these bytes were read of what a reader held: the first of them up to one past the limit, and all of them if they are a frame's
 -- length; this says nothing if the bytes that the reader held are not known
@@ -108,11 +109,6 @@ VerdictOver shapes count bytes budget (Err r) = ⊥
 
 -- ---- what is written
 
--- the answer is that the frame could not be read
-abbrev pub is_unread : FrameAnswer → Bool
-is_unread Unread = true
-is_unread answer = false
-
 -- the yes of an answer
 abbrev pub yes_in : FrameAnswer → Option Yes
 yes_in (Judged (Ok y)) = Some y
@@ -160,7 +156,7 @@ judged_by_own machine rom map budget w =
 abbrev pub timed_answer : Result TimedYes TimedRefusal → FrameAnswer
 timed_answer (Ok t) = Timed t
 timed_answer (Err (timed.Judged r)) = Judged (Err r)
-timed_answer (Err (timed.Slow at)) = Slow at
+timed_answer (Err (timed.Slow at)) = Slow (place.Frame at)
 
 -- the clocks of an accepted frame: the sum over its items and shapes, within the limit; on the board each run of the circuit takes so many
 pub record HasClocks (timing : Timing) (machine : Machine) (rom : List ℕ) (map : MemoryMap) (bytes : List ℕ) (t : TimedYes) : Type 0 where
@@ -176,12 +172,12 @@ abbrev pub TimedAnswer : Timing → Machine → List ℕ → MemoryMap → ℕ �
 TimedAnswer timing machine rom map budget w bytes (Judged (Err r)) = VerdictOnBytes machine rom map bytes budget w (Err r)
 TimedAnswer timing machine rom map budget w bytes (Timed t) =
     VerdictOnBytes machine rom map bytes budget w (Ok t.yes) × HasClocks timing machine rom map bytes t
-TimedAnswer timing machine rom map budget w bytes (Slow at) =
+TimedAnswer timing machine rom map budget w bytes (Slow (place.Frame at)) =
     InRange bytes budget × IsRomLength map (length rom) × IsSlow timing (rom_on machine map rom) (words_of bytes) w budget at
 TimedAnswer timing machine rom map budget w bytes answer = ⊥
 
 -- what a line tells of an answer with clocks: all, or all but the clocks
-abbrev pub told_with : LineClocks → FrameAnswer → FrameAnswer
+abbrev pub told_with : {R : Type 0} → LineClocks → Answer R → Answer R
 told_with line.LeftOut (Timed t) = Judged (Ok t.yes)
 told_with shown answer = answer
 

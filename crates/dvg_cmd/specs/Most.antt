@@ -1,8 +1,8 @@
 -- The frames of a run that take most, of those whose lines tell clocks, and the lines that tell them. All of it is this project's own.
 use Rattle.std.specs.Prelude.{ℕ, List, [], ◌∷◌, ◌++◌, Option, None, Some, codes, decimal, if◌then◌else◌, nat_lt}
 use Rattle.dvg_clocks.specs.declared.judging.TimedYes.{TimedYes}
-use Rattle.dvg_spelling.specs.declared.outcome.FrameAnswer.{FrameAnswer}
-use Rattle.dvg_spelling.specs.declared.outcome.FrameAnswer.TheVariants.{Timed}
+use Rattle.dvg_spelling.specs.Outcomes.{FrameAnswer}
+use Rattle.dvg_spelling.specs.declared.outcome.Answer.TheVariants.{Timed}
 use Rattle.dvg_spelling.specs.Report.{clocks_text}
 
 -- a frame, by its name, and what it takes

@@ -6,7 +6,7 @@ use Rattle.dvg_spelling.specs.Tally.{answer_number}
 use Rattle.dvg_spelling.specs.Remarks.{no_remarks, with_kind, remarks_text}
 use Rattle.dvg_spelling.specs.declared.remark.RemarkTally.{RemarkTally}
 use Rattle.dvg_check.specs.declared.verdict.Yes.{Yes}
-use Rattle.dvg_spelling.specs.declared.outcome.FrameAnswer.{FrameAnswer}
+use Rattle.dvg_spelling.specs.Outcomes.{FrameAnswer}
 use Rattle.dvg_spelling.specs.declared.outcome.Outcome.{Outcome}
 use Rattle.dvg_spelling.specs.declared.outcome.Outcome.TheVariants.{NoMemory}
 use Rattle.dvg_cmd.specs.Detail.{Detail, IsBehind, behind_text, outcome_behind}

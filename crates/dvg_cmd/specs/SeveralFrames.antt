@@ -12,18 +12,19 @@ use Rattle.dvg_check.specs.Judged.{Shapes}
 use Rattle.dvg_check.specs.declared.fault.Mode.TheVariants.{Bound}
 use Rattle.dvg_check.specs.declared.verdict.Refusal.{Refusal}
 use Rattle.dvg_check.specs.declared.verdict.Refusal.TheVariants as refusal
-use Rattle.dvg_spelling.specs.Report.{frame_line_text}
+use Rattle.dvg_spelling.specs.Outcomes.{answer_outcome, frame_refusal_outcome}
+use Rattle.dvg_spelling.specs.Report.{frame_refusal_text, line_text}
 use Rattle.dvg_spelling.specs.Tally.{no_lines, with_answer as counted, summary_text}
 use Rattle.dvg_cmd.specs.Detail.{Detail, has_account}
 use Rattle.dvg_cmd.specs.Remarking.{FrameDetail, BehindFrame, IsBehindFrame, answer_detail, called_with, outcome_behind_frame, remarked_with, remarks_texts, text_behind_frame}
 use Rattle.dvg_cmd.specs.declared.listing.Listing.{Listing}
-use Rattle.dvg_cmd.specs.declared.several_frames.NamedFrame.{NamedFrame}
+use Rattle.dvg_cmd.specs.declared.several_frames.NamedReader.{NamedReader}
 use Rattle.dvg_cmd.specs.declared.summary.FramesSummary.{FramesSummary}
 use Rattle.dvg_cmd.specs.Called.{called_texts}
 use Rattle.dvg_cmd.specs.Most.{most_texts, with_frame}
 use Rattle.dvg_cmd.specs.Telling.{Line, Telling, layout_of}
 use Rattle.dvg_cmd.specs.Runs.{Outcome, WritesReport, WritesReportPrefix}
-use Rattle.dvg_cmd.specs.Frames.{FrameAnswer, Unread, frame_outcome_of, is_unread, Judging, AnswersFrame, judged_over}
+use Rattle.dvg_cmd.specs.Frames.{FrameAnswer, Unread, is_unread, Judging, AnswersFrame, judged_over}
 
 -- what is known of no frame
 abbrev pub no_frames : FramesSummary
@@ -48,8 +49,8 @@ summary_texts s = most_texts s.most ++ remarks_texts s.remarks ++ called_texts s
 abbrev pub of_frames : Listing FrameDetail → Telling (FrameAnswer × BehindFrame) FramesSummary
 of_frames listing =
     record {
-      text = λ answer. frame_line_text answer.0 ++ text_behind_frame answer.1;
-      outcome = λ answer. outcome_behind_frame answer.1 (frame_outcome_of answer.0);
+      text = λ answer. line_text frame_refusal_text answer.0 ++ text_behind_frame answer.1;
+      outcome = λ answer. outcome_behind_frame answer.1 (answer_outcome frame_refusal_outcome answer.0);
       layout = layout_of listing (has_account (answer_detail listing.detail));
       none = no_frames;
       add = summed_with;
@@ -67,7 +68,7 @@ module _ {R : Type 0} (remaining : R → Option (List ℕ)) (failures : R → �
       × (failures left ≡ count_after (is_unread answer) (failures reader))
 
   -- the line of a frame: its name, the answer to it, and behind the line what the detail asks for
-  pub record IsLineOfFrame (detail : FrameDetail) (frame : NamedFrame R) (line : Line (FrameAnswer × BehindFrame)) : Type 0 where
+  pub record IsLineOfFrame (detail : FrameDetail) (frame : NamedReader R) (line : Line (FrameAnswer × BehindFrame)) : Type 0 where
     pub name_is : line.name ≡ string_bytes frame.name
     pub answers : AnswersOpened frame.reader line.answer.0
     pub asked : IsBehindFrame detail line.answer.0 line.answer.1

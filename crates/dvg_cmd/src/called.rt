@@ -9,7 +9,7 @@ ghost use Rattle.dvg_cmd.specs.Sent.{joined, Sent};
 use arrayvec::ArrayVec;
 use dvg_check::Refusal;
 use dvg_make::FrameRefusal;
-use dvg_spelling::{FrameAnswer, Summary, push_count};
+use dvg_spelling::{Answer, FrameAnswer, ItemPlace, Summary, push_count};
 use dvg_text::{CountedWrite, WriteFault, push_bytes, write_lines};
 use dvg_words::{Cell, FrameImage, FrameOn, Instr, Machine, read_cell};
 use std::marker::Model;
@@ -57,9 +57,9 @@ fn refused_at(answer: &FrameAnswer) -> Option<u16>
     ensures { result ≡ refused_at answer.now }
 {
     match answer {
-        FrameAnswer::Judged(Err(FrameRefusal::Make { at, .. })) => Some(*at),
-        FrameAnswer::Judged(Err(FrameRefusal::Check(Refusal::Frame(fault)))) => Some(fault.word),
-        FrameAnswer::Slow { at } => Some(*at),
+        Answer::Judged(Err(FrameRefusal::Make { at, .. })) => Some(*at),
+        Answer::Judged(Err(FrameRefusal::Check(Refusal::Frame(fault)))) => Some(fault.word),
+        Answer::Slow(ItemPlace::Frame(at)) => Some(*at),
         _ => None,
     }
 }

@@ -20,12 +20,12 @@ ghost use Rattle.dvg_cmd.specs.Private.Judging.{AreImages, IsAnswerOf};
 use crate::detail::{Behind, Detail};
 use dvg_account::{Inputs, ShapeStarts, frame_text, timed_text};
 use dvg_cert::{Cert, Entries};
-use dvg_check::{JudgedShapes, Mode, Refusal, RomFinding, Yes, frame_of};
+use dvg_check::{Finding, JudgedShapes, Mode, Refusal, Yes, frame_of};
 use dvg_clocks::{ClockRange, DVG_STATES, TimedRefusal, TimedYes, Timing, explain_timed};
 use dvg_kept::KeptShapes;
 use dvg_labels::Labels;
 use dvg_make::{EntryCause, FrameRefusal, explain_judging, judge, own_verdict};
-use dvg_spelling::FrameAnswer;
+use dvg_spelling::{Answer, FrameAnswer};
 use dvg_words::{FrameImage, Machine, RomImage, RomMap, Window};
 use std::alloc::{AllocError, Global};
 
@@ -89,7 +89,7 @@ impl<'a> FrameJudge for OwnCertificates<'a> {
 
     fn answer(&mut self, alloc: Global, frame: &[u8], detail: Detail) -> ToldAnswer {
         let (verdict, behind) = told_by_own(alloc, self, frame, detail);
-        (FrameAnswer::Judged(verdict), behind)
+        (Answer::Judged(verdict), behind)
     }
 }
 
@@ -388,7 +388,7 @@ impl<'a> FrameJudge for KeptCertificates<'a> {
             ),
             _ => told_by_own(alloc, &self.own, frame, detail),
         };
-        (FrameAnswer::Judged(verdict), behind)
+        (Answer::Judged(verdict), behind)
     }
 }
 
@@ -455,7 +455,7 @@ impl<'a, E: Entries> FrameJudge for GivenCertificate<'a, E> {
                 account_over(alloc, self, frame, &verdict, cause.as_ref(), labels)
             }
         };
-        (FrameAnswer::Judged(verdict), behind)
+        (Answer::Judged(verdict), behind)
     }
 }
 
@@ -466,14 +466,14 @@ fn verdict_over<E: Entries>(
     cert: &Cert,
     frame: &[u8],
     budget: u32,
-) -> (Result<Yes, FrameRefusal>, Option<RomFinding>)
+) -> (Result<Yes, FrameRefusal>, Option<Finding>)
     ensures { VerdictOver shapes.now (length cert.now.entries) frame.now budget result.0 }
 {
     let frame = match frame_of(frame, budget) {
         Ok(frame) => frame,
         Err(refusal) => return (Err(FrameRefusal::Check(refusal)), None),
     };
-    match shapes.find_fault(&frame, budget) {
+    match shapes.judge_frame(&frame, budget) {
         Ok(accepted) => {
             let yes = Yes {
                 shapes: cert.entries().len() as u32,
@@ -486,7 +486,7 @@ fn verdict_over<E: Entries>(
             let refusal = Refusal::Frame(finding.fault);
             (
                 Err(FrameRefusal::Check(refusal)),
-                Some(RomFinding::Frame(finding)),
+                Some(Finding::Frame(finding)),
             )
         }
     }
@@ -498,7 +498,7 @@ fn account_over<'a, E: Entries>(
     given: &GivenCertificate<'a, E>,
     frame: &'a [u8],
     verdict: &Result<Yes, FrameRefusal>,
-    cause: Option<&RomFinding>,
+    cause: Option<&Finding>,
     labels: Option<&'a Labels>,
 ) -> Behind
     ensures { IsBehind (details.Account None) result }

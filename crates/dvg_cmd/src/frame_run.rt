@@ -18,7 +18,7 @@ use crate::remarking::{BehindFrame, FrameDetail};
 use crate::start::start_at;
 use dvg_account::{PlainWhy, address_text, plain_text};
 use dvg_labels::Labels;
-use dvg_spelling::{FrameAnswer, answer_number};
+use dvg_spelling::{Answer, FrameAnswer, answer_number};
 use dvg_text::CountedRead;
 use dvg_words::Machine;
 use std::alloc::Global;
@@ -82,7 +82,7 @@ fn behind_answer(
     ensures called { TellsCall machine (words_of frame.now) answer.now result }
 {
     match (detail, answer) {
-        (FrameDetail::Remarks(remarking), FrameAnswer::Judged(Ok(_)) | FrameAnswer::Timed(_)) => {
+        (FrameDetail::Remarks(remarking), Answer::Judged(Ok(_)) | Answer::Timed(_)) => {
             remarking.on(alloc, name, frame)
         }
         (FrameDetail::Answer(Detail::Account(labels)), _) => {
@@ -149,7 +149,7 @@ pub fn answer_of<J: FrameJudge, R: CountedRead>(
             (answer, behind)
         }
         Err(_) => (
-            FrameAnswer::Unread,
+            Answer::Unread,
             BehindFrame::Answer(unread_account(judge.machine(), alloc, detail.of_answer())),
         ),
     }

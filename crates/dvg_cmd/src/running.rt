@@ -16,7 +16,7 @@ use crate::detail::{Behind, Detail};
 use crate::reading::{read_certificate, read_frame, read_rom, skip};
 use dvg_account::{Inputs, certificate_text, verdict_text};
 use dvg_cert::Cert;
-use dvg_check::{Mode, Refusal, RomFinding, Yes, find_rom_fault, frame_of};
+use dvg_check::{Finding, Mode, Refusal, Yes, frame_of, judge_rom};
 use dvg_spelling::{Outcome, RunFault, outcome_of, report_of};
 use dvg_text::laws::prefix_refusal;
 use dvg_text::{CountedRead, CountedWrite, RefusedText, write_lines};
@@ -45,7 +45,7 @@ pub struct CheckOptions {
 pub struct Judgment {
     pub verdict: Result<Yes, Refusal>,
     /// The cause of a refusal, if the ROM was looked at.
-    pub cause: Option<RomFinding>,
+    pub cause: Option<Finding>,
     /// The certificate, if it was taken.
     pub cert: Option<Cert>,
     /// Its text, if that was refused.
@@ -63,13 +63,13 @@ impl Judgment {
 }
 
 /// The verdict on the bytes of a ROM and on a frame by a certificate, and the cause of a refusal.
-fn judge_rom(
+fn judge_taken(
     alloc: Global,
     rom: &[u8],
     frame: &FrameImage,
     cert: &Cert,
     options: &CheckOptions,
-) -> (Result<Yes, Refusal>, Option<RomFinding>)
+) -> (Result<Yes, Refusal>, Option<Finding>)
     requires { options.now.budget ≤ MOST_WORDS }
     ensures { JudgesRom options.now.machine options.now.mode options.now.window rom.now cert.now frame.now options.now.budget result.0 }
 {
@@ -79,7 +79,7 @@ fn judge_rom(
         mode,
         ..
     } = *options;
-    let judged = find_rom_fault(
+    let judged = judge_rom(
         options.machine,
         alloc,
         rom,
@@ -128,7 +128,7 @@ pub fn read_verdict<R: CountedRead>(
     };
     match read_certificate(alloc, cert)? {
         Ok(taken) => {
-            let (verdict, cause) = judge_rom(alloc, rom, &frame, &taken, options);
+            let (verdict, cause) = judge_taken(alloc, rom, &frame, &taken, options);
             Ok(Judgment {
                 verdict,
                 cause,

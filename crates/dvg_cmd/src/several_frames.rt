@@ -22,18 +22,18 @@ use crate::summary::FramesSummary;
 use crate::telling::{Tell, run_each};
 use dvg_account::{Inputs, verdict_text};
 use dvg_cert::{Cert, HashIndex};
-use dvg_check::{JudgedShapes, Mode, Refusal, RomFinding};
-use dvg_spelling::{FrameAnswer, Outcome, RunFault, frame_outcome_of, frame_report_of};
+use dvg_check::{Finding, JudgedShapes, Mode, Refusal};
+use dvg_spelling::{Answer, FrameAnswer, Outcome, RunFault};
 use dvg_text::{CountedRead, CountedWrite, RefusedText, WriteFault};
 use dvg_words::{Machine, RomImage, Window};
 use std::alloc::Global;
 
-/// A frame whose turn it is.
+/// A frame or a recipe whose turn it is.
 #[derive(Drop)]
-pub struct NamedFrame<R> {
-    /// The name in the frame's line, which has no control characters.
+pub struct NamedReader<R> {
+    /// The name in its line, which has no control characters.
     pub name: String,
-    /// The reader of the frame, or `None` if the frame can't be opened.
+    /// What reads it, or `None` if it can't be opened.
     pub reader: Option<R>,
 }
 
@@ -68,7 +68,7 @@ fn answer_opened<J: FrameJudge, R: CountedRead + Drop>(
     match reader {
         Some(mut reader) => answer_of(alloc, judge, start, name, &mut reader, detail),
         None => (
-            FrameAnswer::Unread,
+            Answer::Unread,
             BehindFrame::Answer(unread_account(judge.machine(), alloc, detail.of_answer())),
         ),
     }
@@ -82,7 +82,7 @@ struct FrameTeller<'j, 'a, J> {
     listing: Listing<FrameDetail<'a>>,
 }
 
-impl<'j, 'a, J: FrameJudge, R: CountedRead + Drop> Tell<NamedFrame<R>> for FrameTeller<'j, 'a, J> {
+impl<'j, 'a, J: FrameJudge, R: CountedRead + Drop> Tell<NamedReader<R>> for FrameTeller<'j, 'a, J> {
     type Answer = (FrameAnswer, BehindFrame);
 
     type Tally = FramesSummary;
@@ -97,11 +97,11 @@ impl<'j, 'a, J: FrameJudge, R: CountedRead + Drop> Tell<NamedFrame<R>> for Frame
     fn tell<W: CountedWrite>(
         &mut self,
         alloc: Global,
-        thing: NamedFrame<R>,
+        thing: NamedReader<R>,
         progress: &mut Progress<FramesSummary>,
         out: &mut W,
     ) -> Result<(), WriteFault> {
-        let NamedFrame { name, reader } = thing;
+        let NamedReader { name, reader } = thing;
         let detail = self.listing.detail;
         let (answer, behind) = answer_opened(
             alloc,
@@ -111,8 +111,8 @@ impl<'j, 'a, J: FrameJudge, R: CountedRead + Drop> Tell<NamedFrame<R>> for Frame
             reader,
             detail,
         );
-        let outcome = behind.outcome_with(frame_outcome_of(&answer));
-        let report = frame_report_of(&answer);
+        let outcome = behind.outcome_with(answer.outcome());
+        let report = answer.line();
         progress.write_line(
             outcome,
             name.as_str(),
@@ -146,7 +146,7 @@ fn no_frame(listing: Listing<FrameDetail>) -> Progress<FramesSummary>
 pub fn run_frames<
     J: FrameJudge,
     R: CountedRead + Drop,
-    I: Iterator<Item = NamedFrame<R>> + Drop,
+    I: Iterator<Item = NamedReader<R>> + Drop,
     W: CountedWrite,
 >(
     alloc: Global,
@@ -192,7 +192,7 @@ struct Given<'a> {
 
 impl<'a> Given<'a> {
     /// What the detail asks for behind the line of a refusal of the ROM or of a shape, with this cause.
-    fn refusal_account(&self, alloc: Global, cause: &RomFinding, detail: Detail<'a>) -> Behind
+    fn refusal_account(&self, alloc: Global, cause: &Finding, detail: Detail<'a>) -> Behind
         requires { RefusesShapes self.now.options.now.machine self.now.options.now.window self.now.rom.now self.now.cert.now
             (refusal_of cause.now) }
         ensures { IsBehind detail.entry result }
@@ -220,7 +220,7 @@ impl<'a> Given<'a> {
     fn refuse<W: CountedWrite>(
         &self,
         alloc: Global,
-        cause: &RomFinding,
+        cause: &Finding,
         detail: Detail<'a>,
         out: &mut W,
     ) -> Result<Outcome, RunFault>
@@ -246,7 +246,7 @@ impl<'a> Given<'a> {
 /// The counts of the certificate are bounds.
 pub fn run_frames_given<
     R: CountedRead + Drop,
-    I: Iterator<Item = NamedFrame<R>> + Drop,
+    I: Iterator<Item = NamedReader<R>> + Drop,
     W: CountedWrite,
 >(
     alloc: Global,
@@ -303,17 +303,17 @@ pub fn run_frames_given<
         window,
     } = *options;
     let Ok(image) = RomImage::from_bytes_on(machine, rom, cert.map()) else {
-        return given.refuse(alloc, &RomFinding::RomLength, detail, out);
+        return given.refuse(alloc, &Finding::RomLength, detail, out);
     };
     let Ok(entries) = HashIndex::new(alloc, cert) else {
-        return given.refuse(alloc, &RomFinding::IndexMemory, detail, out);
+        return given.refuse(alloc, &Finding::IndexMemory, detail, out);
     };
     let mode = Mode::Bound;
-    match JudgedShapes::find_shape_fault(&image, cert, &entries, window, mode) {
+    match JudgedShapes::judge_shapes(&image, cert, &entries, window, mode) {
         Ok(shapes) => {
             let mut judge = GivenCertificate::new(machine, rom, cert, &shapes, mode, budget);
             run_frames(alloc, &mut judge, start, frames, listing, out)
         }
-        Err(finding) => given.refuse(alloc, &RomFinding::Shape(finding), detail, out),
+        Err(finding) => given.refuse(alloc, &Finding::Shape(finding), detail, out),
     }
 }

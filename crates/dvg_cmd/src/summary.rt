@@ -13,7 +13,7 @@ use crate::most::MostTaken;
 use crate::remarking::BehindFrame;
 use crate::telling::Summary;
 use dvg_account::FrameRemark;
-use dvg_spelling::{FrameAnswer, RemarkTally, Tally, remarks_line_of, summary_of};
+use dvg_spelling::{Answer, FrameAnswer, RemarkTally, Tally, remarks_line_of, summary_of};
 use dvg_text::{CountedWrite, WriteFault, write_lines};
 use std::alloc::Global;
 
@@ -34,7 +34,7 @@ pub struct FramesSummary {
 fn add_to_most(alloc: Global, most: &mut Option<MostTaken>, name: String, answer: &FrameAnswer)
     ensures { most.new ≡ with_frame most.old (string_bytes name) answer.now }
 {
-    if let FrameAnswer::Timed(timed) = answer {
+    if let Answer::Timed(timed) = answer {
         match most {
             Some(most) => most.add(name, timed),
             None => *most = Some(MostTaken::of(alloc, name, timed)),

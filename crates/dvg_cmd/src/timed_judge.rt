@@ -2,7 +2,7 @@
 
 ghost use Rattle.std.specs.Prelude.{◌≡◌, Ok, Err, None, IfSome, false};
 ghost use Rattle.dvg_make.specs.declared.judging.FrameRefusal.TheVariants.{Check};
-ghost use Rattle.dvg_cmd.specs.Frames.{JudgesAlike, judged_timed, timed_answer, told_with};
+ghost use Rattle.dvg_cmd.specs.Frames.{JudgesAlike, Timed, judged_timed, timed_answer, told_with};
 ghost use Rattle.dvg_cmd.specs.declared.detail.Detail.{Detail as Asked};
 ghost use Rattle.dvg_cmd.specs.declared.detail.Detail.TheVariants as details;
 ghost use Rattle.dvg_cmd.specs.Kept.{IsTimedFor};
@@ -14,7 +14,7 @@ use dvg_check::frame_of;
 use dvg_clocks::{TimedRefusal, TimedYes, Timing, judge_timed};
 use dvg_kept::TimedShapes;
 use dvg_make::FrameRefusal;
-use dvg_spelling::FrameAnswer;
+use dvg_spelling::{Answer, FrameAnswer, ItemPlace};
 use dvg_words::{Machine, RomImage, RomMap, Window};
 use std::alloc::Global;
 
@@ -23,6 +23,18 @@ use std::alloc::Global;
 pub enum LineClocks {
     Told,
     LeftOut,
+}
+
+impl LineClocks {
+    /// The answer to what is accepted with its clocks, as a line tells it.
+    pub fn answer<R>(self, timed: TimedYes) -> Answer<R>
+        ensures { result ≡ told_with self (Timed timed) }
+    {
+        match self {
+            LineClocks::Told => Answer::Timed(timed),
+            LineClocks::LeftOut => Answer::Judged(Ok(timed.yes)),
+        }
+    }
 }
 
 /// What is asked of the clocks of frames.
@@ -100,11 +112,10 @@ impl<'a> TimedCertificates<'a> {
 fn timed_answer(timed: Result<TimedYes, TimedRefusal>, line: LineClocks) -> FrameAnswer
     ensures { result ≡ told_with line (timed_answer timed) }
 {
-    match (timed, line) {
-        (Ok(timed), LineClocks::Told) => FrameAnswer::Timed(timed),
-        (Ok(timed), LineClocks::LeftOut) => FrameAnswer::Judged(Ok(timed.yes)),
-        (Err(TimedRefusal::Judged(refusal)), _) => FrameAnswer::Judged(Err(refusal)),
-        (Err(TimedRefusal::Slow { at }), _) => FrameAnswer::Slow { at },
+    match timed {
+        Ok(timed) => line.answer(timed),
+        Err(TimedRefusal::Judged(refusal)) => Answer::Judged(Err(refusal)),
+        Err(TimedRefusal::Slow { at }) => Answer::Slow(ItemPlace::Frame(at)),
     }
 }
 
@@ -126,7 +137,7 @@ fn answer_by_kept(
             kept.judge(alloc, &frame, own.budget, asked.timing.limit),
             asked.line,
         ),
-        Err(refusal) => FrameAnswer::Judged(Err(FrameRefusal::Check(refusal))),
+        Err(refusal) => Answer::Judged(Err(FrameRefusal::Check(refusal))),
     }
 }
 
@@ -145,7 +156,7 @@ fn answer_by_own(
             judge_timed(alloc, &rom, &frame, own.budget, own.window, &asked.timing),
             asked.line,
         ),
-        Err(refusal) => FrameAnswer::Judged(Err(FrameRefusal::Check(refusal))),
+        Err(refusal) => Answer::Judged(Err(FrameRefusal::Check(refusal))),
     }
 }
 

@@ -1,5 +1,5 @@
 -- Entries that are found stand in the list, within the limits of a certificate.
-use Rattle.dvg_items.proofs.Common.{Option, Some, arith, List, ◌≡◌, ◌∷◌, ℕ, [], rules, common_steps, nat_tests, Contains, IfSome, entry_at, callee_at, IsClaim, IsSomeCertificate}
+use Rattle.dvg_items.proofs.Common.{Option, Some, arith, List, ◌≡◌, ◌∷◌, ℕ, [], rules, common_steps, nat_tests, Contains, entry_at, callee_at, IsClaim, IsSomeCertificate}
 use Rattle.dvg_cert.specs.declared.entry.Entry.{Entry}
 use Rattle.dvg_cert.specs.declared.entry.Key.{Key}
 use Rattle.dvg_cert.proofs.OnlyEntries.{later}
@@ -19,7 +19,3 @@ named_listed list o scale f e = grind (arith, listed_at)
 
 pub listed_claim : (list : List Entry) (e : Entry) → IsSomeCertificate list → Contains list e → IsClaim e
 listed_claim list e c h = grind (arith, rules, common_steps, at_place)
-
-pub named_claim : (list : List Entry) (target : Option ℕ) (scale : Key) (o : Option Entry) → IsSomeCertificate list
-    → o ≡ callee_at list target scale → IfSome o IsClaim
-named_claim list target scale o c e = grind (arith, rules, common_steps, listed_claim, named_listed)

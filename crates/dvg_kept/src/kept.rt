@@ -105,7 +105,7 @@ fn accepted_over(
     ensures means { IfSome result (λ yes. Means Exact (record { frame = frame.now; rom = rom.now }) window yes.words yes.depth) }
 {
     let shapes = JudgedShapes::unchecked(rom, entries, window, Mode::Exact);
-    match shapes.find_fault(frame, budget) {
+    match shapes.judge_frame(frame, budget) {
         Ok(accepted) => Some(accepted),
         Err(_) => None,
     }

@@ -1,5 +1,5 @@
 -- A frame whose calls are made one after another.
-use Rattle.dvg_make.proofs.Common.{Machine, ◌≡◌, ℕ, ◌+◌, ◌<◌, ◌≤◌, List, [], ◌∷◌, ◌++◌, length, unwrap_or, Option, Some, None, refl, sym, ap, ◌∙◌, subst, arith, ◌⊎◌, inl, inr, ⊎_elim, Contains, IfSome, cell_at, InstrFits, Rom, frame_word, ADDRESS_END, Holds, Format, Instr, IsKey, entry_at, Entry, Key, Any, LeadsTo, next_address, IsClaim, frame_context, target, scale_set, callee_at, scale_before, Item, in_bound, HasEntry, AllMade, EntryFault, TooManyEntries, Memory, Extends, IsAim, NoAim, IsDone, InProgress, Bars, IsCalled, Collected, obstacle_fault, HasCalls, IsFramed, BarsHere, PartialEntry, Contains-append_left, Contains-append_right, Contains-append_cases, Source, append_assoc, cases_lt, AtEachOf, next_near, Frame, Barred, AllKeyed, NoneAccepts, BarsEntry, CallBarredAt, AllCalled, IsToldFrom, IsCalledBy, KeyedCall, IsGivenHere, BlocksTarget, BlocksHere, Blocked}
+use Rattle.dvg_make.proofs.Common.{Machine, ◌≡◌, ℕ, ◌+◌, ◌<◌, ◌≤◌, List, [], ◌∷◌, ◌++◌, length, unwrap_or, Option, Some, None, refl, sym, ap, ◌∙◌, subst, arith, ◌⊎◌, inl, inr, ⊎_elim, Contains, cell_at, InstrFits, Rom, frame_word, ADDRESS_END, Holds, Format, Instr, IsKey, entry_at, Entry, Key, Any, LeadsTo, next_address, frame_context, target, scale_set, callee_at, scale_before, Item, in_bound, HasEntry, AllMade, EntryFault, TooManyEntries, Memory, Extends, IsAim, NoAim, IsDone, InProgress, Bars, IsCalled, Collected, obstacle_fault, HasCalls, IsFramed, BarsHere, PartialEntry, Contains-append_left, Contains-append_right, Contains-append_cases, Source, append_assoc, cases_lt, AtEachOf, next_near, Frame, Barred, AllKeyed, NoneAccepts, BarsEntry, CallBarredAt, AllCalled, IsToldFrom, IsCalledBy, KeyedCall, IsGivenHere, BlocksTarget, BlocksHere, Blocked}
 use Rattle.dvg_make.specs.Frames.{IsKeyed}
 use Rattle.std.proofs.lemmas.List.{append-nil}
 use Rattle.dvg_items.proofs.Leading.{same_lead, shorter, here_same, item_same}

@@ -1,7 +1,5 @@
 -- A shape in the making, item by item.
-use Rattle.dvg_make.proofs.Common.{Machine, ◌≡◌, ℕ, ◌<◌, ◌≤◌, List, [], ◌∷◌, Option, Some, None, refl, sym, ap, ◌∙◌, subst, arith, Contains, IfSome, AllByRecursion, cell_at, InstrFits, Rom, rom_word, Holds, Format, Instr, IsEntry, Entry, Key, MOST_DEPTH, MOST_WORDS, next_address, LeadsTo, entry_at, Context, shape_context, target, callee_at, callee, scale_before, words_before, depth_before, known_before, seen_at, seen_with, IsClaim, Item, Shape, Known, Seen, ADDRESS_END, LitBox, Last, step_past, relative_corners, PartialEntry, lit_points, HasEntry, Obstacle, ShapeAt, EntryCause, Reaches, keyed_context, entry_of, shape_of, Passes, AllFine, IsPartial, Extends, IsFinished, IsWaiting, IsStopped, listed_at, Exact, rules, IsSoundStep, at_place, Cursor, Step, Onward, AllTaken, SaysOf, CauseAt, IsAsked, KnowsAt, NeverAt, IsCallee, LacksCallee, IsAbsent, IsDone, IsKey, scale_set, unwrap_or}
-use Rattle.std.proofs.lemmas.Option.{IfSome_then}
-use Rattle.dvg_items.proofs.Listed.{named_listed}
+use Rattle.dvg_make.proofs.Common.{Machine, ◌≡◌, ℕ, ◌≤◌, List, [], ◌∷◌, Option, Some, None, refl, sym, ap, ◌∙◌, subst, arith, Contains, IfSome, AllByRecursion, cell_at, InstrFits, Rom, rom_word, Holds, Format, Instr, IsEntry, Entry, Key, MOST_DEPTH, MOST_WORDS, next_address, LeadsTo, Context, shape_context, target, callee_at, callee, scale_before, words_before, depth_before, known_before, seen_at, seen_with, IsClaim, Item, Shape, Known, Seen, LitBox, Last, step_past, relative_corners, PartialEntry, lit_points, HasEntry, Obstacle, ShapeAt, EntryCause, Reaches, keyed_context, entry_of, shape_of, Passes, AllFine, IsPartial, Extends, IsFinished, IsWaiting, IsStopped, listed_at, Exact, rules, IsSoundStep, at_place, Cursor, Step, Onward, AllTaken, SaysOf, CauseAt, IsAsked, KnowsAt, NeverAt, IsCallee, LacksCallee, IsAbsent, IsDone, IsKey, scale_set, unwrap_or}
 use Rattle.dvg_items.proofs.Stepping.{leads_on, ends_at}
 use Rattle.dvg_make.proofs.Matching.{SameAt, Matched, seen_matched}
 use Rattle.dvg_make.proofs.Ends.{Allows, allows_at, stands_at, ends_made}

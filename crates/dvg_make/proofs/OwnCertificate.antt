@@ -2,7 +2,7 @@
 use Rattle.dvg_make.proofs.Common.{Machine, ◌≡◌, ℕ, ◌≤◌, List, [], ◌∷◌, Option, None, Some, subst, arith, Result, Ok, Err, Rom, frame_word, Window, Entry, frame_context, seen_at, GoodFrame, Exact, EntryFault, Memory, FrameCall, FramesRefuse, FrameRefused, max, IfOk, IfErr, Frame, AllKeep, FramePlaceKeeps, Means, no_fault, no_shape_fault, one_count, FrameMade, BarsFrame, CallBarredAt, VerdictByMade, AreLeast, CheckMeans, checked, refusal_at, IsJudged}
 use Rattle.dvg_check.specs.Verdict.{PartsVerdict}
 use Rattle.dvg_check.specs.Causes.{verdict_of, refusal_of}
-use Rattle.dvg_check.specs.declared.finding.RomFinding.{RomFinding}
+use Rattle.dvg_check.specs.declared.finding.Finding.{Finding}
 use Rattle.dvg_check.specs.declared.verdict.Yes.{Yes}
 use Rattle.dvg_check.specs.declared.verdict.Refusal.{Refusal}
 use Rattle.dvg_check.specs.declared.verdict.Refusal.TheVariants as refusal
@@ -45,7 +45,7 @@ module _ (rom : Rom) (words : List ℕ) (w : Window) (budget : ℕ) (made : List
   judged_refused r item v = absurd item
 
   -- the checker's answer by the made certificate has each clause of `judge`
-  pub judged_by : (answer : Result Yes RomFinding)
+  pub judged_by : (answer : Result Yes Finding)
       → IfErr answer (λ f. IsOfItem (refusal_of f))
       → PartsVerdict Exact w rom made words budget (verdict_of answer)
       → IfOk answer (λ yes. Means Exact (record { frame = words; rom = rom }) w yes.words yes.depth)

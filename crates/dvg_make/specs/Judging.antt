@@ -10,7 +10,7 @@ use Rattle.dvg_check.specs.declared.verdict.Yes.{Yes}
 use Rattle.dvg_check.specs.declared.verdict.Refusal.{Refusal}
 use Rattle.dvg_check.specs.declared.verdict.Refusal.TheVariants as refusal
 use Rattle.dvg_check.specs.Causes.{refusal_of}
-use Rattle.dvg_check.specs.declared.finding.RomFinding.{RomFinding}
+use Rattle.dvg_check.specs.declared.finding.Finding.{Finding}
 pub use Rattle.dvg_make.specs.declared.judging.FrameRefusal.{FrameRefusal}
 pub use Rattle.dvg_make.specs.declared.judging.FrameRefusal.TheVariants.{Make, NoMemory, Check}
 pub use Rattle.dvg_make.specs.declared.judging.JudgedFrame.{JudgedFrame}
@@ -74,7 +74,7 @@ abbrev pub refusal_by : FramesFault → FrameRefusal
 refusal_by fault = refusal_at fault.call fault.why
 
 -- the verdict on a frame by a made certificate, with the refusal alone (profile)
-abbrev pub checked : Result Yes RomFinding → Result Yes FrameRefusal
+abbrev pub checked : Result Yes Finding → Result Yes FrameRefusal
 checked (Ok y) = Ok y
 checked (Err f) = Err (Check (refusal_of f))
 

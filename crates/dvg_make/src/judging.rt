@@ -20,7 +20,7 @@ use crate::fault::{EntryFault, FramesFault};
 use crate::made_entries::MadeEntries;
 use crate::maker::{MadeCert, make_indexed};
 use dvg_cert::{Cert, End, Entry};
-use dvg_check::{JudgedShapes, Mode, Refusal, RomFinding, ShapeFinding, Yes, find_entry_fault};
+use dvg_check::{Finding, JudgedShapes, Mode, Refusal, ShapeFinding, Yes, judge_entry};
 use dvg_words::{FrameImage, RomImage, Window};
 use std::alloc::Global;
 use std::slice;
@@ -85,7 +85,7 @@ fn find_made_entry_fault(
     if is_relative(entry) {
         return Ok(());
     }
-    find_entry_fault(Mode::Exact, window, rom, entries, entry)
+    judge_entry(Mode::Exact, window, rom, entries, entry)
 }
 
 /// Judges the shapes of the entries that were made for a frame, one by one, in the order of the certificate.
@@ -128,7 +128,7 @@ fn judged_shapes<'a>(
     ensures cause { IfErr result (ShapeCauseOf window) }
 {
     if !has_few_to_walk(made.cert.entries()) {
-        return JudgedShapes::find_shape_fault(rom, &made.cert, &made.entries, window, Mode::Exact);
+        return JudgedShapes::judge_shapes(rom, &made.cert, &made.entries, window, Mode::Exact);
     }
     if let Err(finding) = find_made_fault(rom, frame, made, &window) {
         return Err(finding);
@@ -144,7 +144,7 @@ fn check_made(
     made: &MadeCert,
     budget: u32,
     window: Window,
-) -> Result<Yes, RomFinding>
+) -> Result<Yes, Finding>
     requires budget { budget ≤ MOST_WORDS }
     requires made { IsOwn rom.now frame.now made.now }
     ensures judged { IsJudged rom.now frame.now window budget (checked result) }
@@ -152,20 +152,20 @@ fn check_made(
 {
     let shapes = match judged_shapes(rom, frame, made, window) {
         Ok(shapes) => shapes,
-        Err(finding) => return Err(RomFinding::Shape(finding)),
+        Err(finding) => return Err(Finding::Shape(finding)),
     };
-    match shapes.find_fault(frame, budget) {
+    match shapes.judge_frame(frame, budget) {
         Ok(accepted) => Ok(Yes {
             shapes: made.cert.entries().len() as u32,
             words: accepted.words,
             depth: accepted.depth,
         }),
-        Err(finding) => Err(RomFinding::Frame(finding)),
+        Err(finding) => Err(Finding::Frame(finding)),
     }
 }
 
 /// The checker's verdict by the certificate that was made for a frame, without the cause of a refusal.
-fn checked(verdict: &Result<Yes, RomFinding>) -> Result<Yes, FrameRefusal>
+fn checked(verdict: &Result<Yes, Finding>) -> Result<Yes, FrameRefusal>
     ensures { result ≡ checked verdict.now }
 {
     match verdict {
@@ -207,7 +207,7 @@ pub fn judge(
 #[derive(Drop)]
 pub struct JudgedFrame {
     pub cert: Cert,
-    pub verdict: Result<Yes, RomFinding>,
+    pub verdict: Result<Yes, Finding>,
 }
 
 /// Judges a frame as [`judge`] does, and answers the certificate, too, and the cause of a refusal by it; or the account of

@@ -1,5 +1,5 @@
 -- The changes are those of the instructions that a piece allows.
-use Rattle.dvg_recipe.proofs.Common.{◌≡◌, ◌≤◌, ℕ, zero, suc, List, [], ◌∷◌, Option, Some, None, Contains, IsTrue, get_or, refl, sym, subst, arith, ◌∙◌}
+use Rattle.dvg_recipe.proofs.Common.{◌≡◌, ◌≤◌, ℕ, zero, suc, List, [], ◌∷◌, Option, Some, None, Contains, IsTrue, refl, sym, subst, arith, ◌∙◌}
 use Rattle.dvg_check.proofs.Common.{ints, Known, ℤ, pos, negsuc, ◌≤ℤ◌, ◌*◌, Bool, nat_le, Point, Item, Instr, Draws, Labs, Halt, Jsrl, Rtsl, Jmpl, Format, Short, Long, Entry, End, Rel, Abs, Key, At, Any, LitBox, Empty, Span, DrawFields, Frame, target, origin, axis_move, effective_scale, IsWithin, Holds, cell_of_words, nat_tests}
 unfoldable use Rattle.dvg_check.proofs.Common.{displacement, instruction_of}
 use Rattle.std.specs.Prelude.{true, false, if◌then◌else◌, ◌*ℤ◌, ◌^◌, nat_abs}
@@ -15,11 +15,11 @@ use Rattle.dvg_items.proofs.Leading.{item_same}
 use Rattle.dvg_cert.specs.Entry.{IsKey, IsEnd, IsBox, IsNumber, IsClaim}
 use Rattle.dvg_items.specs.Bounds.{IsNear}
 use Rattle.dvg_recipe.specs.Limits.{PieceFits, ToFits, SizesFit, IsSvecSize, IsSpanBetween, LscaleFits, DrawRangeFits}
-use Rattle.dvg_recipe.proofs.Common.{◌<◌, ◌++◌, ⊎_elim, ap, cases_lt, length, take, take-suc, IfSome, Contains-append_cases, Contains-append_left, Contains-append_right}
+use Rattle.dvg_recipe.proofs.Common.{◌<◌, IfSome}
 use Rattle.dvg_items.specs.Known.{callee_at, stop_effect, known_past}
 use Rattle.dvg_cert.specs.Lookup.{same_key}
 use Rattle.dvg_items.specs.Lit.{draw_extent, box_extent}
-use Rattle.dvg_recipe.specs.Recipes.{PlaceRange, PlaceSpan, IsEndIn, DrawRange, Span as Range, TakesPlace, TakesCall, TakesDraw, Place, Draw, IsInSpan}
+use Rattle.dvg_recipe.specs.Recipes.{PlaceRange, PlaceSpan, IsEndIn, DrawRange, Span as Range, TakesPlace, TakesDraw, Place, Draw, IsInSpan}
 use Rattle.dvg_recipe.specs.Private.Judging.{IsTaken, IsJump}
 use Rattle.dvg_recipe.specs.Private.Hulls.{Rectangle, Change, Shown, IsInRectangle, IsMotion, IsLight, IsChange, HasFormat, IsNearRectangle, IsNearMotion, IsNearLight, IsNearInto, IsSoundChange, AreSoundChanges, IsInto, IsAmong, Within, span_places, into_of, Act, DrawsAct, PlaceAct, CallAct, StillAct, act_change, IsAct, at_point, places_of, place_change, still, stop_motion, box_light, call_change, moves, draw_light, draw_change, IsDrawBetween}
 

@@ -1,7 +1,6 @@
 -- What leads from good fronts of frames to good fronts.
 use Rattle.dvg_recipe.proofs.Common.{◌≡◌, ◌⊎◌, ◌≤◌, ◌<◌, ℕ, zero, suc, List, [], ◌∷◌, ◌++◌, length, take, get_or, take-suc, take_all, Option, None, Some, IfSome, refl, sym, ap, ◌∙◌, subst, ⊎_elim, arith, nat_tests, cases_lt, next_address}
 use Rattle.dvg_check.proofs.Common.{Window, Entry, Item, Known, Instr, Draws, Labs, Halt, Jsrl, Jmpl, Any, target, Rtsl, Cell, FrameKeeps, CellKeeps, IsForward, frame_word, frame_context, seen_at, Frame, ◌≢◌}
-unfoldable use Rattle.dvg_check.proofs.Common.{cell_at}
 use Rattle.std.specs.Option.{option_or}
 use Rattle.dvg_words.specs.Memory.{Rom}
 use Rattle.dvg_cert.specs.Lookup.{named_entry, entry_at}

@@ -1,5 +1,5 @@
 -- By made entries just one thing is known behind the items of a frame.
-use Rattle.dvg_recipe.proofs.Common.{◌≡◌, ◌<◌, ◌≤◌, ◌+◌, ◌++◌, ◌∙◌, ℕ, zero, suc, List, [], ◌∷◌, Option, Some, None, length, take, get_or, reverse, reverse-append, take-suc, take_all, refl, sym, ap, subst, ⊎_elim, cases_lt, arith, nat_tests, Contains, Contains-append_cases}
+use Rattle.dvg_recipe.proofs.Common.{◌≡◌, ◌<◌, ◌+◌, ◌++◌, ◌∙◌, ℕ, zero, suc, List, [], ◌∷◌, Option, Some, None, length, take, get_or, reverse, reverse-append, take-suc, refl, sym, ap, subst, ⊎_elim, cases_lt, arith, nat_tests, Contains, Contains-append_cases}
 use Rattle.dvg_check.proofs.Common.{Entry, Key, Item, Known, Frame, target}
 use Rattle.dvg_words.specs.Memory.{Rom}
 use Rattle.dvg_words.specs.declared.machine.Machine.TheVariants.{Board}
@@ -8,7 +8,7 @@ use Rattle.dvg_make.specs.Made.{Made, AllMade}
 use Rattle.dvg_make.proofs.Agreeing.{agree}
 use Rattle.dvg_check.proofs.Common.{listed_claim}
 use Rattle.std.proofs.lemmas.List.{get_or_append_left, get_or_push, length_push}
-use Rattle.dvg_check.proofs.Common.{IsSoundCursor, ADDRESS_END, next_address, entry_at}
+use Rattle.dvg_check.proofs.Common.{IsSoundCursor, ADDRESS_END, next_address}
 use Rattle.dvg_words.specs.Decoding.{InstrFits}
 use Rattle.dvg_recipe.specs.Recipes.{NamesMade, Names, ComesTo}
 use Rattle.dvg_recipe.specs.Private.KnownPlaces.{AreFramesItems, AreKnownTo}

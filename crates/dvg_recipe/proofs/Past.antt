@@ -1,7 +1,7 @@
 -- What a change does to all that a hull has.
 unfoldable use Rattle.dvg_check.proofs.Common.{cell_at, instruction_of, displacement}
 use Rattle.dvg_recipe.proofs.Common.{nat_tests, ◌≡◌, ◌≤◌, ◌+◌, ℕ, zero, suc, Option, Some, None, arith, refl, sym, ap, subst, ◌∙◌}
-use Rattle.dvg_check.proofs.Common.{ints, ℤ, Key, At, Any, DrawFields, Draws, origin, InWindow, shift, Window, Point, Entry, End, Rel, Abs, Known, Item, Effect, LitExtent, Between, Nothing, Anywhere, PlaceKnown, ScaleKnown, LitInWindow, place_past, Instr, Holds, Format, Short, Long, Source, nat_le, cell_of_format}
+use Rattle.dvg_check.proofs.Common.{ints, ℤ, Key, At, Any, DrawFields, origin, InWindow, shift, Window, Point, Entry, End, Rel, Abs, Known, Item, Effect, LitExtent, Between, Nothing, Anywhere, PlaceKnown, ScaleKnown, LitInWindow, place_past, Instr, Holds, Format, Short, Long, Source, nat_le, cell_of_format}
 use Rattle.dvg_cert.specs.declared.entry.End.TheVariants.{Lost as LostEnd}
 use Rattle.dvg_words.specs.declared.machine.Machine.TheVariants.{Board}
 use Rattle.dvg_items.specs.declared.known.Effect.TheVariants.{Sets, Loses, Moves}

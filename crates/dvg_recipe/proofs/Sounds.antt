@@ -1,7 +1,7 @@
 -- Sets of hulls.
-use Rattle.dvg_recipe.proofs.Common.{◌≡◌, ◌<◌, ◌+◌, ◌⊎◌, ◌∙◌, ℕ, suc, zero, List, [], ◌∷◌, ◌++◌, Option, Some, length, take, get_or, take-suc, take_all, refl, sym, subst, ap, inl, inr, ⊎_elim, arith, cases_lt, Contains, Contains-append_cases, Contains-append_left, Contains-append_right, Contains-get_or}
+use Rattle.dvg_recipe.proofs.Common.{◌≡◌, ◌<◌, ◌+◌, ◌⊎◌, ◌∙◌, ℕ, suc, zero, List, [], ◌∷◌, ◌++◌, length, take, get_or, take-suc, take_all, sym, subst, ap, inl, inr, ⊎_elim, arith, cases_lt, Contains, Contains-append_cases, Contains-append_left, Contains-append_right, Contains-get_or}
 use Rattle.std.proofs.lemmas.List.{length-set, get_or-set_same, get_or-set_other}
-use Rattle.std.proofs.Common.{set, ◌≤◌, slice_index_or, Vec, Global, option_to_list}
+use Rattle.std.proofs.Common.{set, ◌≤◌}
 use Rattle.dvg_check.proofs.Common.{Known, ◌≢◌}
 use Rattle.dvg_recipe.specs.Private.Hulls.{Hull, Covers, AreUnder, IsInHull, HasScaleAt, joined}
 use Rattle.dvg_recipe.specs.Limits.{PieceFits, RowFits}

@@ -47,5 +47,5 @@ pub use options::{MOST_OPTIONS, piece_options, turns_within};
 pub use piece::{DrawRange, Piece, PieceKind, PlaceRange, PlaceSpan, Span};
 pub use recipe::{Area, Jump, Part, Recipe};
 pub use roots::Unmade;
-pub use timed::{TimedRecipeRefusal, TimedRecipeYes, judge_recipe_timed};
-pub use verdict::{RecipeRefusal, RecipeYes, SurveyedRecipe, judge_recipe, survey_recipe};
+pub use timed::{TimedRecipeRefusal, judge_recipe_timed};
+pub use verdict::{RecipeRefusal, SurveyedRecipe, judge_recipe, survey_recipe};

@@ -13,19 +13,11 @@ use crate::clocks::{Counting, SlowPiece, most_of_lists};
 use crate::judge::Asked;
 use crate::notes::Notes;
 use crate::recipe::Recipe;
-use crate::verdict::{RecipeRefusal, RecipeYes, judge_noting};
+use crate::verdict::{RecipeRefusal, judge_noting};
 use dvg_cert::{Cert, HashIndex};
-use dvg_clocks::{ClockRange, ShapeClocks, Timing};
+use dvg_clocks::{ClockRange, ShapeClocks, TimedYes, Timing};
 use dvg_words::{RomImage, Window};
 use std::alloc::{AllocError, Global};
-
-/// What an accepted recipe's frames take at most, in clocks too.
-#[derive(Clone, Copy, Debug, PartialEq, Eq)]
-pub struct TimedRecipeYes {
-    pub yes: RecipeYes,
-    /// The greatest least, and the greatest most of its frames.
-    pub clocks: ClockRange,
-}
 
 /// Why a recipe is not accepted, or some frame takes too long.
 #[derive(Clone, Copy, Debug)]
@@ -95,7 +87,7 @@ pub fn judge_recipe_timed(
     budget: u32,
     window: Window,
     timing: &Timing,
-) -> Result<TimedRecipeYes, TimedRecipeRefusal>
+) -> Result<TimedYes, TimedRecipeRefusal>
     requires budget { budget ≤ MOST_WORDS }
     requires board { rom.now.machine ≡ Board }
     ensures means { IfOk result (λ timed. AllMean rom.now recipe.now window timed.yes.words timed.yes.depth) }
@@ -106,7 +98,7 @@ pub fn judge_recipe_timed(
     let asked = Asked { budget, window };
     let accepted = judge_noting(alloc, rom, recipe, &asked, &mut Notes::new(alloc))?;
     let clocks = clocks_by(alloc, timing, rom, &accepted.cert, recipe)?;
-    Ok(TimedRecipeYes {
+    Ok(TimedYes {
         yes: accepted.yes,
         clocks,
     })

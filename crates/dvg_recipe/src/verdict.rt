@@ -15,19 +15,10 @@ use crate::notes::{Notes, RecipeFault, SeenPiece};
 use crate::recipe::Recipe;
 use crate::roots::{Unmade, roots_of};
 use dvg_cert::{Cert, Entries, HashIndex};
-use dvg_check::{Accepted, ShapeFault, check_shapes_exact};
+use dvg_check::{Accepted, ShapeFault, Yes, check_shapes_exact};
 use dvg_make::{MakeFault, make};
 use dvg_words::{RomImage, Window};
 use std::alloc::{AllocError, Global};
-
-/// What an accepted recipe's frames take at most.
-#[derive(Clone, Copy, Debug, PartialEq, Eq)]
-pub struct RecipeYes {
-    /// The number of entries of the certificate that is made for all calls of the recipe.
-    pub shapes: u32,
-    pub words: u32,
-    pub depth: u8,
-}
 
 /// Why a recipe is not accepted.
 #[derive(Clone, Copy, Debug)]
@@ -119,7 +110,7 @@ fn judge_by(
 /// The verdict on a recipe that is accepted, and the certificate that is made for all that it calls.
 #[derive(Drop)]
 pub struct AcceptedRecipe {
-    pub yes: RecipeYes,
+    pub yes: Yes,
     pub cert: Cert,
 }
 
@@ -150,7 +141,7 @@ pub fn judge_noting(
         return Err(RecipeRefusal::Memory);
     };
     let counts = judge_by(alloc, rom, &cert, asked, recipe, notes)?;
-    let yes = RecipeYes {
+    let yes = Yes {
         shapes: cert.entries().len() as u32,
         words: counts.words,
         depth: counts.depth,
@@ -165,7 +156,7 @@ fn verdict_noting(
     recipe: &Recipe,
     asked: &Asked,
     notes: &mut Notes,
-) -> Result<RecipeYes, RecipeRefusal>
+) -> Result<Yes, RecipeRefusal>
     requires board { rom.now.machine ≡ Board }
     ensures means { IfOk result (λ yes. AllMean rom.now recipe.now asked.now.window yes.words yes.depth) }
     ensures fits { IfOk result (λ yes. FitsAreas recipe.now) }
@@ -189,7 +180,7 @@ pub fn judge_recipe(
     recipe: &Recipe,
     budget: u32,
     window: Window,
-) -> Result<RecipeYes, RecipeRefusal>
+) -> Result<Yes, RecipeRefusal>
     requires budget { budget ≤ MOST_WORDS }
     requires board { rom.now.machine ≡ Board }
     ensures means { IfOk result (λ yes. AllMean rom.now recipe.now window yes.words yes.depth) }
@@ -203,7 +194,7 @@ pub fn judge_recipe(
 /// come to, since 57 or 60 to 62 is answered. Where 59 is answered, what is seen up to the turn in which a piece is stuck.
 #[derive(Drop)]
 pub struct SurveyedRecipe {
-    pub verdict: Result<RecipeYes, RecipeRefusal>,
+    pub verdict: Result<Yes, RecipeRefusal>,
     pub seen: Vec<SeenPiece>,
 }
 

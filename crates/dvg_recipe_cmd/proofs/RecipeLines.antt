@@ -5,8 +5,7 @@ use Rattle.dvg_cmd.specs.declared.progress.Progress.{Progress}
 use Rattle.dvg_cmd.specs.declared.detail.Detail.TheVariants as details
 use Rattle.dvg_cmd.specs.declared.detail.Behind.{Behind}
 use Rattle.dvg_cmd.specs.Sent.{Sent}
-use Rattle.dvg_recipe_cmd.specs.declared.answer.RecipeAnswer.{RecipeAnswer}
-use Rattle.dvg_recipe_cmd.specs.Recipes.{of_recipes}
+use Rattle.dvg_recipe_cmd.specs.Recipes.{RecipeAnswer, of_recipes}
 
 module _ {A : Type 0} (IsLineOf : A → Line (RecipeAnswer × Behind) → Type 0) where
   pub one_told : (recipe : A) (old new : Option (List ℕ)) (first p : Progress (Unit {0})) (writes writes_after : ℕ)

@@ -1,6 +1,5 @@
 -- What a verdict on a recipe's frames says.
-use Rattle.std.specs.Prelude.{false}
-use Rattle.dvg_recipe_cmd.proofs.Common.{◌≡◌, ℕ, List, Option, None, Some, ◌≤◌, length, IfOk, IfErr, Result, Ok, Err, refl, sym, ap, subst}
+use Rattle.dvg_recipe_cmd.proofs.Common.{◌≡◌, ℕ, List, ◌≤◌, length, IfOk, IfErr, Result, Ok, Err, sym, ap, subst}
 use Rattle.dvg_words.specs.declared.machine.Machine.TheVariants.{Board}
 use Rattle.dvg_words.specs.Memory.{Rom, IsRomLength, rom_on}
 use Rattle.dvg_cert.specs.declared.limits.TheConstants.{MOST_WORDS}
@@ -8,20 +7,19 @@ use Rattle.dvg_recipe.specs.Recipes.{Recipe}
 use Rattle.dvg_recipe.specs.Lengths.{FitsAreas}
 use Rattle.dvg_clocks.specs.declared.frames.Timing.{Timing}
 use Rattle.dvg_recipe.specs.Means.{AllMean, AllTake}
-use Rattle.dvg_recipe.specs.declared.timed.TimedRecipeYes.{TimedRecipeYes}
+use Rattle.dvg_clocks.specs.declared.judging.TimedYes.{TimedYes}
 use Rattle.dvg_cmd.specs.declared.timed_judge.ClockOptions.{ClockOptions}
 use Rattle.dvg_cmd.specs.declared.timed_judge.LineClocks.{LineClocks}
 use Rattle.dvg_cmd.specs.declared.timed_judge.LineClocks.TheVariants as line_clocks
-use Rattle.dvg_recipe_cmd.specs.declared.answer.RecipeAnswer.{RecipeAnswer}
-use Rattle.dvg_recipe_cmd.specs.declared.answer.RecipeAnswer.TheVariants as answer
-use Rattle.dvg_recipe.specs.declared.verdict.RecipeYes.{RecipeYes}
+use Rattle.dvg_spelling.specs.declared.outcome.Answer.TheVariants as answer
+use Rattle.dvg_check.specs.declared.verdict.Yes.{Yes}
 use Rattle.dvg_recipe_cmd.specs.declared.answer.RecipeNo.{RecipeNo}
 use Rattle.dvg_recipe_cmd.specs.declared.answer.RecipeNo.TheVariants as no
 use Rattle.dvg_recipe_cmd.specs.declared.judging.RecipeOptions.{RecipeOptions}
-use Rattle.dvg_recipe_cmd.specs.Recipes.{IsVerdict, IsAnswer, IsTimedAnswer, IsTimedYes, ReadsRecipe, SaysOf, is_unread, told_yes}
+use Rattle.dvg_recipe_cmd.specs.Recipes.{IsVerdict, IsTimedAnswer, IsTimedYes, RecipeAnswer, told_yes}
 use Rattle.dvg_recipe_cmd.specs.Private.Judging.{IsOfFrames, IsTimedOf, IsTimedRead}
 
-pub is_verdict : (rom : List ℕ) (options : RecipeOptions) (image : Rom) (recipe : Recipe) (verdict : Result RecipeYes RecipeNo)
+pub is_verdict : (rom : List ℕ) (options : RecipeOptions) (image : Rom) (recipe : Recipe) (verdict : Result Yes RecipeNo)
     → image ≡ rom_on Board options.map rom → IsRomLength options.map (length rom) → options.budget ≤ MOST_WORDS
     → IfOk verdict (λ counts. AllMean image recipe options.window counts.words counts.depth) → IfOk verdict (λ counts. FitsAreas recipe)
     → IfErr verdict IsOfFrames → IsVerdict rom options verdict
@@ -46,14 +44,14 @@ is_verdict rom options image recipe (Err no.NoMemory) is long budget means fits 
 -- ---- with clocks
 
 -- an accepted recipe is told as the line tells it
-pub told_read : (image : Rom) (recipe : Recipe) (options : RecipeOptions) (clocks : ClockOptions) (timed : TimedRecipeYes) (l : LineClocks)
+pub told_read : (image : Rom) (recipe : Recipe) (options : RecipeOptions) (clocks : ClockOptions) (timed : TimedYes) (l : LineClocks)
     → clocks.line ≡ l → IsTimedOf image recipe options clocks.timing timed → IsTimedRead image recipe options clocks (told_yes l timed)
 told_read image recipe options clocks timed line_clocks.Told is of = (is, of)
 told_read image recipe options clocks timed line_clocks.LeftOut is of = (timed, sym (ap (λ l. told_yes l timed) is), of)
 
 module _ (rom : List ℕ) (options : RecipeOptions) (image : Rom) (recipe : Recipe) (is : image ≡ rom_on Board options.map rom)
     (long : IsRomLength options.map (length rom)) (budget : options.budget ≤ MOST_WORDS) where
-  timed_yes : (timing : Timing) (timed : TimedRecipeYes) → IsTimedOf image recipe options timing timed → IsTimedYes rom options timing timed
+  timed_yes : (timing : Timing) (timed : TimedYes) → IsTimedOf image recipe options timing timed → IsTimedYes rom options timing timed
   timed_yes timing timed of =
       record {
         accepted = record {
@@ -73,24 +71,4 @@ module _ (rom : List ℕ) (options : RecipeOptions) (image : Rom) (recipe : Reci
   timed_answer clocks (answer.Judged (Err refusal)) h = is_verdict rom options image recipe (Err refusal) is long budget tt tt h
   timed_answer clocks (answer.Timed timed) (told, of) = (told, timed_yes clocks.timing timed of)
   timed_answer clocks (answer.Slow at) h = tt
-  timed_answer clocks answer.NoMemory h = absurd h
   timed_answer clocks answer.Unread h = absurd h
-
--- ---- what is read
-
-module _ (rom : List ℕ) (options : RecipeOptions) where
-  pub not_unread : (clocks : Option ClockOptions) (a : RecipeAnswer) → IsAnswer rom options clocks a → is_unread a ≡ false
-  not_unread None answer.Unread h = absurd h
-  not_unread (Some clocks) answer.Unread h = absurd h
-  not_unread clocks (answer.Judged verdict) h = refl
-  not_unread clocks (answer.Timed timed) h = refl
-  not_unread clocks (answer.Slow at) h = refl
-  not_unread clocks answer.NoMemory h = refl
-
-  pub says : (clocks : Option ClockOptions) (old new : Option (List ℕ)) (a : RecipeAnswer) → (text : List ℕ) × ReadsRecipe old new text
-      → IsAnswer rom options clocks a → SaysOf rom options clocks old new a
-  says clocks old new (answer.Judged verdict) read h = (read, h)
-  says clocks old new (answer.Timed timed) read h = (read, h)
-  says clocks old new (answer.Slow at) read h = (read, h)
-  says clocks old new answer.NoMemory read h = tt
-  says clocks old new answer.Unread read h = tt

@@ -1,56 +1,32 @@
 -- What lines say of recipes, and of frames that may be theirs. All of it is this project's own.
-use Rattle.std.specs.Prelude.{ℕ, true, List, ◌++◌, codes, decimal, Ok, Err}
+use Rattle.std.specs.Prelude.{true, List, ◌++◌, ℕ, codes, decimal}
 use Rattle.dvg_text.specs.Devices.{count_after}
 use Rattle.dvg_check.specs.FirstFault.{frame_number}
 use Rattle.dvg_make.specs.declared.fault.EntryFault.TheVariants as entry
-use Rattle.dvg_recipe.specs.declared.verdict.RecipeYes.{RecipeYes}
 use Rattle.dvg_recipe_text.specs.Faults.{text_number}
 use Rattle.dvg_recipe_text.specs.declared.fault.RecipeTextWhy.{RecipeTextWhy}
 use Rattle.dvg_recipe_text.specs.declared.fault.RecipeTextWhy.TheVariants as why
-use Rattle.dvg_spelling.specs.Report.{clocks_text, counts_text, hex_address, shape_fault_text, unmade_text}
-use Rattle.dvg_spelling.specs.declared.report.Caller.TheVariants.{RecipeLine}
+use Rattle.dvg_spelling.specs.Report.{hex_address, refused_at_text, shape_fault_text, unmade_text}
+use Rattle.dvg_spelling.specs.declared.outcome.ItemPlace.TheVariants.{RecipeLine}
 use Rattle.dvg_spelling.specs.declared.outcome.Outcome.{Outcome}
 use Rattle.dvg_spelling.specs.declared.outcome.Outcome.TheVariants as outcome
 use Rattle.dvg_recipe_cmd.specs.declared.answer.RecipeNo.{RecipeNo}
 use Rattle.dvg_recipe_cmd.specs.declared.answer.RecipeNo.TheVariants as no
-use Rattle.dvg_recipe_cmd.specs.declared.answer.RecipeAnswer.{RecipeAnswer}
-use Rattle.dvg_recipe_cmd.specs.declared.answer.RecipeAnswer.TheVariants as answer
 use Rattle.dvg_recipe_cmd.specs.declared.membership.Membership.{Membership}
 use Rattle.dvg_recipe_cmd.specs.declared.membership.Membership.TheVariants as member
 use Rattle.dvg_recipe_cmd.specs.declared.tally.BelongsTally.{BelongsTally}
 
--- an accepted recipe
-abbrev pub recipe_yes_text : RecipeYes → List ℕ
-recipe_yes_text y = counts_text y.shapes y.words y.depth
-
--- a number, and a line of the recipe, counted from 1
-abbrev pub at_line_text : ℕ → ℕ → List ℕ
-at_line_text number line = codes "refused " ++ decimal number ++ codes " recipe line " ++ decimal line
-
 -- why a recipe is not accepted
 abbrev pub recipe_no_text : RecipeNo → List ℕ
-recipe_no_text (no.Text f) = at_line_text (text_number f.why) f.line
+recipe_no_text (no.Text f) = refused_at_text (text_number f.why) (RecipeLine f.line)
 recipe_no_text no.BudgetRange = codes "refused 49"
 recipe_no_text no.RomLength = codes "refused 1"
-recipe_no_text (no.TooLong line) = at_line_text 57 line
+recipe_no_text (no.TooLong line) = refused_at_text 57 (RecipeLine line)
 recipe_no_text (no.Make why line) = unmade_text why (RecipeLine line)
-recipe_no_text (no.Stuck line) = at_line_text 59 line
+recipe_no_text (no.Stuck line) = refused_at_text 59 (RecipeLine line)
 recipe_no_text (no.Shape f) = codes "refused " ++ shape_fault_text f
-recipe_no_text (no.Frame why line) = at_line_text (frame_number why) line
+recipe_no_text (no.Frame why line) = refused_at_text (frame_number why) (RecipeLine line)
 recipe_no_text no.NoMemory = codes "out of memory"
-
--- what is said of a recipe behind its name
-abbrev pub recipe_answer_text : RecipeAnswer → List ℕ
-recipe_answer_text (answer.Judged (Ok y)) = recipe_yes_text y
-recipe_answer_text (answer.Judged (Err n)) = recipe_no_text n
-recipe_answer_text (answer.Timed t) = recipe_yes_text t.yes ++ clocks_text t.clocks
-recipe_answer_text (answer.Slow line) = at_line_text 58 line
-recipe_answer_text answer.NoMemory = codes "out of memory"
-recipe_answer_text answer.Unread = codes "cannot read"
-
--- the line from behind the recipe's name on
-abbrev pub recipe_line_text : RecipeAnswer → List ℕ
-recipe_line_text answer = codes ": " ++ recipe_answer_text answer ++ codes "\n"
 
 -- what the refusal of a text comes to
 abbrev pub text_outcome : RecipeTextWhy → Outcome
@@ -63,15 +39,6 @@ no_outcome (no.Text f) = text_outcome f.why
 no_outcome (no.Make entry.Memory line) = outcome.NoMemory
 no_outcome no.NoMemory = outcome.NoMemory
 no_outcome n = outcome.Refused
-
--- what the line of an answer comes to
-abbrev pub recipe_outcome : RecipeAnswer → Outcome
-recipe_outcome (answer.Judged (Ok y)) = outcome.Accepted
-recipe_outcome (answer.Judged (Err n)) = no_outcome n
-recipe_outcome (answer.Timed t) = outcome.Accepted
-recipe_outcome (answer.Slow line) = outcome.Refused
-recipe_outcome answer.NoMemory = outcome.NoMemory
-recipe_outcome answer.Unread = outcome.Unread
 
 -- what is said of a frame behind its name
 abbrev pub membership_text : Membership → List ℕ

@@ -14,7 +14,7 @@ use Rattle.dvg_cmd.specs.Detail.{IsBehind, behind_text, outcome_behind, has_acco
 use Rattle.dvg_cmd.specs.declared.detail.Detail.{Detail}
 use Rattle.dvg_cmd.specs.declared.detail.Behind.{Behind}
 use Rattle.dvg_cmd.specs.declared.listing.Listing.{Listing}
-use Rattle.dvg_cmd.specs.declared.several_frames.NamedFrame.{NamedFrame}
+use Rattle.dvg_cmd.specs.declared.several_frames.NamedReader.{NamedReader}
 use Rattle.dvg_recipe_cmd.specs.declared.answer.RecipeNo.{RecipeNo}
 use Rattle.dvg_recipe_cmd.specs.declared.answer.RecipeNo.TheVariants as no
 use Rattle.dvg_recipe_cmd.specs.declared.membership.Membership.{Membership}
@@ -46,7 +46,7 @@ module _ {R : Type 0} (remaining : R → Option (List ℕ)) (failures : R → �
       × (failures left ≡ count_after (is_unread membership) (failures reader))
 
   -- the line of a frame: its name, the answer to it, and behind the line what the detail asks for
-  pub record IsLineOfFrame (listing : Listing Detail) (frame : NamedFrame R) (line : Line (Membership × Behind)) : Type 0 where
+  pub record IsLineOfFrame (listing : Listing Detail) (frame : NamedReader R) (line : Line (Membership × Behind)) : Type 0 where
     pub name_is : line.name ≡ string_bytes frame.name
     pub answers : AnswersFrame frame.reader line.answer.0
     pub asked : IsBehind listing.detail line.answer.1

@@ -11,19 +11,19 @@ ghost use Rattle.dvg_recipe_text.specs.declared.reader.ReadRecipe.{ReadRecipe};
 ghost use Rattle.dvg_recipe_cmd.specs.Meanings.{IsMembership};
 ghost use Rattle.dvg_recipe_cmd.specs.Frames.{AnswersFrame, IsLineOfFrame, RefusesRecipe, TakesRecipe, ReportsRefusal, ReportsRefusalPrefix, WritesRefusal, WritesRefusalPrefix, is_unread, of_frames};
 
-use crate::answer::{RecipeNo, refusal_line_of, refusal_outcome_of};
+use crate::answer::{RecipeNo, refusal_line_of};
 use crate::judging::{board_image, line_of_piece};
 use crate::membership::{Membership, membership_line_of, membership_outcome_of};
 use crate::tally::BelongsTally;
 use dvg_account::leaving_text;
 use dvg_cmd::{
-    Behind, Detail, FRAME_READ, Listing, NamedFrame, PlainWhy, Progress, Tell, plain_account,
+    Behind, Detail, FRAME_READ, Listing, NamedReader, PlainWhy, Progress, Tell, plain_account,
     read_started, run_each, unread_account,
 };
 use dvg_labels::Labels;
 use dvg_recipe::{Leaving, NotMember, belongs, too_long};
 use dvg_recipe_text::{ReadRecipe, RecipeTextFault};
-use dvg_spelling::{Outcome, RunFault};
+use dvg_spelling::{Outcome, RunFault, Why};
 use dvg_text::{CountedRead, CountedWrite, WriteFault, write_lines};
 use dvg_words::{FrameImage, Machine, RomImage, RomMap};
 use std::alloc::{AllocError, Global};
@@ -155,7 +155,7 @@ struct MemberTeller<'a> {
     listing: Listing<Detail<'a>>,
 }
 
-impl<'a, R: CountedRead + Drop> Tell<NamedFrame<R>> for MemberTeller<'a> {
+impl<'a, R: CountedRead + Drop> Tell<NamedReader<R>> for MemberTeller<'a> {
     type Answer = (Membership, Behind);
 
     type Tally = BelongsTally;
@@ -169,11 +169,11 @@ impl<'a, R: CountedRead + Drop> Tell<NamedFrame<R>> for MemberTeller<'a> {
     fn tell<W: CountedWrite>(
         &mut self,
         alloc: Global,
-        thing: NamedFrame<R>,
+        thing: NamedReader<R>,
         progress: &mut Progress<BelongsTally>,
         out: &mut W,
     ) -> Result<(), WriteFault> {
-        let NamedFrame { name, reader } = thing;
+        let NamedReader { name, reader } = thing;
         let (membership, behind) = membership_read(
             alloc,
             &self.image,
@@ -220,7 +220,7 @@ fn write_refusal<W: CountedWrite>(
     );
     let line = refusal_line_of(no);
     write_lines(line.as_bytes(), behind.text().as_bytes(), &[], out)?;
-    Ok(behind.outcome_with(refusal_outcome_of(no)))
+    Ok(behind.outcome_with(no.outcome()))
 }
 
 /// Tells of frames, one after another, whether they are one of a recipe's, and writes a line for each that the listing has: the name, which
@@ -232,7 +232,7 @@ fn write_refusal<W: CountedWrite>(
 /// The only fault is 73, if the writer failed, and then a prefix of these lines was written.
 pub fn run_belongs<
     R: CountedRead + Drop,
-    I: Iterator<Item = NamedFrame<R>> + Drop,
+    I: Iterator<Item = NamedReader<R>> + Drop,
     W: CountedWrite,
 >(
     alloc: Global,

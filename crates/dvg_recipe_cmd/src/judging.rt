@@ -6,7 +6,7 @@ ghost use Rattle.dvg_words.specs.Memory.{IsRomLength, rom_on};
 ghost use Rattle.dvg_cert.specs.declared.limits.TheConstants.{MOST_WORDS};
 ghost use Rattle.dvg_recipe.specs.Means.{AllMean};
 ghost use Rattle.dvg_recipe.specs.Lengths.{FitsAreas};
-ghost use Rattle.dvg_recipe_cmd.specs.Recipes.{IsAnswer, IsVerdict, told_yes};
+ghost use Rattle.dvg_recipe_cmd.specs.Recipes.{IsAnswer, IsVerdict};
 ghost use Rattle.dvg_cmd.specs.Detail.{IsBehind};
 ghost use Rattle.dvg_cmd.specs.declared.detail.Detail.TheVariants as details;
 ghost use Rattle.dvg_cmd.specs.declared.detail.Behind.TheVariants as behinds;
@@ -18,13 +18,16 @@ use crate::account::{Explained, account_of};
 use crate::answer::{RecipeAnswer, RecipeNo};
 use crate::text_lines::line_of_list;
 use dvg_cert::MOST_WORDS;
-use dvg_cmd::{Behind, ClockOptions, Detail, LineClocks, PlainWhy, plain_account};
+use dvg_check::Yes;
+use dvg_cmd::{Behind, ClockOptions, Detail, PlainWhy, plain_account};
 use dvg_labels::Labels;
 use dvg_recipe::{
-    RecipeRefusal, RecipeYes, TimedRecipeRefusal, TimedRecipeYes, find_refused, judge_recipe,
-    judge_recipe_timed, survey_recipe,
+    RecipeRefusal, TimedRecipeRefusal, find_refused, judge_recipe, judge_recipe_timed,
+    survey_recipe,
 };
 use dvg_recipe_text::{ReadRecipe, RecipeTextFault, read_recipe};
+use dvg_spelling::Answer;
+use dvg_spelling::ItemPlace::RecipeLine;
 use dvg_words::{Machine, RomImage, RomMap, Window};
 use std::alloc::Global;
 
@@ -86,7 +89,7 @@ pub enum Witness {
 /// The verdict on a recipe, and what is wanted beside it.
 #[derive(Drop)]
 pub struct JudgedRecipe {
-    pub verdict: Result<RecipeYes, RecipeNo>,
+    pub verdict: Result<Yes, RecipeNo>,
     pub witness: Witness,
     /// What is written behind the line.
     pub behind: Behind,
@@ -94,7 +97,7 @@ pub struct JudgedRecipe {
 
 impl JudgedRecipe {
     /// A verdict alone.
-    fn plain(verdict: Result<RecipeYes, RecipeNo>) -> JudgedRecipe
+    fn plain(verdict: Result<Yes, RecipeNo>) -> JudgedRecipe
         ensures { result ≡ record { verdict = verdict; witness = witnesses.Nothing; behind = behinds.Nothing } }
     {
         JudgedRecipe {
@@ -187,8 +190,8 @@ fn witness_of(
 fn verdict_of(
     text: &[u8],
     read: &ReadRecipe,
-    verdict: &Result<RecipeYes, RecipeRefusal>,
-) -> Result<RecipeYes, RecipeNo>
+    verdict: &Result<Yes, RecipeRefusal>,
+) -> Result<Yes, RecipeNo>
     ensures ok { IfOk result (λ yes. verdict.now ≡ Ok yes) }
     ensures err { IfErr result IsOfFrames }
 {
@@ -347,16 +350,6 @@ pub fn judge_text(
     }
 }
 
-/// The answer of an accepted recipe, as its line tells it.
-fn told_yes(timed: TimedRecipeYes, line: LineClocks) -> RecipeAnswer
-    ensures { result ≡ told_yes line timed }
-{
-    match line {
-        LineClocks::Told => RecipeAnswer::Timed(timed),
-        LineClocks::LeftOut => RecipeAnswer::Judged(Ok(timed.yes)),
-    }
-}
-
 /// The answer to a recipe that was read, with its clocks, over the image of a ROM, and what shows why it is refused, if that is wanted. No
 /// frame is looked for that takes too long.
 fn time_read(
@@ -373,15 +366,13 @@ fn time_read(
 {
     let RecipeOptions { budget, window, .. } = explained.options;
     match judge_recipe_timed(alloc, image, &read.recipe, budget, window, &clocks.timing) {
-        Ok(timed) => (told_yes(timed, clocks.line), Witness::Nothing),
+        Ok(timed) => (clocks.line.answer(timed), Witness::Nothing),
         Err(TimedRecipeRefusal::Slow { piece }) => (
-            RecipeAnswer::Slow {
-                line: line_at(explained.text, read, piece),
-            },
+            Answer::Slow(RecipeLine(line_at(explained.text, read, piece))),
             Witness::Nothing,
         ),
         Err(TimedRecipeRefusal::Judged(refusal)) => (
-            RecipeAnswer::Judged(Err(told(explained.text, read, &refusal))),
+            Answer::Judged(Err(told(explained.text, read, &refusal))),
             match wanted {
                 Wanted::Witness => witness_of(alloc, image, read, &explained.options, &refusal),
                 Wanted::Verdict | Wanted::Account(_) => Witness::Nothing,
@@ -403,6 +394,6 @@ pub fn time_text(
 {
     match ready(alloc, explained, labels) {
         Ok((read, image)) => time_read(alloc, explained, &image, &read, clocks, wanted),
-        Err(no) => (RecipeAnswer::Judged(Err(no)), Witness::Nothing),
+        Err(no) => (Answer::Judged(Err(no)), Witness::Nothing),
     }
 }

@@ -17,13 +17,12 @@ mod tally;
 mod text_lines;
 
 pub use account::Explained;
-pub use answer::{RecipeAnswer, RecipeNo, recipe_line_of, recipe_outcome_of};
-pub use dvg_recipe::{RecipeYes, TimedRecipeYes};
+pub use answer::{RecipeAnswer, RecipeNo};
 pub use dvg_recipe_text::{ReadRecipe, RecipeTextFault, RecipeTextWhy};
 pub use frames::{Recorded, membership_of, ready, run_belongs};
 pub use judging::{JudgedRecipe, RecipeOptions, Wanted, Witness, judge_text, time_text};
 pub use membership::{Membership, membership_line_of, membership_outcome_of};
 pub use printing::run_print;
 pub use reading::load_recipe;
-pub use recipes::{NamedRecipe, RecipeAsked, WitnessEnd, run_recipe_for_witness, run_recipes};
+pub use recipes::{RecipeAsked, WitnessEnd, run_recipe_for_witness, run_recipes};
 pub use tally::{BelongsTally, belongs_summary_of};

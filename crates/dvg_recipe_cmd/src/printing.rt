@@ -1,10 +1,10 @@
 //! Writing the one spelling of a recipe's text.
 
-use crate::answer::{RecipeAnswer, RecipeNo, recipe_line_of, recipe_outcome_of};
+use crate::answer::{RecipeAnswer, RecipeNo};
 use crate::reading::read_text;
 use dvg_labels::Labels;
 use dvg_recipe_text::print_recipe;
-use dvg_spelling::{Outcome, RunFault};
+use dvg_spelling::{Answer, Outcome, RunFault};
 use dvg_text::{CountedRead, CountedWrite, write_bytes, write_lines};
 use std::alloc::Global;
 
@@ -24,10 +24,10 @@ pub fn run_print<R: CountedRead, W: CountedWrite, E: CountedWrite>(
             Ok(Outcome::Accepted)
         }
         Err(fault) => {
-            let answer = RecipeAnswer::Judged(Err(RecipeNo::Text(fault)));
-            let line = recipe_line_of(&answer);
+            let answer: RecipeAnswer = Answer::Judged(Err(RecipeNo::Text(fault)));
+            let line = answer.line();
             write_lines(name.as_bytes(), line.as_bytes(), &[], refusals)?;
-            Ok(recipe_outcome_of(&answer))
+            Ok(answer.outcome())
         }
     }
 }

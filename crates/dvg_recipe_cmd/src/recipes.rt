@@ -1,23 +1,27 @@
 //! Judging recipes, one after another.
 
-ghost use Rattle.std.specs.Prelude.{None, ◌≡◌, ◌∷◌, [], false, IfOk, IfErr, OnErr, is_err};
+ghost use Rattle.std.specs.Prelude.{Err, None, ◌≡◌, ◌∷◌, [], false, IfOk, IfErr, OnErr, is_err};
 ghost use Rattle.std.specs.Iterator.{IsFinite};
 ghost use Rattle.dvg_text.specs.Devices.{count_after};
 ghost use Rattle.dvg_cmd.specs.Telling.{HoldsOfAll, HoldsOfTaken, Reports, ReportsPrefix, no_line};
-ghost use Rattle.dvg_recipe_cmd.specs.Recipes.{SaysOf, IsAnswer, AnswersRecipe, IsLineOfRecipe, clocks_with, is_unread, of_recipes};
+ghost use Rattle.dvg_recipe_cmd.specs.Recipes.{SaysOf, IsAnswer, AnswersRecipe, IsLineOfRecipe, clocks_with, of_recipes};
+ghost use Rattle.dvg_recipe_cmd.specs.declared.answer.RecipeNo.TheVariants as refusals;
+ghost use Rattle.dvg_spelling.specs.Outcomes.{is_unread};
+ghost use Rattle.dvg_spelling.specs.declared.outcome.Answer.TheVariants as answers;
 ghost use Rattle.dvg_recipe_cmd.specs.Private.Judging.{wanted_detail};
 ghost use Rattle.dvg_cmd.specs.Detail.{IsBehind};
 ghost use Rattle.dvg_cmd.specs.declared.detail.Detail.TheVariants as details;
 
 use crate::account::Explained;
-use crate::answer::{RecipeAnswer, recipe_line_of, recipe_outcome_of};
+use crate::answer::{RecipeAnswer, RecipeNo};
 use crate::judging::{RecipeOptions, Wanted, Witness, judge_text, time_text};
 use crate::reading::read_text;
 use dvg_cmd::{
-    Behind, ClockOptions, Detail, Layout, Lines, Progress, Tell, run_each, unread_account,
+    Behind, ClockOptions, Detail, Layout, Lines, NamedReader, Progress, Tell, run_each,
+    unread_account,
 };
 use dvg_labels::Labels;
-use dvg_spelling::{Outcome, RunFault};
+use dvg_spelling::{Answer, Outcome, RunFault};
 use dvg_text::{CountedRead, CountedWrite, WriteFault, write_bytes};
 use dvg_words::Machine;
 use std::alloc::Global;
@@ -28,15 +32,6 @@ pub struct RecipeAsked {
     pub options: RecipeOptions,
     /// What is asked of their frames' clocks, if anything is: not of recipes that are explained.
     pub clocks: Option<ClockOptions>,
-}
-
-/// A recipe whose turn it is.
-#[derive(Drop)]
-pub struct NamedRecipe<R> {
-    /// The name in the recipe's line, which has no control characters.
-    pub name: String,
-    /// The reader of its text, or `None` if it can't be opened.
-    pub reader: Option<R>,
 }
 
 /// What a run reported that looks for a witness, and whether it wrote one.
@@ -56,11 +51,11 @@ struct Answered {
 
 /// That a recipe can't be opened or read, and what is wanted beside it.
 fn unread(alloc: Global, wanted: Wanted) -> Answered
-    ensures answer { result.answer ≡ RecipeAnswer.Unread }
+    ensures answer { result.answer ≡ answers.Unread }
     ensures behind { IsBehind (wanted_detail wanted.entry) result.behind }
 {
     Answered {
-        answer: RecipeAnswer::Unread,
+        answer: Answer::Unread,
         witness: Witness::Nothing,
         behind: unread_account(Machine::Board, alloc, wanted.detail()),
     }
@@ -68,11 +63,11 @@ fn unread(alloc: Global, wanted: Wanted) -> Answered
 
 /// That there is no memory for the text of a recipe, and what is wanted beside it.
 fn no_memory(wanted: Wanted) -> Answered
-    ensures answer { result.answer ≡ RecipeAnswer.NoMemory }
+    ensures answer { result.answer ≡ answers.Judged (Err refusals.NoMemory) }
     ensures behind { IsBehind (wanted_detail wanted.entry) result.behind }
 {
     Answered {
-        answer: RecipeAnswer::NoMemory,
+        answer: Answer::Judged(Err(RecipeNo::NoMemory)),
         witness: Witness::Nothing,
         behind: match wanted {
             Wanted::Verdict | Wanted::Witness => Behind::Nothing,
@@ -93,7 +88,7 @@ fn plain_answer(
 {
     let judged = judge_text(alloc, explained, labels, wanted);
     Answered {
-        answer: RecipeAnswer::Judged(judged.verdict),
+        answer: Answer::Judged(judged.verdict),
         witness: judged.witness,
         behind: judged.behind,
     }
@@ -198,7 +193,7 @@ struct RecipeTeller<'a> {
     witness: Witness,
 }
 
-impl<'a, R: CountedRead + Drop> Tell<NamedRecipe<R>> for RecipeTeller<'a> {
+impl<'a, R: CountedRead + Drop> Tell<NamedReader<R>> for RecipeTeller<'a> {
     type Answer = (RecipeAnswer, Behind);
 
     type Tally = ();
@@ -212,11 +207,11 @@ impl<'a, R: CountedRead + Drop> Tell<NamedRecipe<R>> for RecipeTeller<'a> {
     fn tell<W: CountedWrite>(
         &mut self,
         alloc: Global,
-        thing: NamedRecipe<R>,
+        thing: NamedReader<R>,
         progress: &mut Progress<()>,
         out: &mut W,
     ) -> Result<(), WriteFault> {
-        let NamedRecipe { name, reader } = thing;
+        let NamedReader { name, reader } = thing;
         let Answered {
             answer,
             witness,
@@ -230,8 +225,8 @@ impl<'a, R: CountedRead + Drop> Tell<NamedRecipe<R>> for RecipeTeller<'a> {
             self.wanted,
         );
         self.witness = witness;
-        let outcome = behind.outcome_with(recipe_outcome_of(&answer));
-        let line = recipe_line_of(&answer);
+        let outcome = behind.outcome_with(answer.outcome());
+        let line = answer.line();
         progress.write_line(outcome, name.as_str(), line.as_bytes(), behind.text(), out)?;
         progress.add(outcome);
         Ok(())
@@ -259,7 +254,7 @@ fn no_recipe(detail: Detail) -> Progress<()>
 pub fn run_recipes<
     'a,
     R: CountedRead + Drop,
-    I: Iterator<Item = NamedRecipe<R>> + Drop,
+    I: Iterator<Item = NamedReader<R>> + Drop,
     W: CountedWrite,
 >(
     alloc: Global,
@@ -304,7 +299,7 @@ pub fn run_recipe_for_witness<'a, R: CountedRead + Drop, W: CountedWrite, F: Cou
     rom: &'a [u8],
     asked: &'a RecipeAsked,
     labels: Option<&'a Labels>,
-    recipe: NamedRecipe<R>,
+    recipe: NamedReader<R>,
     out: &mut W,
     file: &mut F,
 ) -> Result<WitnessEnd, RunFault>

@@ -1,6 +1,6 @@
 -- How the text of milliseconds is cut at its point, and that it spells one number.
 use Rattle.dvg_spelling.proofs.Common.{◌≡◌, ◌≢◌, ℕ, ◌<◌, ◌≤◌, List, [], ◌∷◌, ◌++◌, length, get_or, Option, None, Some, Bor, refl, sym, ap, arith, ◌∙◌, decimal}
-use Rattle.std.specs.Prelude.{◌⊎◌, ◌*◌, ◌+◌, MatchOption}
+use Rattle.std.specs.Prelude.{◌*◌, ◌+◌, MatchOption}
 use Rattle.std.proofs.Common.{inl, inr, length-append, subst}
 use Rattle.std.proofs.Math.Seq.{get_or-append_seam}
 use Rattle.std.proofs.lemmas.Str.Parse.{not_in_digits}

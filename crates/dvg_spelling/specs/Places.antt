@@ -1,5 +1,5 @@
 -- The line of the places of an entry's calls. All of it is this project's own.
-use Rattle.std.specs.Prelude.{ℕ, ℤ, List, ◌++◌, codes}
+use Rattle.std.specs.Prelude.{ℕ, List, ◌++◌, codes}
 use Rattle.std.specs.Fmt.{signed_decimal}
 use Rattle.dvg_survey.specs.declared.places.CallPlaces.{CallPlaces}
 use Rattle.dvg_survey.specs.declared.places.CallPlaces.TheVariants.{Anywhere, Nowhere, Within}

@@ -1,5 +1,5 @@
 -- The report: the line that is written for a verdict. All of it is this project's own.
-use Rattle.std.specs.Prelude.{◌^◌, ℕ, ◌/◌, ◌%◌, ◌==◌, nat_lt, true, List, [], ◌∷◌, ◌++◌, codes, decimal, Result, Ok, Err, if◌then◌else◌}
+use Rattle.std.specs.Prelude.{◌^◌, ℕ, ◌/◌, ◌%◌, ◌==◌, nat_lt, true, List, ◌∷◌, ◌++◌, codes, decimal, Result, Ok, Err, if◌then◌else◌}
 use Rattle.std.specs.Fmt.{digit_glyph}
 use Rattle.dvg_words.specs.declared.image.ImageFault.TheVariants.{RomLength, FrameLength}
 use Rattle.dvg_check.specs.declared.verdict.Yes.{Yes}
@@ -16,11 +16,11 @@ use Rattle.dvg_make.specs.declared.judging.FrameRefusal.{FrameRefusal}
 use Rattle.dvg_make.specs.declared.judging.FrameRefusal.TheVariants.{Make, NoMemory, Check}
 use Rattle.dvg_make.specs.declared.fault.EntryFault.{EntryFault}
 use Rattle.dvg_make.specs.declared.fault.EntryFault.TheVariants as entry
-use Rattle.dvg_spelling.specs.declared.report.Caller.{Caller}
-use Rattle.dvg_spelling.specs.declared.report.Caller.TheVariants as caller
-use Rattle.dvg_spelling.specs.declared.outcome.FrameAnswer.{FrameAnswer}
 use Rattle.dvg_clocks.specs.declared.clocks.ClockRange.{ClockRange}
-use Rattle.dvg_spelling.specs.declared.outcome.FrameAnswer.TheVariants.{Judged, Timed, Slow, Unread}
+use Rattle.dvg_spelling.specs.declared.outcome.ItemPlace.{ItemPlace}
+use Rattle.dvg_spelling.specs.declared.outcome.ItemPlace.TheVariants as place
+use Rattle.dvg_spelling.specs.declared.outcome.Answer.{Answer}
+use Rattle.dvg_spelling.specs.declared.outcome.Answer.TheVariants.{Judged, Timed, Slow, Unread}
 
 -- a word: four hexadecimal digits in capitals
 abbrev pub hex_word : ℕ → List ℕ
@@ -57,14 +57,10 @@ refusal_text refusal.IndexMemory = codes "50"
 refusal_text (refusal.Shape f) = shape_fault_text f
 refusal_text (refusal.Frame f) = frame_fault_text f
 
--- the counts of what is accepted: how many entries, words and return places
-abbrev pub counts_text : ℕ → ℕ → ℕ → List ℕ
-counts_text shapes words depth =
-    codes "accepted shapes=" ++ decimal shapes ++ codes " words=" ++ decimal words ++ codes " depth=" ++ decimal depth
-
--- an accepted frame
+-- what is accepted: how many entries, words and return places
 abbrev pub accepted_text : Yes → List ℕ
-accepted_text y = counts_text y.shapes y.words y.depth
+accepted_text y =
+    codes "accepted shapes=" ++ decimal y.shapes ++ codes " words=" ++ decimal y.words ++ codes " depth=" ++ decimal y.depth
 
 -- the line of a verdict, without its LF
 abbrev pub verdict_text : Result Yes Refusal → List ℕ
@@ -77,13 +73,21 @@ report_text verdict = verdict_text verdict ++ codes "\n"
 
 -- ---- entries that are not made
 
--- whose call needs the entry: the frame's at a word address, or that of the recipe's line
-abbrev pub caller_text : Caller → List ℕ
-caller_text (caller.Frame at) = codes " for frame at " ++ hex_address at
-caller_text (caller.RecipeLine line) = codes " for recipe line " ++ decimal line
+-- where an item stands: in a frame at a word address, or in a line of the recipe, counted from 1
+abbrev pub place_text : ItemPlace → List ℕ
+place_text (place.Frame at) = codes "frame at " ++ hex_address at
+place_text (place.RecipeLine line) = codes "recipe line " ++ decimal line
+
+-- a refusal by a number because of an item
+abbrev pub refused_at_text : ℕ → ItemPlace → List ℕ
+refused_at_text number at = codes "refused " ++ decimal number ++ codes " " ++ place_text at
+
+-- whose call needs the entry
+abbrev pub caller_text : ItemPlace → List ℕ
+caller_text by = codes " for " ++ place_text by
 
 -- why the entry is not made that a call needs
-abbrev pub unmade_text : EntryFault → Caller → List ℕ
+abbrev pub unmade_text : EntryFault → ItemPlace → List ℕ
 unmade_text (entry.Unstraight word) by = codes "refused 60 at " ++ hex_address word ++ caller_text by
 unmade_text entry.Deep by = codes "refused 61" ++ caller_text by
 unmade_text entry.TooManyWords by = codes "refused 62" ++ caller_text by
@@ -94,7 +98,7 @@ unmade_text entry.Memory by = codes "out of memory"
 
 -- why a frame is refused by its own certificate
 abbrev pub frame_refusal_text : FrameRefusal → List ℕ
-frame_refusal_text (Make at why) = unmade_text why (caller.Frame at)
+frame_refusal_text (Make at why) = unmade_text why (place.Frame at)
 frame_refusal_text NoMemory = codes "out of memory"
 frame_refusal_text (Check refusal.IndexMemory) = codes "out of memory"
 frame_refusal_text (Check r) = codes "refused " ++ refusal_text r
@@ -103,14 +107,14 @@ frame_refusal_text (Check r) = codes "refused " ++ refusal_text r
 abbrev pub clocks_text : ClockRange → List ℕ
 clocks_text c = (if c.least == c.most then codes " clocks=" else codes " clocks<=") ++ decimal c.most
 
--- what is said of a frame behind its name
-abbrev pub answer_text : FrameAnswer → List ℕ
-answer_text (Judged (Ok y)) = accepted_text y
-answer_text (Judged (Err r)) = frame_refusal_text r
-answer_text (Timed t) = accepted_text t.yes ++ clocks_text t.clocks
-answer_text (Slow at) = codes "refused 58 frame at " ++ hex_address at
-answer_text Unread = codes "cannot read"
+-- what is said of a frame or a recipe behind its name, where `text` is what is said of a refusal
+abbrev pub answer_text : {R : Type 0} → (R → List ℕ) → Answer R → List ℕ
+answer_text text (Judged (Ok y)) = accepted_text y
+answer_text text (Judged (Err why)) = text why
+answer_text text (Timed t) = accepted_text t.yes ++ clocks_text t.clocks
+answer_text text (Slow at) = refused_at_text 58 at
+answer_text text Unread = codes "cannot read"
 
--- the line from behind the frame's name on
-abbrev pub frame_line_text : FrameAnswer → List ℕ
-frame_line_text answer = codes ": " ++ answer_text answer ++ codes "\n"
+-- the line from behind the name on
+abbrev pub line_text : {R : Type 0} → (R → List ℕ) → Answer R → List ℕ
+line_text text answer = codes ": " ++ answer_text text answer ++ codes "\n"

@@ -1,14 +1,13 @@
 -- How many lines say what of frames, and the line that tells it. All of it is this project's own.
-use Rattle.std.specs.Prelude.{ℕ, zero, suc, ◌+◌, List, [], ◌∷◌, ◌++◌, codes, decimal, replicate, slice_index, slice_set, Result, Ok, Err, true}
+use Rattle.std.specs.Prelude.{ℕ, zero, suc, ◌+◌, List, [], ◌∷◌, ◌++◌, codes, decimal, replicate, slice_index, slice_set, Err, true}
 use Rattle.dvg_text.specs.Devices.{count_after}
 use Rattle.dvg_check.specs.Numbers.{refusal_number}
 use Rattle.dvg_make.specs.Refusals.{fault_number, make_fault_of}
 use Rattle.dvg_make.specs.declared.judging.FrameRefusal.TheVariants.{Make, Check}
-use Rattle.dvg_spelling.specs.declared.outcome.FrameAnswer.{FrameAnswer}
-use Rattle.dvg_spelling.specs.declared.outcome.FrameAnswer.TheVariants.{Judged, Slow}
+use Rattle.dvg_spelling.specs.declared.outcome.Answer.TheVariants.{Judged, Slow}
 use Rattle.dvg_spelling.specs.declared.outcome.Outcome.{Outcome}
 use Rattle.dvg_spelling.specs.declared.outcome.Outcome.TheVariants.{Accepted, Refused, NoMemory, Unread}
-use Rattle.dvg_spelling.specs.Outcomes.{frame_outcome_of}
+use Rattle.dvg_spelling.specs.Outcomes.{FrameAnswer, answer_outcome, frame_refusal_outcome}
 pub use Rattle.dvg_spelling.specs.declared.tally.Tally.{Tally}
 
 -- the number of a refusal; 0 if the answer is none
@@ -31,7 +30,7 @@ with_outcome Unread number t = record t { unread = count_after true t.unread }
 
 -- one line more of this answer
 abbrev pub with_answer : Tally → FrameAnswer → Tally
-with_answer t answer = with_outcome (frame_outcome_of answer) (answer_number answer) t
+with_answer t answer = with_outcome (answer_outcome frame_refusal_outcome answer) (answer_number answer) t
 
 -- how many were refused by a number, if any
 abbrev pub refused_text : ℕ → ℕ → List ℕ

@@ -1,5 +1,5 @@
 -- Milliseconds on the command line, and the clocks that they are. All of it is this project's own.
-use Rattle.std.specs.Prelude.{◌≡◌, ◌≤◌, ◌<◌, ◌+◌, ◌-◌, ◌*◌, ◌/◌, ◌⊎◌, ◌++◌, ◌∷◌, [], ℕ, List, decimal}
+use Rattle.std.specs.Prelude.{◌≡◌, ◌≤◌, ◌+◌, ◌-◌, ◌*◌, ◌/◌, ◌⊎◌, ◌++◌, ◌∷◌, [], ℕ, List, decimal}
 use Rattle.dvg_spelling.specs.declared.within.TheConstants.{MOST_MILLISECONDS, POINT}
 
 -- the byte is a decimal digit

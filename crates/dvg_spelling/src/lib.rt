@@ -25,12 +25,11 @@ pub use arguments::{map_of, root_of, start_of};
 pub use dumps::{DumpLine, dump_line_of};
 pub use entry_line::EntryLine;
 pub use fault::{MakeRunFault, RunFault};
-pub use outcome::{FrameAnswer, Outcome, frame_outcome_of, outcome_of};
+pub use outcome::{Answer, FrameAnswer, ItemPlace, Outcome, Why, outcome_of};
 pub use places::place_line_of;
 pub use remark::{RemarkKind, RemarkTally, remarks_line_of};
 pub use report::{
-    Caller, Report, entry_name, frame_report_of, hex_address, hex_word, make_line_of,
-    make_report_of, report_of,
+    Report, entry_name, hex_address, hex_word, make_line_of, make_report_of, report_of,
 };
 pub use rules::{Rule, all_rules, own_rule_of, rule_of, text_of_rule, text_of_rules};
 pub use status::{make_status_of, message_of, status_of};

@@ -2,29 +2,20 @@
 
 ghost use Rattle.std.specs.Prelude.{◌≡◌, ◌+◌, ◌≤◌, ◌<◌, ◌++◌, [], length, codes, decimal};
 ghost use Rattle.dvg_spelling.specs.Messages.{fault_message, make_message, make_line_text};
-ghost use Rattle.dvg_spelling.specs.Report.{report_text, counts_text, refusal_text, entry_text, hex_word, hex_address, caller_text, unmade_text, frame_refusal_text, answer_text, clocks_text, frame_line_text};
+ghost use Rattle.dvg_spelling.specs.Report.{accepted_text, clocks_text, entry_text, hex_address, hex_word, place_text, refusal_text, refused_at_text, report_text, unmade_text};
 
 use crate::fault::{MakeRunFault, RunFault};
-use crate::outcome::FrameAnswer;
+use crate::outcome::ItemPlace;
 use crate::status::message_of;
 use arrayvec::ArrayVec;
 use dvg_cert::Key;
 use dvg_check::{Refusal, Yes};
 use dvg_clocks::ClockRange;
-use dvg_make::{EntryFault, FrameRefusal, MakeFault};
+use dvg_make::{EntryFault, MakeFault};
 use dvg_text::{address_digits, push_bytes};
 use dvg_words::{ADDRESS_END, ImageFault};
 use itoa::Buffer;
 use std::marker::Model;
-
-/// Whose call needs an entry.
-#[derive(Clone, Copy, Debug, PartialEq, Eq)]
-pub enum Caller {
-    /// The frame's, at this word address.
-    Frame(u16),
-    /// That of the recipe's line, counted from 1.
-    RecipeLine(u32),
-}
 
 /// A line of at most 96 bytes, its LF included: 64 where it tells no clocks.
 #[derive(Drop)]
@@ -111,14 +102,14 @@ impl Report {
     }
 
     /// The counts of what is accepted.
-    pub fn push_accepted(&mut self, shapes: u32, words: u32, depth: u8)
+    pub fn push_accepted(&mut self, yes: &Yes)
         requires { length self.old ≤ 2 }
-        ensures text { self.new ≡ self.old ++ counts_text shapes words depth }
+        ensures text { self.new ≡ self.old ++ accepted_text yes.now }
         ensures short { length self.new ≤ 63 }
     {
-        self.push_count(b"accepted shapes=", shapes);
-        self.push_count(b" words=", words);
-        self.push_count(b" depth=", u32::from(depth));
+        self.push_count(b"accepted shapes=", yes.shapes);
+        self.push_count(b" words=", yes.words);
+        self.push_count(b" depth=", u32::from(yes.depth));
     }
 
     /// The clocks of what is accepted: just so many, or so many at most.
@@ -135,19 +126,31 @@ impl Report {
         self.push(Buffer::new().format(clocks.most).as_bytes());
     }
 
-    fn push_caller(&mut self, caller: Caller)
-        requires { length self.old ≤ 25 }
-        ensures text { self.new ≡ self.old ++ caller_text caller }
+    /// Where an item stands, behind a label.
+    fn push_place(&mut self, label: &[u8], place: ItemPlace)
+        requires { length self.old + length label.now ≤ 30 }
+        ensures text { self.new ≡ self.old ++ label.now ++ place_text place }
         ensures short { length self.new ≤ 63 }
     {
-        match caller {
-            Caller::Frame(at) => self.push_address(b" for frame at ", at),
-            Caller::RecipeLine(line) => self.push_count(b" for recipe line ", line),
+        self.push(label);
+        match place {
+            ItemPlace::Frame(at) => self.push_address(b"frame at ", at),
+            ItemPlace::RecipeLine(line) => self.push_count(b"recipe line ", line),
         }
     }
 
-    /// Why the entry is not made that a call needs, and whose call that is.
-    pub fn push_unmade(&mut self, why: EntryFault, caller: Caller)
+    /// A refusal by this number because of the item that stands here.
+    pub fn push_refused_at(&mut self, number: u8, place: ItemPlace)
+        requires { length self.old ≤ 2 }
+        ensures text { self.new ≡ self.old ++ refused_at_text number place }
+        ensures short { length self.new ≤ 63 }
+    {
+        self.push_count(b"refused ", u32::from(number));
+        self.push_place(b" ", place);
+    }
+
+    /// Why the entry is not made that the call needs which stands here.
+    pub fn push_unmade(&mut self, why: EntryFault, caller: ItemPlace)
         requires { length self.old ≤ 2 }
         ensures text { self.new ≡ self.old ++ unmade_text why caller }
         ensures short { length self.new ≤ 63 }
@@ -159,7 +162,7 @@ impl Report {
             EntryFault::TooManyEntries => self.push(b"refused 62 by entries"),
             EntryFault::Memory => return self.push(b"out of memory"),
         }
-        self.push_caller(caller);
+        self.push_place(b" for ", caller);
     }
 
     /// With its LF.
@@ -216,20 +219,9 @@ pub fn report_of(verdict: &Result<Yes, Refusal>) -> Report
 {
     let mut report = Report::new();
     match verdict {
-        Ok(yes) => report.push_accepted(yes.shapes, yes.words, yes.depth),
+        Ok(yes) => report.push_accepted(yes),
         Err(refusal) => push_refusal(&mut report, refusal),
     }
-    report.ended()
-}
-
-/// The line of an answer to a frame, from behind the frame's name on, with its LF: 96 bytes at most. Takes no memory.
-pub fn frame_report_of(answer: &FrameAnswer) -> Report
-    ensures text { result ≡ frame_line_text answer.now }
-    ensures short { length result ≤ 96 }
-{
-    let mut report = Report::new();
-    report.push(b": ");
-    push_answer(&mut report, answer);
     report.ended()
 }
 
@@ -276,41 +268,11 @@ fn push_make_fault(report: &mut Report, fault: &MakeRunFault)
         MakeRunFault::Make(MakeFault::Memory) => push_message(report, &RunFault::Memory),
         MakeRunFault::Call { call, why } => {
             report.push(b": ");
-            report.push_unmade(*why, Caller::Frame(call.at));
+            report.push_unmade(*why, ItemPlace::Frame(call.at));
         }
         MakeRunFault::ReadRom => push_message(report, &RunFault::ReadRom),
         MakeRunFault::ReadFrame => push_message(report, &RunFault::ReadFrame),
         MakeRunFault::Write => push_message(report, &RunFault::Write),
-    }
-}
-
-fn push_answer(report: &mut Report, answer: &FrameAnswer)
-    requires { length report.old ≤ 2 }
-    ensures text { report.new ≡ report.old ++ answer_text answer.now }
-    ensures short { length report.new ≤ 95 }
-{
-    match answer {
-        FrameAnswer::Judged(Ok(yes)) => report.push_accepted(yes.shapes, yes.words, yes.depth),
-        FrameAnswer::Judged(Err(refusal)) => push_frame_refusal(report, refusal),
-        FrameAnswer::Timed(timed) => {
-            report.push_accepted(timed.yes.shapes, timed.yes.words, timed.yes.depth);
-            report.push_clocks(&timed.clocks);
-        }
-        FrameAnswer::Slow { at } => report.push_address(b"refused 58 frame at ", *at),
-        FrameAnswer::Unread => report.push(b"cannot read"),
-    }
-}
-
-fn push_frame_refusal(report: &mut Report, refusal: &FrameRefusal)
-    requires { length report.old ≤ 2 }
-    ensures text { report.new ≡ report.old ++ frame_refusal_text refusal.now }
-    ensures short { length report.new ≤ 63 }
-{
-    match refusal {
-        FrameRefusal::Make { at, why } => report.push_unmade(*why, Caller::Frame(*at)),
-        FrameRefusal::NoMemory => report.push(b"out of memory"),
-        FrameRefusal::Check(Refusal::IndexMemory) => report.push(b"out of memory"),
-        FrameRefusal::Check(refusal) => push_refusal(report, refusal),
     }
 }
 
@@ -323,7 +285,7 @@ fn push_message(report: &mut Report, fault: &RunFault)
 }
 
 /// The number of a refusal, and where it stands.
-fn push_refusal(report: &mut Report, refusal: &Refusal)
+pub fn push_refusal(report: &mut Report, refusal: &Refusal)
     requires { length report.old ≤ 2 }
     ensures text { report.new ≡ report.old ++ codes "refused " ++ refusal_text refusal.now }
     ensures short { length report.new ≤ 63 }

@@ -4,7 +4,7 @@ ghost use Rattle.std.specs.Prelude.{◌≡◌, ◌+◌, ◌≤◌, ◌<◌, ◌+
 ghost use Rattle.dvg_text.specs.Devices.{count_after};
 ghost use Rattle.dvg_spelling.specs.Tally.{answer_number, no_lines, with_answer, refused_text, refused_texts, summary_text};
 
-use crate::outcome::{FrameAnswer, Outcome, frame_outcome_of};
+use crate::outcome::{Answer, FrameAnswer, Outcome};
 use arrayvec::ArrayVec;
 use dvg_make::{FrameRefusal, MakeFault};
 use dvg_text::push_bytes;
@@ -32,12 +32,11 @@ pub fn answer_number(answer: &FrameAnswer) -> u8
     ensures { result ≡ answer_number answer.now }
 {
     match answer {
-        FrameAnswer::Judged(Err(FrameRefusal::Make { why, .. })) => MakeFault::from(*why).number(),
-        FrameAnswer::Judged(Err(FrameRefusal::Check(refusal))) => refusal.number(),
-        FrameAnswer::Slow { .. } => 58,
-        FrameAnswer::Judged(Err(FrameRefusal::NoMemory) | Ok(_))
-        | FrameAnswer::Timed(_)
-        | FrameAnswer::Unread => 0,
+        Answer::Judged(Err(FrameRefusal::Make { why, .. })) => MakeFault::from(*why).number(),
+        Answer::Judged(Err(FrameRefusal::Check(refusal))) => refusal.number(),
+        Answer::Slow(_) => 58,
+        Answer::Judged(Err(FrameRefusal::NoMemory) | Ok(_)) | Answer::Timed(_) | Answer::Unread =>
+            0,
     }
 }
 
@@ -58,7 +57,7 @@ impl Tally {
     pub fn add(&mut self, answer: &FrameAnswer)
         ensures { self.new ≡ with_answer self.old answer.now }
     {
-        match frame_outcome_of(answer) {
+        match answer.outcome() {
             Outcome::Accepted => count(&mut self.accepted),
             Outcome::Refused => count(&mut self.refused[usize::from(answer_number(answer))]),
             Outcome::NoMemory => count(&mut self.no_memory),

@@ -1,5 +1,5 @@
 -- What a walk over all items keeps, and what follows where it stops; where no items lead.
-use Rattle.dvg_survey.proofs.Common.{Source, ◌≡◌, ℕ, List, [], ◌∷◌, Option, Some, sym, ap, ◌∙◌, ◌++◌, subst, cell_at, Point, Holds, LitBox, Empty, Item, Known, Seen, Cursor, LeadsTo, Context, callee_at, scale_before, target, seen_at, IsLeast, absolute_points, absolute_corners, AreAll, call_of, calls_among, IsSeenAt, arith, IfNone, Format, Instr, known_before, seen_with, first_cursor, step_past, IsSoundCursor, IsSoundStep, Step, Onward, Last, leads_on, ends_at, FrameSurvey, IsSurveyAmong, place_loss, place_lost_by, scale_loss, scale_lost_by, None, NoneLead, length, refl, cases_lt, next_address, Kind, AtEachOf, same_lead, shorter, everywhere}
+use Rattle.dvg_survey.proofs.Common.{Source, ◌≡◌, ℕ, List, [], ◌∷◌, Option, Some, sym, ap, ◌∙◌, subst, cell_at, Holds, Item, Known, Seen, Cursor, LeadsTo, Context, callee_at, scale_before, target, seen_at, AreAll, call_of, calls_among, IsSeenAt, arith, IfNone, Format, Instr, known_before, seen_with, first_cursor, step_past, IsSoundCursor, IsSoundStep, Step, Onward, Last, leads_on, ends_at, FrameSurvey, IsSurveyAmong, place_loss, place_lost_by, scale_loss, scale_lost_by, None, NoneLead, length, refl, cases_lt, next_address, Kind, AtEachOf, same_lead, shorter, everywhere}
 use Rattle.dvg_survey.specs.Losses.{Losses}
 use Rattle.dvg_survey.specs.Private.Surveying.{IsSurveyPast}
 use Rattle.dvg_survey.proofs.AllItems.{stand_before, no_more}

@@ -5,7 +5,7 @@ use crate::expecting::{expect, expect_same};
 use crate::inputs::{EMPTY, bytes_of, rom_of};
 use crate::table::text_of_entries;
 use dvg_cert::{HashIndex, ListIndex};
-use dvg_check::{FrameCause, JudgedShapes, Mode, ShapeCause, find_shape_fault};
+use dvg_check::{FrameCause, JudgedShapes, Mode, ShapeCause, judge_shapes};
 use dvg_cmd::report_of;
 use dvg_survey::{CallPlaces, Rectangle, entry_places, survey_frame};
 use dvg_text::read_cert;
@@ -43,7 +43,7 @@ fn explain_frame(rt: &impl Abort, alloc: Global, words: &str) -> (u16, FrameCaus
     let entries = ListIndex::new(&cert);
     let judged = JudgedShapes::judge(&rom, &cert, &entries, SCREEN, Mode::Bound);
     let shapes = judged.expect(rt, "shapes");
-    let judged = shapes.find_fault(&frame, 3);
+    let judged = shapes.judge_frame(&frame, 3);
     let finding = judged.expect_err(rt, "a refusal");
     (finding.fault.word, finding.cause)
 }
@@ -67,7 +67,7 @@ fn explain_entry(rt: &impl Abort, alloc: Global, entry: &str) -> (u16, ShapeCaus
     let cert = read_cert(alloc, &text).expect(rt, "a certificate");
     let rom = RomImage::from_bytes(&bytes, cert.map()).expect(rt, "a ROM");
     let entries = HashIndex::new(alloc, &cert).expect(rt, "an index");
-    let judged = find_shape_fault(&rom, &cert, &entries, &SCREEN, Mode::Exact);
+    let judged = judge_shapes(&rom, &cert, &entries, &SCREEN, Mode::Exact);
     let finding = judged.expect_err(rt, "a refusal");
     (finding.fault.word, finding.cause)
 }

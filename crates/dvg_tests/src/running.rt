@@ -5,7 +5,7 @@ use crate::expecting::{FaultRow, expect, expect_faults, expect_lines, expect_sam
 use crate::inputs::{EMPTY, STROKE, STROKE_FRAME, rom_of};
 use dvg_cmd::{
     ASTEROIDS, Counted, Detail, EntryFault, FrameCall, FrameDetail, Lines, Listing, Machine,
-    MakeFault, MakeRunFault, Mode, NamedFrame, Outcome, OwnCertificates, RunFault, SCREEN,
+    MakeFault, MakeRunFault, Mode, NamedReader, Outcome, OwnCertificates, RunFault, SCREEN,
     make_report_of, make_status_of, map_of, message_of, run_check, run_frames, run_make, status_of,
 };
 use std::alloc::{AllocError, Global};
@@ -86,7 +86,7 @@ fn expect_line(
         window: SCREEN,
         others: None,
     };
-    let frame = NamedFrame {
+    let frame = NamedReader {
         name: format!(in alloc; "frame").expect(rt, "memory for a name"),
         reader: frame.map(|bytes| slow(alloc, bytes, 1)),
     };

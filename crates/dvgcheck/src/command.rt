@@ -191,11 +191,10 @@ pub struct DumpArgs<'a> {
     pub labels: Option<&'a Labels>,
 }
 
-/// The arguments of `recipe`, where recipes are judged.
+/// What `recipe` asks of recipes that are judged, and what is written of them.
 #[derive(Drop)]
 pub struct RecipeArgs<'a> {
     pub rom: Input<'a>,
-    pub recipes: Vec<Named<'a>>,
     pub asked: RecipeAsked,
     /// What names of recipes may stand for, besides those that they define.
     pub labels: Option<&'a Labels>,
@@ -274,12 +273,7 @@ impl<'a> Arguments<'a> {
 
     /// The same arguments, with these labels.
     pub fn with_labels(self, labels: Option<&'a Labels>) -> Arguments<'a> {
-        Arguments {
-            verb: self.verb,
-            task: self.task,
-            matches: self.matches,
-            labels,
-        }
+        Arguments { labels, ..self }
     }
 
     /// What is written of an answer.
@@ -504,8 +498,8 @@ impl<'a> Arguments<'a> {
         Ok(recipe.map(|recipe| (recipe, self.labels)))
     }
 
-    /// What `recipe` asks for, where recipes are judged.
-    pub fn recipes(&self, rt: &HostRuntime) -> Result<RecipeArgs<'a>, Usage<'a>> {
+    /// What `recipe` asks of which recipes.
+    pub fn recipes(&self, rt: &HostRuntime) -> Result<(Vec<Named<'a>>, RecipeArgs<'a>), Usage<'a>> {
         let asked = RecipeAsked {
             options: RecipeOptions {
                 map: self.map()?,
@@ -522,14 +516,14 @@ impl<'a> Arguments<'a> {
             }
             path => path,
         };
-        Ok(RecipeArgs {
+        let args = RecipeArgs {
             rom: self.file(rt, "ROM"),
-            recipes,
             asked,
             labels: self.labels,
             detail: self.detail(),
             output,
-        })
+        };
+        Ok((recipes, args))
     }
 
     /// What `belongs` asks of which frames.

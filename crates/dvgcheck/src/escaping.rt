@@ -6,17 +6,11 @@ use std::alloc::{AllocError, Global};
 pub fn marked(alloc: Global, arguments: &[String]) -> Result<Vec<String>, AllocError> {
     let mut marked = Vec::new(alloc);
     for argument in arguments {
-        let copy = marked_argument(alloc, argument.as_str())?;
+        let mut copy = String::new(alloc);
+        for c in argument.as_str().chars() {
+            copy.push(if c == '\n' { '\0' } else { c })?;
+        }
         marked.push(copy)?;
-    }
-    Ok(marked)
-}
-
-/// An argument with NUL for each of its LFs.
-fn marked_argument(alloc: Global, argument: &str) -> Result<String, AllocError> {
-    let mut marked = String::new(alloc);
-    for c in argument.chars() {
-        marked.push(if c == '\n' { '\0' } else { c })?;
     }
     Ok(marked)
 }

@@ -1,6 +1,6 @@
 //! The files that a run reads.
 
-use dvg_cmd::{Counted, NamedFrame};
+use dvg_cmd::{Counted, NamedReader};
 use std::fs::File;
 use std::io::{Cursor, Read, Stdin};
 use std::os::fd::AsFd;
@@ -65,8 +65,8 @@ impl Read for Source {
 pub type Kept = Counted<Cursor<Vec<u8>>>;
 
 /// The frame with this name: the bytes that were read of it, or that it can't be opened or read.
-pub fn kept_frame(name: String, bytes: Option<Vec<u8>>) -> NamedFrame<Kept> {
-    NamedFrame {
+pub fn kept_frame(name: String, bytes: Option<Vec<u8>>) -> NamedReader<Kept> {
+    NamedReader {
         name,
         reader: bytes.map(|bytes| Counted::new(Cursor::new(bytes))),
     }

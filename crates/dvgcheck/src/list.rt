@@ -3,7 +3,7 @@
 use crate::escaping::shown;
 use crate::frames_fault::FramesFault;
 use crate::input::{Input, Source};
-use dvg_cmd::{Counted, NameBytes, NameEnd, NamedFrame, read_name};
+use dvg_cmd::{Counted, NameBytes, NameEnd, NamedReader, read_name};
 use std::alloc::AllocError;
 use std::io::BufReader;
 use std::str;
@@ -38,7 +38,7 @@ impl List {
     }
 
     /// The next frame that the list names, opened, or `None` at its end and behind a fault.
-    pub fn next_frame(&mut self, rt: &HostRuntime) -> Option<NamedFrame<Counted<Source>>> {
+    pub fn next_frame(&mut self, rt: &HostRuntime) -> Option<NamedReader<Counted<Source>>> {
         if self.fault.is_some() {
             return None;
         }
@@ -59,7 +59,7 @@ impl List {
     fn read_frame(
         &mut self,
         rt: &HostRuntime,
-    ) -> Result<Option<NamedFrame<Counted<Source>>>, FramesFault> {
+    ) -> Result<Option<NamedReader<Counted<Source>>>, FramesFault> {
         let name = match self.first.take() {
             Some(first) => first,
             None => match read_name(&mut self.source, self.end)? {
@@ -81,11 +81,11 @@ fn path_of(name: &[u8]) -> Option<&str> {
 
 /// The frame that a name of a list names, opened, if its name is a path. Its line shows the first 4096 bytes of the name, with U+FFFD
 /// for what is not UTF-8.
-fn frame_named(rt: &HostRuntime, name: &[u8]) -> Result<NamedFrame<Counted<Source>>, AllocError> {
+fn frame_named(rt: &HostRuntime, name: &[u8]) -> Result<NamedReader<Counted<Source>>, AllocError> {
     let file = path_of(name).and_then(|path| Input::Path(path).open(rt).ok());
     let kept = &name[..name.len().min(LONGEST_NAME)];
     let text = String::from_utf8_lossy(rt.alloc(), kept)?;
-    Ok(NamedFrame {
+    Ok(NamedReader {
         name: shown(rt.alloc(), text.as_str())?,
         reader: file.map(Counted::new),
     })

@@ -16,18 +16,18 @@ mod labels;
 mod list;
 mod options;
 mod output;
+mod over;
 mod recipes;
 mod records;
 mod subcommand;
 mod together;
 
 use command::{
-    Arguments, Asked, Certificates, CheckArgs, DumpArgs, FrameNames, MakeArgs, Named, Usage,
-    listing_by,
+    Arguments, Asked, Certificates, CheckArgs, DumpArgs, MakeArgs, Named, Usage, listing_by,
 };
 use dvg_cmd::{
     ASTEROIDS, ClockOptions, Counted, CountedRead, CountedWrite, Detail, KeptCertificates, Labels,
-    Listing, MakeAnswer, MakeFault, MakeRunFault, NamedFrame, Outcome, OwnCertificates, Remarking,
+    Listing, MakeAnswer, MakeFault, MakeRunFault, NamedReader, Outcome, OwnCertificates, Remarking,
     RomMap, Rule, RunFault, ShapeStarts, TimedCertificates, Window, all_rules, load_cert, load_rom,
     make_status_of, message_of, run_check_in, run_comparison, run_explain_diff, run_explain_make,
     run_frames, run_frames_given, run_make_frames, run_places, run_rule, run_rules, status_of,
@@ -35,10 +35,9 @@ use dvg_cmd::{
 };
 use frames_fault::FramesFault;
 use input::{Input, Source, is_no_memory};
-use list::List;
 use output::Output;
-use recipes::{run_belonging, run_print_of, run_recipe};
-use records::Records;
+use over::{AskedOfFrames, opened, run_over};
+use recipes::{run_print_of, run_recipe};
 use std::alloc::AllocError;
 use std::io;
 use std::process::ExitCode;
@@ -64,18 +63,6 @@ fn check(rt: &HostRuntime, args: &CheckArgs, detail: Detail) -> Result<Outcome, 
         detail,
         &mut Counted::new(io::writer(rt)),
     )
-}
-
-/// Reads the ROM, and the certificate if one is given, and then judges frame after frame: each file is opened when the one before it
-/// is closed. Accounts of several frames by certificates of their own come when all frames are read.
-#[inline(never)]
-fn frames(rt: &HostRuntime, named: Vec<Named>, asked: &Asked) -> Result<Outcome, RunFault> {
-    match asked.certificates {
-        Certificates::Made(map, clocks) if asked.has_account() && named.len() > 1 => {
-            explain_together(rt, asked, map, clocks, named)
-        }
-        _ => judge_frames(rt, asked, named.into_iter().map(|frame| opened(rt, frame))),
-    }
 }
 
 /// Reads the ROM and then all frames, and judges these with accounts, each of which knows where the shapes of the other frames begin.
@@ -105,7 +92,7 @@ fn explain_together(
 
 /// Judges frames by certificates of their own over this ROM, with their clocks, if these are asked for.
 #[inline(never)]
-fn judge_by_own<'a, R: CountedRead + Drop, I: Iterator<Item = NamedFrame<R>> + Drop>(
+fn judge_by_own<'a, R: CountedRead + Drop, I: Iterator<Item = NamedReader<R>> + Drop>(
     rt: &HostRuntime,
     asked: &Asked<'a>,
     rom: &'a [u8],
@@ -162,70 +149,50 @@ fn own_certificates<'a>(
     }
 }
 
-/// Does the same with the frames that a list names, which is read name by name, beginning before the ROM is opened.
-#[inline(never)]
-fn listed_frames(rt: &HostRuntime, list: &mut List, asked: &Asked) -> Result<Outcome, RunFault> {
-    // No list has so many names.
-    let frames = (0..u64::MAX).map_while(|_| list.next_frame(rt));
-    judge_frames(rt, asked, frames)
-}
-
-/// Does the same with the records of files, each of which is judged as soon as it is read.
-#[inline(never)]
-fn recorded_frames(
-    rt: &HostRuntime,
-    records: &mut Records,
-    asked: &Asked,
-) -> Result<Outcome, RunFault> {
-    // No files have so many records.
-    let frames = (0..u64::MAX).map_while(|_| records.step(rt)).flatten();
-    judge_frames(rt, asked, frames)
-}
-
-/// A frame whose turn it is, opened.
-fn opened(rt: &HostRuntime, frame: Named) -> NamedFrame<Counted<Source>> {
-    let Named { input, name } = frame;
-    NamedFrame {
-        name,
-        reader: input.open(rt).ok().map(Counted::new),
-    }
-}
-
-/// Reads the ROM, and the certificate if one is given, and judges frames.
-#[inline(never)]
-fn judge_frames<R: CountedRead + Drop, I: Iterator<Item = NamedFrame<R>> + Drop>(
-    rt: &HostRuntime,
-    asked: &Asked,
-    frames: I,
-) -> Result<Outcome, RunFault>
-    requires can { I.can_next frames }
-    requires ends { IsFinite (I.remaining frames) }
-{
-    let rom = load_rom(&mut Counted::new(open(rt, asked.rom, RunFault::ReadRom)?))?;
-    match asked.certificates {
-        Certificates::Made(map, clocks) => {
-            judge_by_own(rt, asked, rom.as_slice(), map, None, clocks, frames)
+impl<'a> AskedOfFrames for Asked<'a> {
+    /// Reads the ROM, and the certificate if one is given, and judges frames.
+    #[inline(never)]
+    fn run<R: CountedRead + Drop, I: Iterator<Item = NamedReader<R>> + Drop>(
+        &self,
+        rt: &HostRuntime,
+        frames: I,
+    ) -> Result<Outcome, RunFault> {
+        let rom = load_rom(&mut Counted::new(open(rt, self.rom, RunFault::ReadRom)?))?;
+        match self.certificates {
+            Certificates::Made(map, clocks) => {
+                judge_by_own(rt, self, rom.as_slice(), map, None, clocks, frames)
+            }
+            Certificates::Given(cert) => {
+                let file = open(rt, cert, RunFault::ReadCert)?;
+                let cert = load_cert(rt.alloc(), &mut Counted::new(file))?;
+                let map = match &cert {
+                    Ok(cert) => cert.map(),
+                    Err(_) => ASTEROIDS,
+                };
+                let remarking = Remarking {
+                    own: own_certificates(self, rom.as_slice(), map, None),
+                    labels: self.remark_labels(),
+                };
+                run_frames_given(
+                    rt.alloc(),
+                    rom.as_slice(),
+                    &cert,
+                    &self.options,
+                    frames,
+                    listing_by(self.listing, &remarking),
+                    &mut Counted::new(io::writer(rt)),
+                )
+            }
         }
-        Certificates::Given(cert) => {
-            let file = open(rt, cert, RunFault::ReadCert)?;
-            let cert = load_cert(rt.alloc(), &mut Counted::new(file))?;
-            let map = match &cert {
-                Ok(cert) => cert.map(),
-                Err(_) => ASTEROIDS,
-            };
-            let remarking = Remarking {
-                own: own_certificates(asked, rom.as_slice(), map, None),
-                labels: asked.remark_labels(),
-            };
-            run_frames_given(
-                rt.alloc(),
-                rom.as_slice(),
-                &cert,
-                &asked.options,
-                frames,
-                listing_by(asked.listing, &remarking),
-                &mut Counted::new(io::writer(rt)),
-            )
+    }
+
+    /// Does so with the frames of the command line. Accounts of several frames by certificates of their own come when all frames are read.
+    fn run_named(&self, rt: &HostRuntime, frames: Vec<Named>) -> Result<Outcome, RunFault> {
+        match self.certificates {
+            Certificates::Made(map, clocks) if self.has_account() && frames.len() > 1 => {
+                explain_together(rt, self, map, clocks, frames)
+            }
+            _ => self.run(rt, frames.into_iter().map(|frame| opened(rt, frame))),
         }
     }
 }
@@ -244,15 +211,23 @@ fn open_all(
     Ok((Counted::new(rom), frames))
 }
 
-/// Opens the ROM and the frames, and then the file for the certificate, if one was named, and runs the maker.
+/// Opens the ROM and the frames, and then the file for the certificate, if one was named, and runs the maker. The file has the certificate
+/// in the end, or, on any fault, what was there.
 #[inline(never)]
 fn make(rt: &HostRuntime, args: &MakeArgs) -> Result<(), MakeRunFault> {
     let (mut rom, mut frames) = open_all(rt, args)?;
-    match args.output {
-        Some(path) => make_file(rt, args, &mut rom, &mut frames, path),
-        None => {
-            let mut out = Counted::new(io::writer(rt));
-            run_maker(rt, args, &mut rom, &mut frames, &mut out)
+    let Some(path) = args.output else {
+        let mut out = Counted::new(io::writer(rt));
+        return run_maker(rt, args, &mut rom, &mut frames, &mut out);
+    };
+    let output = Output::open(rt, path).map_err(|error| unwritten(&error))?;
+    let mut file = Counted::new(output.file());
+    let made = run_maker(rt, args, &mut rom, &mut frames, &mut file);
+    match made {
+        Ok(()) => output.keep(rt).map_err(|error| unwritten(&error)),
+        Err(fault) => {
+            output.discard(rt);
+            Err(fault)
         }
     }
 }
@@ -343,25 +318,6 @@ fn explain_make(rt: &HostRuntime, args: &MakeArgs) -> u8 {
     }
 }
 
-/// Runs the maker over open files, and has the certificate at this path in the end, or, on any fault, what was there.
-fn make_file(
-    rt: &HostRuntime,
-    args: &MakeArgs,
-    rom: &mut Counted<Source>,
-    frames: &mut [Counted<Source>],
-    path: &str,
-) -> Result<(), MakeRunFault> {
-    let output = Output::open(rt, path).map_err(|error| unwritten(&error))?;
-    let made = run_maker(rt, args, rom, frames, &mut Counted::new(output.file()));
-    match made {
-        Ok(()) => output.keep(rt).map_err(|error| unwritten(&error)),
-        Err(fault) => {
-            output.discard(rt);
-            Err(fault)
-        }
-    }
-}
-
 /// The fault of a file that could not be written.
 fn unwritten(error: &io::Error) -> MakeRunFault {
     if is_no_memory(error) {
@@ -414,25 +370,6 @@ fn tell_end(rt: &HostRuntime, end: &Result<Outcome, RunFault>) -> u8 {
         say(rt, message_of(fault));
     }
     status_of(end)
-}
-
-/// Judges frames, and tells how that ended.
-fn run_over(rt: &HostRuntime, names: FrameNames, asked: &Asked) -> u8 {
-    match names {
-        FrameNames::Given(named) => tell_end(rt, &frames(rt, named, asked)),
-        FrameNames::Listed(input, end) => match List::open(rt, input, end) {
-            Ok(mut list) => {
-                let end = listed_frames(rt, &mut list, asked);
-                tell_end_until(rt, end, list.fault())
-            }
-            Err(fault) => tell_fault(rt, fault, Outcome::Accepted),
-        },
-        FrameNames::Records(files, length) => {
-            let mut records = Records::new(files, length);
-            let end = recorded_frames(rt, &mut records, asked);
-            tell_end_until(rt, end, records.fault())
-        }
-    }
 }
 
 /// Tells why there are no frames, or none any more behind frames that came to this, and answers the exit status.
@@ -556,11 +493,14 @@ fn run_task<'a>(rt: &HostRuntime, arguments: &Arguments<'a>) -> Result<u8, Usage
         Task::Make | Task::Places | Task::Diff => run_maker_task(rt, arguments)?,
         Task::Recipe => match arguments.printed(rt)? {
             Some((recipe, labels)) => run_print_of(rt, &recipe, labels),
-            None => run_recipe(rt, arguments.recipes(rt)?),
+            None => {
+                let (recipes, args) = arguments.recipes(rt)?;
+                run_recipe(rt, recipes, &args)
+            }
         },
         Task::Belongs => {
             let (names, asked) = arguments.belongs(rt)?;
-            run_belonging(rt, names, &asked)
+            run_over(rt, names, &asked)
         }
         Task::Rules => tell_text(rt, &rules(rt, arguments.rule()?)),
     })

@@ -1,52 +1,34 @@
 //! The runs of `recipe` and of `belongs`.
 
-ghost use Rattle.std.specs.Iterator.{IsFinite};
-
-use crate::command::{BelongsAsked, FrameNames, Named, RecipeArgs};
-use crate::input::{Source, is_no_memory};
-use crate::list::List;
+use crate::command::{BelongsAsked, Named, RecipeArgs};
+use crate::input::is_no_memory;
 use crate::output::Output;
-use crate::records::Records;
-use crate::{open, opened, tell_end, tell_end_until, tell_fault};
-use dvg_cmd::{Counted, CountedRead, Labels, NamedFrame, Outcome, RunFault, load_rom};
+use crate::over::{AskedOfFrames, opened};
+use crate::{open, tell_end};
+use dvg_cmd::{Counted, CountedRead, Labels, NamedReader, Outcome, RunFault, load_rom};
 use dvg_recipe_cmd::{
-    NamedRecipe, RecipeAsked, Recorded, WitnessEnd, load_recipe, run_belongs, run_print,
-    run_recipe_for_witness, run_recipes,
+    Recorded, WitnessEnd, load_recipe, run_belongs, run_print, run_recipe_for_witness, run_recipes,
 };
 use std::io;
 
-/// A recipe whose turn it is, opened.
-fn opened_recipe(rt: &HostRuntime, recipe: Named) -> NamedRecipe<Counted<Source>> {
-    let NamedFrame { name, reader } = opened(rt, recipe);
-    NamedRecipe { name, reader }
-}
-
 /// Judges recipes, and tells how that ended.
-pub fn run_recipe(rt: &HostRuntime, args: RecipeArgs) -> u8 {
-    tell_end(rt, &judge(rt, args))
+pub fn run_recipe(rt: &HostRuntime, recipes: Vec<Named>, args: &RecipeArgs) -> u8 {
+    tell_end(rt, &judge(rt, recipes, args))
 }
 
 /// Reads the ROM, and then judges recipe after recipe: each file is opened when the one before it is closed.
 #[inline(never)]
-fn judge(rt: &HostRuntime, args: RecipeArgs) -> Result<Outcome, RunFault> {
-    let RecipeArgs {
-        rom,
-        recipes,
-        asked,
-        labels,
-        detail,
-        output,
-    } = args;
-    let rom = load_rom(&mut Counted::new(open(rt, rom, RunFault::ReadRom)?))?;
-    match output {
-        Some(path) => judge_for_witness(rt, rom.as_slice(), &asked, labels, recipes, path),
+fn judge(rt: &HostRuntime, recipes: Vec<Named>, args: &RecipeArgs) -> Result<Outcome, RunFault> {
+    let rom = load_rom(&mut Counted::new(open(rt, args.rom, RunFault::ReadRom)?))?;
+    match args.output {
+        Some(path) => judge_for_witness(rt, rom.as_slice(), args, recipes, path),
         None => run_recipes(
             rt.alloc(),
             rom.as_slice(),
-            &asked,
-            labels,
-            detail,
-            recipes.into_iter().map(|recipe| opened_recipe(rt, recipe)),
+            &args.asked,
+            args.labels,
+            args.detail,
+            recipes.into_iter().map(|recipe| opened(rt, recipe)),
             &mut Counted::new(io::writer(rt)),
         ),
     }
@@ -57,8 +39,7 @@ fn judge(rt: &HostRuntime, args: RecipeArgs) -> Result<Outcome, RunFault> {
 fn judge_for_witness(
     rt: &HostRuntime,
     rom: &[u8],
-    asked: &RecipeAsked,
-    labels: Option<&Labels>,
+    args: &RecipeArgs,
     recipes: Vec<Named>,
     path: &str,
 ) -> Result<Outcome, RunFault> {
@@ -70,9 +51,9 @@ fn judge_for_witness(
     let judged = run_recipe_for_witness(
         rt.alloc(),
         rom,
-        asked,
-        labels,
-        opened_recipe(rt, recipe),
+        &args.asked,
+        args.labels,
+        opened(rt, recipe),
         &mut Counted::new(io::writer(rt)),
         &mut Counted::new(output.file()),
     );
@@ -115,50 +96,23 @@ fn print(rt: &HostRuntime, recipe: &Named, labels: Option<&Labels>) -> Result<Ou
     )
 }
 
-/// Tells of frames whether they are a recipe's, and tells how that ended.
-pub fn run_belonging(rt: &HostRuntime, names: FrameNames, asked: &BelongsAsked) -> u8 {
-    match names {
-        FrameNames::Given(named) => {
-            let frames = named.into_iter().map(|frame| opened(rt, frame));
-            tell_end(rt, &belong(rt, asked, frames))
-        }
-        FrameNames::Listed(input, end) => match List::open(rt, input, end) {
-            Ok(mut list) => {
-                // No list has so many names.
-                let frames = (0..u64::MAX).map_while(|_| list.next_frame(rt));
-                let end = belong(rt, asked, frames);
-                tell_end_until(rt, end, list.fault())
-            }
-            Err(fault) => tell_fault(rt, fault, Outcome::Accepted),
-        },
-        FrameNames::Records(files, length) => {
-            let mut records = Records::new(files, length);
-            // No files have so many records.
-            let frames = (0..u64::MAX).map_while(|_| records.step(rt)).flatten();
-            let end = belong(rt, asked, frames);
-            tell_end_until(rt, end, records.fault())
-        }
+impl<'a> AskedOfFrames for BelongsAsked<'a> {
+    /// Reads the ROM and the recipe, and then tells of frame after frame whether it is the recipe's.
+    #[inline(never)]
+    fn run<R: CountedRead + Drop, I: Iterator<Item = NamedReader<R>> + Drop>(
+        &self,
+        rt: &HostRuntime,
+        frames: I,
+    ) -> Result<Outcome, RunFault> {
+        let rom = load_rom(&mut Counted::new(open(rt, self.rom, RunFault::ReadRom)?))?;
+        let file = open(rt, self.recipe, RunFault::ReadRecipe)?;
+        let recipe = load_recipe(rt.alloc(), &mut Counted::new(file), self.labels)?;
+        let given = Recorded {
+            rom: rom.as_slice(),
+            map: self.map,
+            recipe: &recipe,
+        };
+        let mut out = Counted::new(io::writer(rt));
+        run_belongs(rt.alloc(), &given, frames, self.listing, &mut out)
     }
-}
-
-/// Reads the ROM and the recipe, and then frame after frame.
-#[inline(never)]
-fn belong<R: CountedRead + Drop, I: Iterator<Item = NamedFrame<R>> + Drop>(
-    rt: &HostRuntime,
-    asked: &BelongsAsked,
-    frames: I,
-) -> Result<Outcome, RunFault>
-    requires can { I.can_next frames }
-    requires ends { IsFinite (I.remaining frames) }
-{
-    let rom = load_rom(&mut Counted::new(open(rt, asked.rom, RunFault::ReadRom)?))?;
-    let file = open(rt, asked.recipe, RunFault::ReadRecipe)?;
-    let recipe = load_recipe(rt.alloc(), &mut Counted::new(file), asked.labels)?;
-    let given = Recorded {
-        rom: rom.as_slice(),
-        map: asked.map,
-        recipe: &recipe,
-    };
-    let mut out = Counted::new(io::writer(rt));
-    run_belongs(rt.alloc(), &given, frames, asked.listing, &mut out)
 }

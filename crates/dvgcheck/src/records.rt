@@ -3,7 +3,7 @@
 use crate::command::Named;
 use crate::frames_fault::FramesFault;
 use crate::input::{Kept, Source, kept_frame};
-use dvg_cmd::{Counted, NamedFrame, Record, RecordLength, read_record, record_name};
+use dvg_cmd::{Counted, NamedReader, Record, RecordLength, read_record, record_name};
 use std::alloc::{AllocError, Global};
 use std::vec::IntoIter;
 
@@ -39,7 +39,7 @@ impl<'a> Records<'a> {
 
     /// One step further: opens the next file, or reads the next record; the frame with which it came, if there is one. `None` behind
     /// the last record, and where memory is out.
-    pub fn step(&mut self, rt: &HostRuntime) -> Option<Option<NamedFrame<Kept>>> {
+    pub fn step(&mut self, rt: &HostRuntime) -> Option<Option<NamedReader<Kept>>> {
         let stepped = match self.current.take() {
             Some(recording) => self.read(rt.alloc(), recording),
             None => {
@@ -66,7 +66,7 @@ impl<'a> Records<'a> {
         &mut self,
         rt: &HostRuntime,
         file: Named,
-    ) -> Result<Option<NamedFrame<Kept>>, AllocError> {
+    ) -> Result<Option<NamedReader<Kept>>, AllocError> {
         let Named { input, name } = file;
         let Ok(source) = input.open(rt) else {
             return Ok(Some(frame_of(rt.alloc(), name.as_str(), 1, None)?));
@@ -84,7 +84,7 @@ impl<'a> Records<'a> {
         &mut self,
         alloc: Global,
         recording: Recording,
-    ) -> Result<Option<NamedFrame<Kept>>, AllocError> {
+    ) -> Result<Option<NamedReader<Kept>>, AllocError> {
         let mut recording = recording;
         let number = recording.next;
         match read_record(alloc, &mut recording.source, self.length)? {
@@ -111,6 +111,6 @@ fn frame_of(
     file: &str,
     number: u64,
     bytes: Option<Vec<u8>>,
-) -> Result<NamedFrame<Kept>, AllocError> {
+) -> Result<NamedReader<Kept>, AllocError> {
     Ok(kept_frame(record_name(alloc, file, number)?, bytes))
 }

@@ -2,7 +2,7 @@
 
 use crate::command::Named;
 use crate::input::{Kept, kept_frame};
-use dvg_cmd::{Counted, FRAME_READ, NamedFrame, OwnCertificates, ShapeStarts, read_started};
+use dvg_cmd::{Counted, FRAME_READ, NamedReader, OwnCertificates, ShapeStarts, read_started};
 use std::alloc::{AllocError, Global};
 
 /// A frame that was read.
@@ -35,7 +35,7 @@ impl ReadFrame {
     }
 
     /// The frame, to be read from what is kept of it.
-    pub fn reopened(self) -> NamedFrame<Kept> {
+    pub fn reopened(self) -> NamedReader<Kept> {
         let ReadFrame { name, bytes } = self;
         kept_frame(name, bytes)
     }

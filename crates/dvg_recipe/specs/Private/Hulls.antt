@@ -1,7 +1,6 @@
 -- Hulls: all that may be known at a point of a recipe, at one scale each, and what the items of a piece may do to it.
 use Rattle.std.specs.Int.{int_min, int_max}
-use Rattle.std.proofs.Common.{Vec, Global}
-use Rattle.std.specs.Prelude.{◌≡◌, ℕ, zero, suc, pos, ◌*ℤ◌, true, false, None, Some, ◌+◌, ◌≤◌, ◌<◌, ◌≤ℤ◌, max, length, slice_index_or, List, [], ◌∷◌, Option, Contains, IsTrue, IfSome, unwrap_or}
+use Rattle.std.specs.Prelude.{◌≡◌, ℕ, zero, suc, pos, ◌*ℤ◌, true, false, None, Some, ◌+◌, ◌≤◌, ◌<◌, ◌≤ℤ◌, max, length, slice_index_or, List, Option, Contains, IsTrue, IfSome, unwrap_or}
 use Rattle.dvg_words.specs.Values.{Window, DrawFields}
 use Rattle.dvg_words.specs.declared.machine.Machine.TheVariants.{Board}
 use Rattle.dvg_words.specs.declared.beam.Point.{Point}

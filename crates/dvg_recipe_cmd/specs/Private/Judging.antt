@@ -2,15 +2,14 @@
 use Rattle.std.specs.Prelude.{◌≡◌, ◌≤◌, Ok, Err}
 use Rattle.dvg_words.specs.Memory.{Rom}
 use Rattle.dvg_clocks.specs.declared.frames.Timing.{Timing}
-use Rattle.dvg_recipe.specs.declared.timed.TimedRecipeYes.{TimedRecipeYes}
+use Rattle.dvg_clocks.specs.declared.judging.TimedYes.{TimedYes}
 use Rattle.dvg_recipe.specs.Recipes.{Recipe}
 use Rattle.dvg_recipe.specs.Lengths.{FitsAreas}
 use Rattle.dvg_recipe.specs.Means.{AllMean, AllTake}
 use Rattle.dvg_cmd.specs.declared.timed_judge.ClockOptions.{ClockOptions}
 use Rattle.dvg_cmd.specs.declared.timed_judge.LineClocks.TheVariants as line_clocks
-use Rattle.dvg_recipe_cmd.specs.Recipes.{told_yes}
-use Rattle.dvg_recipe_cmd.specs.declared.answer.RecipeAnswer.{RecipeAnswer}
-use Rattle.dvg_recipe_cmd.specs.declared.answer.RecipeAnswer.TheVariants as answer
+use Rattle.dvg_recipe_cmd.specs.Recipes.{RecipeAnswer, told_yes}
+use Rattle.dvg_spelling.specs.declared.outcome.Answer.TheVariants as answer
 use Rattle.dvg_recipe_cmd.specs.declared.judging.RecipeOptions.{RecipeOptions}
 use Rattle.dvg_recipe_cmd.specs.declared.answer.RecipeNo.{RecipeNo}
 use Rattle.dvg_recipe_cmd.specs.declared.answer.RecipeNo.TheVariants as no
@@ -26,7 +25,7 @@ IsOfFrames no.BudgetRange = ⊥
 IsOfFrames refusal = Unit {0}
 
 -- the yes and the clocks are about the recipe
-pub record IsTimedOf (rom : Rom) (recipe : Recipe) (options : RecipeOptions) (timing : Timing) (timed : TimedRecipeYes) : Type 0 where
+pub record IsTimedOf (rom : Rom) (recipe : Recipe) (options : RecipeOptions) (timing : Timing) (timed : TimedYes) : Type 0 where
   pub means : AllMean rom recipe options.window timed.yes.words timed.yes.depth
   pub fits : FitsAreas recipe
   pub take : AllTake timing.states rom recipe timed.clocks
@@ -41,10 +40,9 @@ wanted_detail (wanted.Account labels) = detail.Account labels
 -- what is said of a recipe with its clocks, over the image of a ROM
 abbrev pub IsTimedRead : Rom → Recipe → RecipeOptions → ClockOptions → RecipeAnswer → Type 0
 IsTimedRead rom recipe options clocks (answer.Judged (Ok counts)) =
-    (timed : TimedRecipeYes) × (answer.Judged (Ok counts) ≡ told_yes clocks.line timed) × IsTimedOf rom recipe options clocks.timing timed
+    (timed : TimedYes) × (answer.Judged (Ok counts) ≡ told_yes clocks.line timed) × IsTimedOf rom recipe options clocks.timing timed
 IsTimedRead rom recipe options clocks (answer.Judged (Err refusal)) = IsOfFrames refusal
 IsTimedRead rom recipe options clocks (answer.Timed timed) =
     (clocks.line ≡ line_clocks.Told) × IsTimedOf rom recipe options clocks.timing timed
 IsTimedRead rom recipe options clocks (answer.Slow at) = Unit {0}
-IsTimedRead rom recipe options clocks answer.NoMemory = ⊥
 IsTimedRead rom recipe options clocks answer.Unread = ⊥

@@ -12,10 +12,9 @@ ghost use Rattle.dvg_cert.specs.declared.limits.TheConstants.{MOST_WORDS};
 use crate::expecting::{expect, expect_same};
 use crate::inputs::rom_of;
 use dvg_cert::MOST_WORDS;
+use dvg_check::Yes;
 use dvg_cmd::window_of;
-use dvg_recipe::{
-    Recipe, RecipeRefusal, RecipeYes, find_deepest, find_longest, find_refused, judge_recipe,
-};
+use dvg_recipe::{Recipe, RecipeRefusal, find_deepest, find_longest, find_refused, judge_recipe};
 use dvg_recipe_text::{ReadRecipe, read_recipe};
 use dvg_words::{ASTEROIDS, Machine, RomImage, SCREEN, Window};
 use std::alloc::{AllocError, Global};
@@ -82,10 +81,10 @@ pub fn read_lines(rt: &impl Abort, alloc: Global, lines: &str) -> ReadRecipe {
 }
 
 /// What an answer tells, in words.
-fn told(alloc: Global, answer: &Result<RecipeYes, RecipeRefusal>) -> Result<String, AllocError> {
+fn told(alloc: Global, answer: &Result<Yes, RecipeRefusal>) -> Result<String, AllocError> {
     match answer {
         Ok(
-            RecipeYes {
+            Yes {
                 shapes,
                 words,
                 depth,
@@ -120,7 +119,7 @@ fn shows(
     recipe: &Recipe,
     budget: u32,
     window: Window,
-    answer: &Result<RecipeYes, RecipeRefusal>,
+    answer: &Result<Yes, RecipeRefusal>,
 ) -> Result<bool, AllocError>
     requires budget { budget ≤ MOST_WORDS }
     requires board { rom.now.machine ≡ Board }

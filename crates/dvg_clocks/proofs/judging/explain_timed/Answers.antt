@@ -1,4 +1,4 @@
-use Rattle.dvg_clocks.proofs.Common.{◌≡◌, ◌∙◌, ap, subst}
+use Rattle.dvg_clocks.proofs.Common.{◌∙◌, ap, subst}
 use Rattle.std.specs.Prelude.{Err, IfOk, Ok, Result}
 use Rattle.dvg_make.specs.Frames.{FrameMade}
 use Rattle.dvg_make.specs.declared.account.MakeAccount.{MakeAccount}

@@ -7,6 +7,6 @@ pub returns-in-Ok : goal.returns-in-Ok
 returns-in-Ok c =
     let said = c.in-Ok.ensures in
     let options = c.args.explained.now.options in
-    subst (IsTimedRead c.args.image.now c.args.read.now.recipe options c.args.clocks.now) (sym c.told_yes.ensures)
+    subst (IsTimedRead c.args.image.now c.args.read.now.recipe options c.args.clocks.now) (sym c.answer.ensures)
     (told_read c.args.image.now c.args.read.now.recipe options c.args.clocks.now c.in-Ok.timed c.args.clocks.now.line refl
     (record { means = said.means; fits = said.fits; take = said.take; within = said.within }))

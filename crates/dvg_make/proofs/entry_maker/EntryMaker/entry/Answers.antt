@@ -1,4 +1,4 @@
-use Rattle.dvg_make.proofs.Common.{sym, subst, ◌∙◌, BarsEntry}
+use Rattle.dvg_make.proofs.Common.{sym, subst, BarsEntry}
 use Rattle.dvg_make.specs.EntryMaker.{MadeSoFar}
 use Rattle.dvg_make.proofs.Framing.{done_made, bars_entry}
 use Rattle.dvg_make.proofs.entry_maker.EntryMaker.entry.Goals as goal

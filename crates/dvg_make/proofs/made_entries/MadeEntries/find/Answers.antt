@@ -1,4 +1,3 @@
-use Rattle.std.specs.Prelude.{IfSome}
 use Rattle.dvg_make.proofs.Common.{arith, lookup_is, pair_test, pair_eq, keyed_claim}
 use Rattle.dvg_make.proofs.made_entries.MadeEntries.find.Goals as goal
 
