@@ -17,7 +17,7 @@ pub use Rattle.dvg_clocks.specs.Laws.{WordsAreTaken, IsTight, TightForecast, Clo
 pub use Rattle.dvg_clocks.specs.Sums.{item_in, items_on, items_past, items_from, sum_to, frame_sum, AreGood, IsAcceptedFrame, IsFirstOver}
 pub use Rattle.dvg_clocks.specs.Kept.{WORD_CLOCKS}
 unfoldable pub use Rattle.dvg_clocks.specs.Sums.{sum_of}
-pub use Rattle.dvg_clocks.specs.Private.Taking.{taken_at, taken_by, Took, TookBack, Takes, IsRight, ForecastsAreRight, AllTake, FrameTakes, CircuitTakes, frame_taken, FewTaken, IsFew, FewClocks, SumsAreSums}
+pub use Rattle.dvg_clocks.specs.Private.Taking.{taken_at, taken_by, Took, TookBack, Takes, IsRight, ForecastsAreRight, AllTake, CircuitTakes, frame_taken}
 pub use Rattle.dvg_clocks.specs.Sums.{IsSumOfItems}
 pub use Rattle.dvg_clocks.specs.Private.Walking.{ScaleCursor, context_at, cursor_past, AreFew, IsWalkable, IsWhole, IsTaken, IsOver}
 pub use Rattle.dvg_clocks.specs.Kept.{Kept, found_at, clocks_in, IsKeptToo, IsFewFor, AreAllFew, IsToldOf, AreTold}

@@ -1,12 +1,10 @@
 -- What is said of entries: that it is little for each word, and that words are said so, too.
-use Rattle.dvg_clocks.proofs.Common.{◌≡◌, ℕ, ◌+◌, ◌≤◌, ◌<◌, zero, suc, List, [], ◌∷◌, length, length-append, Option, None, Some, refl, sym, ◌∙◌, ap, arith, Contains, Rom, rom_word, cell_at, Holds, Format, Instr, Draws, word_count, Entry, Key, At, Any, Item, Shape, LeadsTo, next_address, Context, shape_context, target, callee, scale_before, words_before, named_listed, word_count-some, callee_words, Window, Mode, Good, Forecast, ClockRange, plus, just, callee_taken, taken_before, IsSumOfItems, words_known, words_of_instr, taken_after, taken_next, States, states_of, clocks_known, counts_known, FewTaken, IsFew, FewClocks, WordsAreTaken, TightForecast, effective_scale}
-use Rattle.std.specs.Prelude.{◌*◌, ◌-◌}
-use Rattle.std.proofs.Math.Nat.{mul-add, mul-le-mul_left}
+use Rattle.dvg_clocks.proofs.Common.{◌≡◌, ℕ, ◌+◌, ◌≤◌, ◌<◌, zero, suc, List, [], ◌∷◌, length, length-append, Option, None, Some, refl, sym, ◌∙◌, ap, arith, Contains, Rom, rom_word, cell_at, Holds, word_count, Entry, Item, Shape, LeadsTo, next_address, Context, shape_context, target, callee, scale_before, words_before, named_listed, word_count-some, callee_words, Window, Mode, Good, Forecast, ClockRange, plus, just, callee_taken, taken_before, IsSumOfItems, words_known, words_of_instr, taken_after, taken_next, WordsAreTaken, TightForecast, effective_scale}
+use Rattle.std.specs.Prelude.{◌-◌}
 use Rattle.dvg_check.specs.declared.fault.Mode.TheVariants.{Exact}
 use Rattle.dvg_check.specs.declared.fault.ShapeWhy.TheVariants as shape
 use Rattle.dvg_circuit.specs.Counters.{counts}
 use Rattle.dvg_circuit.specs.Circuit.{Reads, Run, step, places, run_after, begin}
-use Rattle.dvg_clocks.proofs.Forecasts.{few_counts}
 use Rattle.dvg_clocks.proofs.ShapeRuns.{rule, find_last}
 
 -- what is said alike of all called entries is the same for the items
@@ -57,66 +55,6 @@ module _ (mode : Mode) (w : Window) (rom : Rom) (list : List Entry) (good : Good
         few =
             rule mode rom w list e (good e listed) items i lead is shape.TooManyWords;
       }
-
--- ---- few for each word
-
-module _ (forecast : Forecast) (each : ℕ) (few : IsFew forecast each) (by_entry : Entry → ClockRange) where
-  few_items : (c : Context) (items : List Item)
-      → ((f : Entry) → Contains c.list f → f.words < words_before c items → (by_entry f).most ≤ each * f.words)
-      → (taken_before forecast by_entry c items).most ≤ each * words_before c items
-  few_items c [] h = omega arith
-  few_items c (i ∷ earlier) h =
-      let rest = few_items c earlier (λ f l lt. h f l (omega (arith, lt))) in
-      let here = called (callee c earlier i.instr) refl in
-      let one = few i.format i.instr (scale_before c earlier) in
-      omega (
-        arith,
-        rest,
-        here,
-        one,
-        mul-add each (word_count i.format + callee_words (callee c earlier i.instr)) (words_before c earlier),
-        mul-add each (word_count i.format) (callee_words (callee c earlier i.instr)),
-      )
-    where
-      called : (o : Option Entry) → callee c earlier i.instr ≡ o → (callee_taken by_entry o).most ≤ each * callee_words o
-      called None is = omega arith
-      called (Some f) is =
-          h f (named_listed c.list (target c.kind i.instr) (scale_before c earlier) f is)
-          (omega (arith, ap callee_words is, word_count-some i.format))
-
-few_taken : (forecast : Forecast) (each : ℕ) → IsFew forecast each → FewTaken forecast each
-few_taken forecast each few =
-    record {
-      entries = entries;
-      items = λ by_entry c h items. few_items forecast each few by_entry c items (λ f l lt. h f l);
-    }
-  where
-    entries : (by_entry : Entry → ClockRange) (mode : Mode) (w : Window) (rom : Rom) (list : List Entry) → Good mode w rom list
-        → IsSumOfItems forecast rom list by_entry → (e : Entry) → Contains list e → (by_entry e).most ≤ each * e.words
-    entries by_entry mode w rom list good sums e listed =
-        up_to (λ f. (by_entry f).most ≤ each * f.words) list next e.words e listed (omega arith) where
-          next : (f : Entry) → Contains list f → ((g : Entry) → Contains list g → g.words < f.words → (by_entry g).most ≤ each * g.words)
-              → (by_entry f).most ≤ each * f.words
-          next f there smaller =
-              let k = walk mode w rom list good f there in
-              let all = few_items forecast each few by_entry (shape_context rom.machine list f) (k.i ∷ k.items)
-              (λ g l lt. smaller g l (omega (arith, lt, k.few))) in
-              omega (arith, all, ap (λ (r : ClockRange). r.most) (sums f there k.items k.i k.lead k.is k.last), mul-le-mul_left each k.few)
-
-few_for_word : (t : States) (most : ℕ) → ((format : Format) (i : Instr) → states_of t format i ≤ most)
-    → IsFew (clocks_known t) (1024 + most)
-few_for_word t most h format i key =
-    let c = few_known i key in
-    omega (arith, c, h format i, mul-le-mul_left (1024 + most) (word_count-some format), word_count-some format)
-  where
-    few_known : (i : Instr) (key : Key) → (counts_known i key).most ≤ 1024
-    few_known (Draws d) Any = omega arith
-    few_known (Draws d) (At scale) = few_counts (effective_scale d.lscale scale)
-    few_known i Any = grind (arith)
-    few_known i (At scale) = grind (arith)
-
-pub few_clocks : FewClocks
-few_clocks t most h = few_taken (clocks_known t) (1024 + most) (few_for_word t most h)
 
 -- ---- words
 

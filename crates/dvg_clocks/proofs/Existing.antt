@@ -1,5 +1,5 @@
 -- The sums are those of the items.
-use Rattle.dvg_clocks.proofs.Common.{◌≡◌, ℕ, ◌<◌, zero, suc, List, [], ◌∷◌, length, refl, sym, ◌∙◌, ap, subst, arith, Contains, Rom, rom_word, frame_word, Halt, Item, Shape, Frame, shape_context, frame_context, word_count-some, Entry, Window, Mode, Good, GoodFrame, Memory, Forecast, taken_before, frame_taken, IsSumOfItems, SumsAreSums, ClocksOnCircuit, items_from, sum_to, sum_of, frame_sum, TakenOnCircuit, clocks_of_instr, clocks_known}
+use Rattle.dvg_clocks.proofs.Common.{◌≡◌, ℕ, ◌<◌, zero, suc, List, [], ◌∷◌, length, refl, sym, ◌∙◌, ap, subst, arith, Contains, Rom, rom_word, frame_word, Halt, Item, Shape, Frame, shape_context, frame_context, word_count-some, Entry, Window, Mode, Good, GoodFrame, Memory, Forecast, taken_before, frame_taken, IsSumOfItems, ClocksOnCircuit, items_from, sum_to, sum_of, frame_sum, TakenOnCircuit, clocks_of_instr, clocks_known}
 use Rattle.dvg_clocks.proofs.Entries.{same_taken, up_to, Walk, walk}
 use Rattle.dvg_clocks.proofs.Walks.{few_items, same_walk, all_items}
 use Rattle.dvg_clocks.proofs.CircuitRuns.{circuit_takes}
@@ -55,9 +55,6 @@ frames_sum forecast m w list budget words depth gf =
     ap (taken_before forecast (sum_of forecast m.rom list) c)
     (all_items Frame (frame_word m.rom.machine m.frame) 0 gf.items i (record { lead = gf.leads; is = gf.halts; last = refl }) words
     some)
-
-pub sums_are_sums : SumsAreSums
-sums_are_sums = record { entries = entries_sum; frames = frames_sum }
 
 pub clocks_on_circuit : ClocksOnCircuit
 clocks_on_circuit t mode m w v list budget words depth mem board three good gf =

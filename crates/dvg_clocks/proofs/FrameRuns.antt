@@ -1,5 +1,5 @@
 -- A frame from any start to its halt.
-use Rattle.dvg_clocks.proofs.Common.{◌≡◌, ℕ, ◌+◌, ◌≤◌, zero, suc, List, [], ◌∷◌, ◌++◌, Option, Some, None, refl, sym, ◌∙◌, ap, subst, arith, Contains, Memory, State, Status, Running, Halted, Reached, start, IsMemory, frame_word, word_at, cell_at, next_status, places, Holds, Format, Instr, Halt, Point, origin, Entry, Item, Frame, LeadsTo, Context, frame_context, callee, scale_before, depth_before, depth_under, named_listed, Window, Machine, Mode, Good, GoodFrame, CellKeeps, FrameKeeps, FrameWhy, seen_at, Stands, Measure, Forecast, ClockRange, IsInRange, IsRight, plus, taken_before, frame_taken, taken_at, taken_by, Took, IsSumOfItems, FrameTakes}
+use Rattle.dvg_clocks.proofs.Common.{◌≡◌, ℕ, ◌+◌, ◌≤◌, zero, suc, List, [], ◌∷◌, ◌++◌, Option, Some, None, refl, sym, ◌∙◌, ap, subst, arith, Contains, Memory, State, Status, Running, Halted, Reached, start, IsMemory, frame_word, word_at, cell_at, next_status, places, Holds, Format, Instr, Halt, Point, origin, Entry, Item, Frame, LeadsTo, Context, frame_context, callee, scale_before, depth_before, depth_under, named_listed, Window, Machine, Mode, Good, GoodFrame, CellKeeps, FrameKeeps, FrameWhy, seen_at, Stands, Measure, Forecast, ClockRange, IsInRange, IsRight, plus, taken_before, frame_taken, taken_at, taken_by, Took, IsSumOfItems}
 use Rattle.dvg_check.specs.declared.fault.FrameWhy.TheVariants as frame
 use Rattle.dvg_check.proofs.Runs.{reached_on, rest_of}
 use Rattle.dvg_check.proofs.Steps.{next_there, stands}
@@ -89,9 +89,3 @@ same_length m n k a h g r q = let rest = rest_of m n k a (Halted h) g r q in end
   ends : (j : ℕ) → n + j ≡ k → Reached m j (Halted h) (Halted g) → n ≡ k
   ends zero e r = omega (arith, e)
   ends (suc j) e r = absurd r.1
-
-pub frame_takes : FrameTakes
-frame_takes measure forecast by_entry mode m w v list budget words depth right mem three good sums gf place scale steps h reached =
-    let r = run measure forecast right by_entry mode m w v list budget words depth mem three good sums gf place scale in
-    let same = same_length m r.n steps (Running (start place scale)) r.h h r.reached reached in
-    subst (λ k. IsInRange (frame_taken forecast by_entry gf) (taken_by measure m k (Running (start place scale)))) same r.took

@@ -1,5 +1,5 @@
 -- What the loop over items keeps, and what follows where it stops.
-use Rattle.dvg_clocks.proofs.Common.{◌≡◌, ℕ, ◌+◌, ◌*◌, ◌≤◌, ◌<◌, List, [], ◌∷◌, Option, Some, None, refl, sym, ◌∙◌, ap, subst, arith, Contains, Entry, Key, Any, Rom, rom_word, Shape, Item, LeadsTo, next_address, shape_context, words_before, scale_before, Context, target, callee, callee_words, word_count, word_count-some, named_listed, Cell, Holds, Format, Instr, cell_at, ClockRange, States, plus, just, callee_taken, taken_before, clocks_known, sum_of, ShapeKeeps, seen_at, AreGood, WORD_CLOCKS, frame_sum, frame_context, frame_word, Frame, Halt, FrameKeeps, FrameWhy, CellKeeps, GoodFrame, Window, Memory, IsMemory, Board, IsAcceptedFrame, TakenOnCircuit, clocks_of_instr, ScaleCursor, Kept, AreTold, AreAllFew, IsFewFor, clocks_in, context_at, cursor_past, AreFew, IsWalkable, IsWhole, IsTaken, IsOver, IsFirstOver}
+use Rattle.dvg_clocks.proofs.Common.{◌≡◌, ℕ, ◌+◌, ◌*◌, ◌≤◌, ◌<◌, List, [], ◌∷◌, Option, Some, None, refl, sym, ◌∙◌, ap, subst, arith, Contains, Entry, Key, Any, Rom, rom_word, Item, LeadsTo, next_address, shape_context, words_before, scale_before, Context, target, callee, callee_words, word_count, word_count-some, named_listed, Cell, Holds, Format, Instr, cell_at, ClockRange, States, plus, just, callee_taken, taken_before, clocks_known, sum_of, ShapeKeeps, seen_at, AreGood, WORD_CLOCKS, frame_sum, frame_context, frame_word, Frame, Halt, FrameKeeps, FrameWhy, CellKeeps, GoodFrame, Window, Memory, IsMemory, Board, IsAcceptedFrame, TakenOnCircuit, clocks_of_instr, ScaleCursor, Kept, AreTold, AreAllFew, IsFewFor, clocks_in, context_at, cursor_past, AreFew, IsWalkable, IsWhole, IsTaken, IsOver, IsFirstOver}
 use Rattle.std.proofs.Math.Nat.{mul-add, mul-le-mul_left}
 use Rattle.std.specs.Prelude.{IfSome, IfOk, IfErr, Result, Ok, Err, unwrap_or}
 use Rattle.dvg_words.specs.Values.{Source}
@@ -12,7 +12,7 @@ use Rattle.dvg_items.specs.Known.{callee_at}
 use Rattle.dvg_clocks.proofs.Entries.{same_taken}
 use Rattle.dvg_clocks.proofs.Walks.{same_walk}
 use Rattle.dvg_clocks.proofs.ShapeRuns.{rule, holds}
-use Rattle.dvg_clocks.proofs.Existing.{entries_sum, frames_sum, clocks_on_circuit}
+use Rattle.dvg_clocks.proofs.Existing.{frames_sum, clocks_on_circuit}
 
 -- little is kept of what is called
 pub few_of : (kept : Kept) (list : List Entry) → AreAllFew kept list → (to : Option ℕ) (scale : Key) (o : Option Entry)
@@ -149,12 +149,6 @@ module _ (rom : Rom) (list : List Entry) (all : AreGood rom list) (e : Entry) (l
             (cell_at (rom_word rom) p) (all.good e listed earlier p lead shape.Unmapped) (all.good e listed earlier p lead shape.Odd);
         few = λ earlier i lead is. rule all.mode rom all.window list e (all.good e listed) earlier i lead is shape.TooManyWords;
       }
-
-  pub shape_sum : (t : States) (items : List Item) (j : Item) → IsWhole Shape (rom_word rom) e.addr items j
-      → taken_before (clocks_known t) (sum_of (clocks_known t) rom list) (shape_context rom.machine list e) (j ∷ items)
-      ≡ sum_of (clocks_known t) rom list e
-  shape_sum t items j whole =
-      sym (entries_sum (clocks_known t) all.mode all.window rom list all.good e listed items j whole.lead whole.is whole.last)
 
 -- ---- frames
 

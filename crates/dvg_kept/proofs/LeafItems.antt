@@ -1,13 +1,12 @@
 -- Items that call nothing.
-use Rattle.std.specs.Prelude.{◌≡◌, ℕ, List, [], ◌∷◌, Option, Some, None, Bool, true, false, is_some, slice_set, refl}
+use Rattle.std.specs.Prelude.{◌≡◌, ℕ, List, [], ◌∷◌, Option, Some, None, false, is_some, refl}
 use Rattle.dvg_words.specs.Memory.{Rom, rom_word}
 use Rattle.dvg_words.specs.declared.instruction.Format.{Format}
 use Rattle.dvg_words.specs.declared.instruction.Instr.{Instr}
 use Rattle.dvg_items.proofs.Leading.{everywhere}
-use Rattle.dvg_make.proofs.Common.{arith, sym, subst, ◌∙◌, ⊎_elim, Entry, Item, Shape, LeadsTo, Holds, cell_at, target, next_address, AtEachOf}
-use Rattle.dvg_kept.specs.Private.Leaves.{AreLeaves, IsLeaf}
+use Rattle.dvg_make.proofs.Common.{arith, sym, subst, ◌∙◌, Entry, Item, Shape, LeadsTo, Holds, cell_at, target, next_address, AtEachOf}
+use Rattle.dvg_kept.specs.Private.Leaves.{IsLeaf}
 use Rattle.dvg_kept.specs.Private.Marks.{AllAskedMarked, Marks, shape_start}
-use Rattle.dvg_kept.proofs.Marking.{set_others}
 
 module _ (rom : Rom) (addr : ℕ) where
   abbrev NoneAt : List Item → ℕ → Type 0
@@ -40,11 +39,6 @@ module _ (rom : Rom) (addr : ℕ) where
 pub leaf_asked : (rom : Rom) (list : List Entry) (e : Entry) (m : Marks) → IsLeaf rom e.addr
     → AllAskedMarked (rom_word rom) list (shape_start e) m
 leaf_asked rom list e m leaf to scale a = let no : Some to ≡ None = sym a.target_is ∙ leaf a.earlier a.item a.leads a.stands in absurd (cc)
-
-pub one_leaf : (rom : Rom) (leaves : List Bool) (addr : ℕ) → AreLeaves rom leaves → IsLeaf rom addr
-    → AreLeaves rom (slice_set leaves addr true)
-one_leaf rom leaves addr are leaf at h =
-    ⊎_elim (λ old. are at old) (λ same. subst (λ x. IsLeaf rom x) (sym same) leaf) (set_others leaves addr at h)
 
 pub none_of : {A : Type 0} (o : Option A) → is_some o ≡ false → o ≡ None
 none_of None h = refl

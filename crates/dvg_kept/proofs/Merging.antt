@@ -1,7 +1,7 @@
 -- What is merged so far.
 use Rattle.std.specs.Prelude.{◌≡◌, ℕ, suc, ◌+◌, ◌<◌, ◌≤◌, List, [], ◌∷◌, ◌++◌, length, Option, Some, None, take, get_or, Bool, true, false, is_some, not, refl}
 use Rattle.std.specs.Option.{option_or}
-use Rattle.dvg_make.proofs.Common.{arith, sym, ap, subst, ◌∙◌, Entry, Key, entry_at, is_at, at_means, take-suc, take_all, length-append}
+use Rattle.dvg_make.proofs.Common.{arith, sym, ap, subst, ◌∙◌, Entry, Key, entry_at, is_at, at_means, take-suc, length-append}
 use Rattle.dvg_make.proofs.Matching.{entry_at-append}
 
 -- the first entries of the second list are merged with the first list
@@ -68,10 +68,3 @@ module _ (first second : List Entry) (n : ℕ) (merged : List Entry) (added : Ad
 pub some_of : {A : Type 0} (o : Option A) (b : Bool) → is_some o ≡ not b → b ≡ false → (x : A) × (o ≡ Some x)
 some_of (Some x) b h f = (x, refl)
 some_of None b h f = absurd (let g : false ≡ true = h ∙ ap not f in cc g)
-
--- all of them
-pub all_added : (first second merged : List Entry) → Added first second (length second) merged → (addr : ℕ) (key : Key)
-    → entry_at merged addr key ≡ option_or (entry_at first addr key) (entry_at second addr key)
-all_added first second merged added addr key =
-    added.found addr key ∙ ap (λ (l : List Entry). option_or (entry_at first addr key) (entry_at l addr key))
-    (let all : take (length second) second ≡ second = grind (arith, take_all) in all)

@@ -11,7 +11,6 @@ use Rattle.dvg_cert.specs.declared.entry.End.TheVariants.{Lost as LostEnd}
 use Rattle.dvg_words.specs.Values.{DrawFits}
 use Rattle.dvg_words.specs.Decoding.{InstrFits}
 use Rattle.dvg_items.specs.Seen.{HasCallee}
-use Rattle.dvg_items.proofs.Leading.{item_same}
 use Rattle.dvg_cert.specs.Entry.{IsKey, IsEnd, IsBox, IsNumber, IsClaim}
 use Rattle.dvg_items.specs.Bounds.{IsNear}
 use Rattle.dvg_recipe.specs.Limits.{PieceFits, ToFits, SizesFit, IsSvecSize, IsSpanBetween, LscaleFits, DrawRangeFits}
@@ -21,7 +20,7 @@ use Rattle.dvg_cert.specs.Lookup.{same_key}
 use Rattle.dvg_items.specs.Lit.{draw_extent, box_extent}
 use Rattle.dvg_recipe.specs.Recipes.{PlaceRange, PlaceSpan, IsEndIn, DrawRange, Span as Range, TakesPlace, TakesDraw, Place, Draw, IsInSpan}
 use Rattle.dvg_recipe.specs.Private.Judging.{IsTaken, IsJump}
-use Rattle.dvg_recipe.specs.Private.Hulls.{Rectangle, Change, Shown, IsInRectangle, IsMotion, IsLight, IsChange, HasFormat, IsNearRectangle, IsNearMotion, IsNearLight, IsNearInto, IsSoundChange, AreSoundChanges, IsInto, IsAmong, Within, span_places, into_of, Act, DrawsAct, PlaceAct, CallAct, StillAct, act_change, IsAct, at_point, places_of, place_change, still, stop_motion, box_light, call_change, moves, draw_light, draw_change, IsDrawBetween}
+use Rattle.dvg_recipe.specs.Private.Hulls.{Rectangle, Change, Shown, IsInRectangle, IsMotion, IsLight, IsChange, HasFormat, IsNearRectangle, IsNearMotion, IsNearLight, IsNearInto, IsSoundChange, AreSoundChanges, IsInto, IsAmong, Within, span_places, into_of, DrawsAct, IsAct, at_point, places_of, place_change, still, stop_motion, box_light, call_change, moves, draw_light, draw_change, IsDrawBetween}
 
 -- ---- moves grow with sizes
 
@@ -246,10 +245,6 @@ places_near r fits = (
   },
 )
 
-pub place_sound : (places : Rectangle) (scale : ℕ) → IsNearRectangle 1 places → scale ≤ 15 → IsSoundChange (place_change places scale)
-place_sound places scale near le =
-    record { motion = near; light = tt; into = tt; scale = le; some = omega arith; few = omega arith; depth = omega arith }
-
 number_near : (x y : ℤ) → IsNumber x → IsNumber y → IsNear 1 (record { x = x; y = y })
 number_near x y h k =
     record {
@@ -305,86 +300,6 @@ draw_into : (format : Format) (low high : DrawFields) (into : Option Rectangle) 
     → IsInto into known i → IsInto (draw_change format low high into scale).into known i
 draw_into format low high into (At g) known i h = h
 draw_into format low high into Any known i h = h
-
--- an item that says what another says does the same
-holds_act : (list : List Entry) (act : Act) (format : Format) (instr : Instr)
-    → ((scale : Key) (at : ℕ) → HasFormat format instr
-    → IsChange (callee_at list (target Frame instr) scale) scale (act_change list act scale)
-    (record { at = at; format = format; instr = instr }))
-    → (known : Known) (i : Item) → ((scale : Key) → IsInto (act_change list act scale).into known i)
-    → Holds format instr ≡ Holds i.format i.instr → IsAct list act known i
-holds_act list act format instr does known i into same =
-    record {
-      each = subst (λ (j : Item). (scale : Key) → HasFormat j.format j.instr
-          → IsChange (callee_at list (target Frame j.instr) scale) scale (act_change list act scale) j)
-          (item_same (record { at = i.at; format = format; instr = instr }) i refl same) (λ scale has. does scale i.at has);
-      into = into;
-    }
-
-module _ (list : List Entry) (format : Format) (known : Known) (i : Item) where
-  -- a draw does what draws between itself and itself do
-  pub draw_alone : (d : DrawFields) → Holds format (Draws d) ≡ Holds i.format i.instr → IsAct list (DrawsAct format d d None) known i
-  draw_alone d same = holds_act list (DrawsAct format d d None) format (Draws d)
-      (λ scale at has. draw_is d d d None scale at format
-      (record {
-        lscale_low = refl;
-        lscale_high = refl;
-        dx_low = omega (arith, ints);
-        dx_high = omega (arith, ints);
-        dy_low =
-            omega (arith, ints);
-        dy_high = omega (arith, ints);
-        bright = omega arith;
-      })) known i
-      (λ scale. draw_into format d d None scale known i tt) same
-
-  pub labs_alone : (x y s : ℕ) → Holds format (Labs x y s) ≡ Holds i.format i.instr
-      → IsAct list (PlaceAct (at_point (labs_place Board x y)) s) known i
-  labs_alone x y s same = holds_act list (PlaceAct (at_point (labs_place Board x y)) s) format (Labs x y s)
-      (λ scale at long. record {
-        motion = at_itself (labs_place Board x y);
-        light = tt;
-        scale_after = refl;
-        words = grind (arith, long);
-        depth = omega arith;
-        named_one = λ t. tt;
-        keyed = λ t. tt;
-      }) known i (λ scale. tt) same
-
-  pub jsrl_alone : (to : ℕ) → Holds format (Jsrl to) ≡ Holds i.format i.instr → IsAct list (CallAct to) known i
-  jsrl_alone to same =
-      holds_act list (CallAct to) format (Jsrl to) (λ scale at short. call_is (callee_at list (Some to) scale) to scale at format short)
-      known i (λ scale. call_into (callee_at list (Some to) scale) scale known i) same
-
-  pub jmpl_alone : (to : ℕ) → Holds format (Jmpl to) ≡ Holds i.format i.instr → IsAct list StillAct known i
-  jmpl_alone to same =
-      holds_act list StillAct format (Jmpl to) (λ scale at short. still_is to scale at format short) known i (λ scale. tt) same
-
-  pub halt_alone : Holds format Halt ≡ Holds i.format i.instr → IsAct list StillAct known i
-  halt_alone same = holds_act list StillAct format Halt
-      (λ scale at short. record {
-        motion = at_itself origin;
-        light = tt;
-        scale_after = refl;
-        words = grind (arith, short);
-        depth =
-            omega arith;
-        named_one = λ t. tt;
-        keyed = λ t. tt;
-      }) known i (λ scale. tt) same
-
-  pub rtsl_alone : Holds format Rtsl ≡ Holds i.format i.instr → IsAct list StillAct known i
-  rtsl_alone same = holds_act list StillAct format Rtsl
-      (λ scale at short. record {
-        motion = at_itself origin;
-        light = tt;
-        scale_after = refl;
-        words = grind (arith, short);
-        depth =
-            omega arith;
-        named_one = λ t. tt;
-        keyed = λ t. tt;
-      }) known i (λ scale. tt) same
 
 -- ---- the draws of a range
 

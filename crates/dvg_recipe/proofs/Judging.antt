@@ -166,13 +166,6 @@ module _ (w : Window) (list : List Entry) (budget : ℕ) where
   carries_under R xs ys zs u h =
       record { each = λ rom made words before after r f good. good_under ys zs words after u (h.each rom made words before after r f good) }
 
-  pub carries_from : (R : Adds) (xs ys zs : List Hull) → AreUnder xs ys → Carries w list budget R ys zs → Carries w list budget R xs zs
-  carries_from R xs ys zs u h =
-      record {
-        each = λ rom made words before after r f good. h.each rom made words before after r f
-            (good_under xs ys words before u good);
-      }
-
   pub carries_either : (R S : Adds) (xs ys zs : List Hull) → Carries w list budget R xs zs → Carries w list budget S xs zs
       → Carries w list budget (λ rom before after. R rom before after ⊎ S rom before after) xs zs
   carries_either R S xs ys zs h k =
@@ -266,10 +259,6 @@ module _ (w : Window) (list : List Entry) (budget : ℕ) where
       subst (λ m. Carries w list budget (SpellsJumps (take m jumps)) xs all) (sym is)
       (subst (λ (l : List Jump). Carries w list budget (SpellsJumps l) xs all) (sym (take-suc jumps i d lt)) more)
 
-  pub carries_jumps_whole : (jumps : List Jump) (xs ys : List Hull) (i : ℕ) → length jumps ≤ i
-      → Carries w list budget (SpellsJumps (take i jumps)) xs ys → Carries w list budget (SpellsJumps jumps) xs ys
-  carries_jumps_whole jumps xs ys i le h = subst (λ (l : List Jump). Carries w list budget (SpellsJumps l) xs ys) (take_all i jumps le) h
-
   -- ---- turns
 
   module _ (R : Adds) where
@@ -278,9 +267,6 @@ module _ (w : Window) (list : List Entry) (budget : ℕ) where
     turn_next n m xs ys zs is e h k =
         subst (λ l. Carries w list budget (TimesOver l R) xs zs) (sym is)
         (carries_as (Both (TimesOver n R) R) (TimesOver (suc n) R) xs zs (times_last R n) (carries_both (TimesOver n R) R xs ys zs e h k))
-
-    pub turns_none : (least : ℕ) (xs ys : List Hull) → 0 < least → Carries w list budget (Turns least 0 R) xs ys
-    turns_none least xs ys lt = record { each = λ rom made words before after t f good. absurd (omega (arith, lt, t.1, t.2)) }
 
     none : (n : ℕ) (rom : Rom) (before after : List Item) → n ≤ 0 → Times n (R rom) before after → after ≡ before
     none zero rom before after le same = same
@@ -303,7 +289,3 @@ module _ (w : Window) (list : List Entry) (budget : ℕ) where
           (k.each rom made words before after (subst (λ l. Times l (R rom) before after) (omega (arith, same, t.2)) t.3) f good))
           (cases_lt t.0 m);
     }
-
-    pub turns_few : (least n m : ℕ) (xs next : List Hull) → m ≡ suc n → m < least → Carries w list budget (Turns least n R) xs next
-        → Carries w list budget (Turns least m R) xs next
-    turns_few least n m xs next is few h = record { each = λ rom made words before after t f good. absurd (omega (arith, few, t.1, t.2)) }

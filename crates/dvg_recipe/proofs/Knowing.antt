@@ -60,22 +60,6 @@ pub record IsKnownSoFar (rom : Rom) (items : List Item) (n : ℕ) (known : List 
   pub comes : ComesTo rom (reverse (take n items)) here
   pub sound : IsSoundCursor (record { at = n; known = here })
 
-pub known_first : (rom : Rom) (items : List Item) (known : List Known) (here : Known) → known ≡ here ∷ [] → ComesTo rom [] here
-    → IsSoundCursor (record { at = 0; known = here }) → IsKnownSoFar rom items 0 known here
-known_first rom items known here is comes sound = record {
-  count = ap (λ (l : List Known). length l) is;
-  to = record {
-    each = λ i d lt. subst (λ (l : List Known). ComesTo rom (reverse (take i items)) (get_or l i d)) (sym is)
-        (first i d (subst (λ (l : List Known). i < length l) is lt));
-  };
-  comes = comes;
-  sound = sound;
-}
-  where
-    first : (i : ℕ) (d : Known) → i < 1 → ComesTo rom (reverse (take i items)) (get_or (here ∷ []) i d)
-    first zero d lt = comes
-    first (suc i) d lt = absurd (omega (arith, lt))
-
 module _ (rom : Rom) (items : List Item) (n m : ℕ) (d : Item) (known more : List Known) (here next : Known) (is : m ≡ suc n)
     (lt : n < length items) (h : IsKnownSoFar rom items n known here) (grown : more ≡ known ++ next ∷ [])
     (past : (earlier : List Item) → ComesTo rom earlier here → ComesTo rom (get_or items n d ∷ earlier) next) where

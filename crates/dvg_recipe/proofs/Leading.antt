@@ -5,7 +5,7 @@ use Rattle.dvg_recipe.proofs.Common.{IfOk}
 use Rattle.dvg_recipe.specs.Private.KnownPlaces.{ItemsOver}
 use Rattle.dvg_recipe.specs.Recipes.{Area, Piece, Part, Jump, Recipe}
 use Rattle.dvg_recipe.specs.Private.Indices.{Leads, Both, IsPast, IsJoined, PieceLeads, RowLeads, PartLeads, JumpLeads, JumpsLead, ListStarts, SomeStarts, AreThose, RecipeLeads}
-use Rattle.dvg_recipe.proofs.Sets.{is_alone, alone, none_listed}
+use Rattle.dvg_recipe.proofs.Sets.{is_alone, alone}
 
 -- ---- sets
 
@@ -83,9 +83,6 @@ module _ (R : Leads) (here ys : List ℕ) (i n d : ℕ) (is : n ≡ suc i) (lt :
       subst (λ (l : List ℕ). IsPast R l more) (sym next_take)
       (subst (λ (l : List ℕ). IsPast R (take i here ++ get_or here i d ∷ []) l) (sym same)
       (past_skip R (take i here) ys h (get_or here i d) (λ j r. none j (subst (λ m. R m j) (sym at) r))))
-
-pub past_none : (R : Leads) → IsPast R [] []
-past_none R = record { each = λ j. (λ h. absurd (none_listed j h), λ h. absurd (none_listed h.0 h.1)) }
 
 -- ---- rows and jumps
 

@@ -16,7 +16,7 @@ use Rattle.dvg_items.specs.Seen.{HasCallee}
 use Rattle.dvg_make.specs.Made.{HasEntry}
 use Rattle.dvg_check.proofs.Common.{listed_at}
 use Rattle.dvg_recipe.proofs.Past.{keeps_others, inside_past, more_near_places}
-use Rattle.dvg_recipe.proofs.Sounds.{listed_alone, next_listed, none_covered}
+use Rattle.dvg_recipe.proofs.Sounds.{listed_alone, next_listed}
 
 pub near_most : (h : Hull) → IsSoundHull h → AreNearPlaces MOST_WORDS h.places
 near_most h sound = more_near_places h.words MOST_WORDS h.places sound.words sound.places
@@ -80,9 +80,6 @@ module _ (w : Window) (list : List Entry) (budget : ℕ) (P : Known → Item →
         });
       }
 
-  pub lead_none : (here next : List Hull) → LeadOn w list budget P (take 0 here) next
-  lead_none here next = record { each = λ k i c p format. absurd (none_covered k c) }
-
   pub lead_next : (here : List Hull) (i n : ℕ) (d : Hull) (change : Change) (next more : List Hull) → n ≡ suc i → i < length here
       → d ≡ get_or here i d → LeadOn w list budget P (take i here) next → AreUnder next more
       → ((k : Known) (j : Item) → P k j → HasFormat j.format j.instr
@@ -107,10 +104,6 @@ module _ (w : Window) (list : List Entry) (budget : ℕ) (P : Known → Item →
 -- ---- items of fewer kinds, and of more
 
 module _ (w : Window) (list : List Entry) (budget : ℕ) (here next : List Hull) where
-  pub lead_fewer : (P Q : Known → Item → Type 0) → ((k : Known) (i : Item) → Q k i → P k i) → LeadOn w list budget P here next
-      → LeadOn w list budget Q here next
-  lead_fewer P Q within h = record { each = λ k i c q format. h.each k i c (within k i q) format }
-
   -- what leads on from a LABS at each scale of a range leads on from all of the range
   pub lead_places : (r : PlaceRange)
       → ((s : ℕ) → get_or r.scales s false ≡ true → LeadOn w list budget (IsAct list (PlaceAct (places_of r) s)) here next)

@@ -1,34 +1,15 @@
 -- What leads on over the parts, the jumps and the lists of a recipe.
-use Rattle.std.proofs.Common.{Box, Global, Vec, ◌-◌}
+use Rattle.std.proofs.Common.{◌-◌}
 use Rattle.dvg_recipe.proofs.Sounds.{next_listed}
 use Rattle.dvg_recipe.proofs.Common.{◌≡◌, ◌⊎◌, ◌≤◌, ◌<◌, ℕ, zero, suc, List, [], ◌∷◌, length, take, get_or, take-suc, take_all, refl, sym, subst, ⊎_elim, arith, Contains, Contains-append_cases}
 use Rattle.dvg_check.proofs.Common.{Window, Entry, Item, ◌≢◌}
-use Rattle.dvg_recipe.specs.Limits.{PartFits, RowFits, JumpsFit, MOST_LEVELS, MOST_NESTED}
-use Rattle.dvg_recipe.specs.Recipes.{Part, Row, Then', Either', Repeat', Piece, Jump, Area, AddsRow, AddsJump, Spells, SpellsJumps, Times, BeginsAt}
+use Rattle.dvg_recipe.specs.Limits.{PartFits, JumpsFit, MOST_LEVELS, MOST_NESTED}
+use Rattle.dvg_recipe.specs.Recipes.{Part, Piece, Jump, Area, AddsRow, AddsJump, Spells, SpellsJumps, Times, BeginsAt}
 use Rattle.dvg_recipe.specs.Private.Hulls.{Hull, AreUnder, LeadOn}
-use Rattle.dvg_recipe.specs.Private.Judging.{Adds, Both, TimesOver, Turns, IsTaken, IsJump, IsFront, IsGoodFront, Carries, IsWithin, IsFirst, AreListStarts, IsCounted}
+use Rattle.dvg_recipe.specs.Private.Judging.{Adds, Both, TimesOver, Turns, IsTaken, IsJump, IsFront, IsGoodFront, Carries, IsFirst, AreListStarts, IsCounted}
 use Rattle.dvg_recipe.proofs.Judging.{extends_part, good_under, carries_same, carries_row_whole, carries_both, carries_under, carries_either, good_item, carries_piece, carries_jump, carries_row_next, turn_next, turns_more, carries_jumps_next}
 
 -- ---- hulls behind hulls
-
--- a part of a part is within the limits
-pub within_as : (part other : Part) → part ≡ other → IsWithin part → IsWithin other
-within_as part other is h = subst IsWithin is h
-
-pub within_then : (p : Box (Unit {0}) Global) (a : Part) (q : Box (Unit {0}) Global) (b : Part) → IsWithin (Then' p a q b) → IsWithin a
-    × IsWithin b
-within_then p a q b (levels, nested, h) = ((levels - 1, nested, h.1), (levels - 1, nested, h.2))
-
-pub within_either : (p : Box (Unit {0}) Global) (a : Part) (q : Box (Unit {0}) Global) (b : Part) → IsWithin (Either' p a q b)
-    → IsWithin a × IsWithin b
-within_either p a q b (levels, nested, h) = ((levels - 1, nested, h.1), (levels - 1, nested, h.2))
-
-pub within_repeat : (least most : ℕ) (p : Box (Unit {0}) Global) (body : Part) → IsWithin (Repeat' least most p body) → (least ≤ most)
-    × IsWithin body
-within_repeat least most p body (levels, nested, h) = (h.2, (levels - 1, nested - 1, h.6))
-
-pub within_row : (row : Vec Piece Global) → IsWithin (Row row) → RowFits row.items
-within_row row (levels, nested, h) = h
 
 module _ (w : Window) (list : List Entry) (budget : ℕ) where
   pub part_as : (part other : Part) (xs ys : List Hull) → part ≡ other → Carries w list budget (Spells part) xs ys

@@ -9,13 +9,6 @@ is_alone x j (suc k, lt, is) = absurd (omega (arith, lt))
 pub alone : (x j : ℕ) → x ≡ j → Contains (x ∷ []) j
 alone x j is = (zero, omega arith, is)
 
-pub none_listed : (j : ℕ) → Contains [] j → ⊥
-none_listed j h = omega (arith, h.1)
-
-pub joined_append : (xs ys : List ℕ) → IsJoined xs ys (xs ++ ys)
-joined_append xs ys =
-    record { each = λ j. (Contains-append_cases xs ys j, ⊎_elim (Contains-append_left xs ys j) (Contains-append_right xs ys j)) }
-
 pub joined_as : (xs ys zs others : List ℕ) → zs ≡ others → IsJoined xs ys zs → IsJoined xs ys others
 joined_as xs ys zs others is h = subst (λ (l : List ℕ). IsJoined xs ys l) is h
 
@@ -40,13 +33,6 @@ joined_insert xs i x = record {
             (λ new. Contains-append_right (take i xs) (x ∷ drop i xs) j (Contains-append_left (x ∷ []) (drop i xs) j new)),
       );
 }
-
--- an index that is there already
-pub joined_there : (xs : List ℕ) (x : ℕ) → Contains xs x → IsJoined xs (x ∷ []) xs
-joined_there xs x there = record { each = λ j. (λ h. inl h, ⊎_elim (λ h. h) (λ h. subst (λ n. Contains xs n) (is_alone x j h) there)) }
-
-pub joined_none : (xs : List ℕ) → IsJoined xs [] xs
-joined_none xs = record { each = λ j. (λ h. inl h, ⊎_elim (λ h. h) (λ h. absurd (none_listed j h))) }
 
 -- joined one after another
 pub joined_on : (xs ys zs all more : List ℕ) → IsJoined xs ys all → IsJoined all zs more → IsJoined xs (ys ++ zs) more

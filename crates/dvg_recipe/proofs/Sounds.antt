@@ -1,5 +1,5 @@
 -- Sets of hulls.
-use Rattle.dvg_recipe.proofs.Common.{◌≡◌, ◌<◌, ◌+◌, ◌⊎◌, ◌∙◌, ℕ, suc, zero, List, [], ◌∷◌, ◌++◌, length, take, get_or, take-suc, take_all, sym, subst, ap, inl, inr, ⊎_elim, arith, cases_lt, Contains, Contains-append_cases, Contains-append_left, Contains-append_right, Contains-get_or}
+use Rattle.dvg_recipe.proofs.Common.{◌≡◌, ◌<◌, ◌+◌, ◌⊎◌, ◌∙◌, ℕ, suc, zero, List, [], ◌∷◌, ◌++◌, length, take, get_or, take-suc, take_all, sym, subst, ap, inl, inr, ⊎_elim, arith, cases_lt, Contains, Contains-append_cases, Contains-get_or}
 use Rattle.std.proofs.lemmas.List.{length-set, get_or-set_same, get_or-set_other}
 use Rattle.std.proofs.Common.{set, ◌≤◌}
 use Rattle.dvg_check.proofs.Common.{Known, ◌≢◌}
@@ -37,11 +37,6 @@ module _ (xs : List Hull) (i : ℕ) (x : Hull) (lt : i < length xs) where
   set_has : Contains (set xs i x) x
   set_has = (i, omega (arith, lt, same_length), at_set x)
 
-  set_listed : (t : Hull) → Contains (set xs i x) t → Contains xs t ⊎ (t ≡ x)
-  set_listed t (k, less, is) =
-      ⊎_elim (λ same. inr (sym is ∙ ap (λ n. get_or (set xs i x) n t) same ∙ at_set t))
-      (λ other. inl (k, omega (arith, less, same_length), sym (get_or-set_other xs i k x t other) ∙ is)) (same_or_not k i)
-
   pub set_added : (h : Hull) → ((k : Known) → IsInHull h k → IsInHull x k) → AreUnder (h ∷ []) (set xs i x)
   set_added h wider =
       record {
@@ -70,14 +65,6 @@ module _ (xs : List Hull) (i : ℕ) (x : Hull) (lt : i < length xs) where
             inside =
                 inside;
           }) (same_or_not n i)
-
-pub push_kept : (xs : List Hull) (x : Hull) → AreUnder xs (xs ++ x ∷ [])
-push_kept xs x =
-    record { each = λ k c. record { hull = c.hull; listed = Contains-append_left xs (x ∷ []) c.hull c.listed; inside = c.inside } }
-
-pub push_added : (xs : List Hull) (x : Hull) → AreUnder (x ∷ []) (xs ++ x ∷ [])
-push_added xs x =
-    record { each = λ k c. record { hull = c.hull; listed = Contains-append_right xs (x ∷ []) c.hull c.listed; inside = c.inside } }
 
 -- ---- one hull after another
 

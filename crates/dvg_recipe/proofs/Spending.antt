@@ -23,9 +23,6 @@ on_ok_both (Err e) P Q h k = tt
 
 -- ---- the most
 
-pub no_more_same : (xs : MostClocks) → AreNoMore xs xs
-no_more_same xs = record { each = λ scale n h. h }
-
 pub no_more_on : (xs ys zs : MostClocks) → AreNoMore xs ys → AreNoMore ys zs → AreNoMore xs zs
 no_more_on xs ys zs h k = record { each = λ scale n u. k.each scale n (h.each scale n u) }
 
@@ -130,15 +127,9 @@ module _ (t : States) (list : List Entry) (by_entry : Entry → ClockRange) wher
 
   -- ---- one after the other
 
-  pub spend_same : (xs : MostClocks) → Spend t list by_entry (λ rom before after. after ≡ before) xs xs
-  spend_same xs = record { each = λ rom before after is under. subst (AreUnderMost t list by_entry xs) (sym is) under }
-
   pub spend_both : (R S : Adds) (xs ys zs : MostClocks) → Spend t list by_entry R xs ys → Spend t list by_entry S ys zs
       → Spend t list by_entry (Both R S) xs zs
   spend_both R S xs ys zs h k = record { each = λ rom before after b under. k.each rom b.0 after b.2 (h.each rom before b.0 b.1 under) }
-
-  pub spend_more : (R : Adds) (xs ys zs : MostClocks) → AreNoMore ys zs → Spend t list by_entry R xs ys → Spend t list by_entry R xs zs
-  spend_more R xs ys zs u h = record { each = λ rom before after r under. u.each _ _ (h.each rom before after r under) }
 
   pub spend_as : (R S : Adds) (xs ys : MostClocks) → ((rom : _) (before after : List Item) → S rom before after → R rom before after)
       → Spend t list by_entry R xs ys → Spend t list by_entry S xs ys

@@ -1,5 +1,5 @@
 -- What the shapes of a list light at absolute places: where one leads to another, the other lights the same from there on.
-use Rattle.dvg_survey.proofs.Common.{◌≡◌, ℕ, ◌+◌, ◌<◌, ◌≤◌, List, [], ◌∷◌, ◌++◌, length, get_or, ◌∙◌, refl, sym, ap, subst, arith, inl, inr, ⊎_elim, cases_lt, Contains, Option, Some, None, IfSome, IsNearPlace, Rom, rom_word, cell_at, Holds, Format, Instr, Machine, Entry, Key, End, Rel, Abs, Lost, LitBox, Empty, LitExtent, Shape, Item, AreAll, Stand, LeadsTo, Context, Known, shape_context, target, callee_at, scale_set, unwrap_or, known_before, place_before, HoldsAll, absolute_corners, absolute_points, IsLeast, get_or_default, IsInside, InBox, Point, all_append, all_right, all_map, in_wider, IsJoined, HoldsShape, HoldsShapes, same_lead, ADDRESS_END, IsSomeCertificate, listed_claim, append_assoc, pos, suc, zero, next_further, next_near, next_address, ITEM_REACH, IsSoundCursor, ℤ, ◌+ℤ◌, Cursor, first_cursor, Seen, seen_with}
+use Rattle.dvg_survey.proofs.Common.{◌≡◌, ℕ, ◌+◌, ◌<◌, ◌≤◌, List, [], ◌∷◌, ◌++◌, length, get_or, ◌∙◌, refl, sym, ap, subst, arith, inl, inr, ⊎_elim, cases_lt, Contains, Option, Some, None, IfSome, IsNearPlace, Rom, rom_word, cell_at, Holds, Machine, Entry, Key, End, Rel, Abs, Lost, LitBox, Empty, LitExtent, Shape, Item, AreAll, Stand, LeadsTo, Context, Known, shape_context, target, callee_at, scale_set, unwrap_or, known_before, place_before, HoldsAll, absolute_corners, absolute_points, IsLeast, get_or_default, IsInside, InBox, Point, all_append, all_right, all_map, in_wider, IsJoined, HoldsShape, HoldsShapes, same_lead, ADDRESS_END, IsSomeCertificate, listed_claim, append_assoc, pos, suc, zero, next_further, next_near, next_address, ITEM_REACH, IsSoundCursor, ℤ, ◌+ℤ◌, Cursor, first_cursor, Seen, seen_with}
 use Rattle.dvg_items.specs.declared.known.Effect.{Effect}
 use Rattle.dvg_items.specs.declared.known.Effect.TheVariants.{Sets, Loses, Moves}
 use Rattle.dvg_words.specs.Decoding.{InstrFits}
@@ -67,11 +67,6 @@ pub near_set : (n : ℕ) (place : End) (set : Option End) → IfSome set (IsNear
 near_set n place None h k = place_more ITEM_REACH n (n + 1) place (omega arith) k
 near_set n place (Some set) h k = place_more ITEM_REACH 1 (n + 1) set (omega arith) h
 
-no_corners : (lit : LitExtent) (place : End) → IsNotAbsolute place → absolute_corners lit place ≡ []
-no_corners lit (Rel x y) h = refl
-no_corners lit (Abs x y) h = elim h [ ]
-no_corners lit Lost h = refl
-
 -- ---- past an item
 
 -- numbers within the limits stay so
@@ -138,14 +133,6 @@ module _ (machine : Machine) (list : List Entry) where
     module _ (other : IsNotAbsolute here.place) where
       elsewhere : IsNotAbsolute known.place
       elsewhere = elsewhere_too known.place here.place alike.place other
-
-      pub passed_dark : (lit : LitBox) (after : Known) → IsAlike (past i known) after → IsPassed (seen_past i known) lit lit after
-      passed_dark lit after h =
-          record {
-            alike = h;
-            lit = λ ps k. subst (λ (x : List Point). IsLeast (x ++ ps) lit)
-                (sym (no_corners (seen_past i known).extent known.place elsewhere)) k;
-          }
 
       pub set_alike : (set : Option End) → IsPlaceSet (effect_of machine i.instr here.scale (named i here.scale)) set
           → (after : Known) → after.place ≡ unwrap_or set here.place → after.scale ≡ (past i here).scale → IsAlike (past i known) after
@@ -223,18 +210,6 @@ module _ (rom : Rom) (list : List Entry) where
           least = record { holds = tt; least = λ other h. tt };
         }
 
-    -- where no item stands
-    pub own_here : (box : LitBox) (here : Cursor) → Came box here
-        → ((format : Format) (instr : Instr) → cell_at (rom_word rom) here.at ≡ Holds format instr → ⊥) → IsOwnExtent rom list e box
-    own_here box here came none =
-        let all : AreAll Shape (rom_word rom) e.addr came.items =
-        record {
-          stand = stand_before Shape (rom_word rom) e.addr came.items here.at came.leads;
-          last = λ j k. none j.format j.instr (subst (λ p. cell_at (rom_word rom) p ≡ Holds j.format j.instr)
-              (same_lead Shape (rom_word rom) e.addr came.items came.items j.at here.at k.0 came.leads refl).place k.1);
-        } in
-        record { items = came.items; least = came.least; end = inl all }
-
     -- past an item
     module _ (old new : LitBox) (here : Cursor) (came : Came old here) (i : Item) (at : i.at ≡ here.at)
         (stands : cell_at (rom_word rom) here.at ≡ Holds i.format i.instr) (after : Known)
@@ -303,10 +278,6 @@ module _ (rom : Rom) (list : List Entry) where
     pub owns : (k : ℕ) (past : Entry) → k < n → k < length list → Owns box (get_or list k past)
     pub least : (other : LitBox)
         → ((e : Entry) (one : LitBox) → Contains list e → IsOwnExtent rom list e one → IsInside one other) → IsInside box other
-
-  -- of none
-  pub none_boxed : Boxed 0 Empty
-  none_boxed = record { owns = λ k past less lt. absurd (omega (arith, less)); least = λ other h. tt }
 
   -- with one entry more
   pub one_more : (n : ℕ) (past : Entry) (old one new : LitBox) → n < length list → IsOwnExtent rom list (get_or list n past) one

@@ -3,7 +3,7 @@ use Rattle.dvg_survey.proofs.Common.{◌≡◌, ◌↔◌, Bool, false, ℕ, suc
 use Rattle.std.specs.Prelude.{IsTrue}
 use Rattle.dvg_check.specs.declared.leaving.Edge.{Edge}
 use Rattle.dvg_survey.specs.Furthest.{Reaches, FirstReaches, NoneReaches, IsLitDraw, FindsStroke}
-use Rattle.dvg_survey.proofs.Walking.{Walked, Past, past, seen_is, here_leads, here_stands}
+use Rattle.dvg_survey.proofs.Walking.{Walked, Past, past, seen_is}
 
 -- of points in two lists, where none is on the side
 none_append : (edge : Edge) (box : LitBox) (ps qs : List Point) → (Reaches edge box ps → ⊥) → (Reaches edge box qs → ⊥)
@@ -28,16 +28,6 @@ module _ (rom : Rom) (list : List Entry) (edge : Edge) (e : Entry) where
 
   module _ (here : Cursor) (w : Walked here_in (rom_word rom) e.addr NotSoFar here) (v : Seen)
       (s : IsSeenAt rom.machine list Shape (rom_word rom) here v) where
-    pub first_reaches : Reaches edge e.lit (relative_corners v.extent v.place) → FirstReaches rom list edge e v
-    first_reaches r = record {
-      earlier = w.items;
-      leads = here_leads here_in (rom_word rom) e.addr NotSoFar here w v s;
-      stands = here_stands here_in (rom_word rom) e.addr NotSoFar here w v s;
-      seen = seen_is here_in (rom_word rom) e.addr NotSoFar here w v s;
-      reaches = r;
-      first = w.holds;
-    }
-
     none_on : (Reaches edge e.lit (relative_corners v.extent v.place) → ⊥) → NotSoFar (v.item ∷ w.items)
     none_on not = none_append edge e.lit _ _
         (subst (λ (x : Seen). Reaches edge e.lit (relative_corners x.extent x.place) → ⊥)

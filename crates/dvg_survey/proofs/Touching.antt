@@ -8,9 +8,6 @@ module _ (rom other : Rom) where
   abbrev pub TakesNone : ℕ → Type 0
   TakesNone at = (p : ℕ) → Contains (taken_at rom at) p → DiffersAt rom other p → ⊥
 
-  abbrev pub TakesDiffering : ℕ → ℕ → Type 0
-  TakesDiffering at p = Contains (taken_at rom at) p × DiffersAt rom other p
-
   module _ (addr : ℕ) where
     -- these items lead to where the walk stands, and none of them takes a word that differs
     pub record Passed (at : ℕ) : Type 0 where

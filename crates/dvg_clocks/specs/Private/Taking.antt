@@ -1,10 +1,9 @@
 -- What runs of the generator take, and what shapes do from a call to its return, for every measure that is forecast right.
-use Rattle.std.specs.Prelude.{Contains, List, length, suc, ℕ, ◌*◌, ◌+◌, ◌∷◌, ◌≡◌, ◌≤◌}
-use Rattle.dvg_words.specs.Decoding.{cell_at, word_count}
-use Rattle.dvg_words.specs.Generator.{Halted, Reached, Running, State, Status, next_status, start}
-use Rattle.dvg_words.specs.Memory.{IsMemory, Memory, Rom, word_at}
+use Rattle.std.specs.Prelude.{Contains, List, length, suc, ℕ, ◌+◌, ◌∷◌, ◌≡◌, ◌≤◌}
+use Rattle.dvg_words.specs.Decoding.{cell_at}
+use Rattle.dvg_words.specs.Generator.{Reached, Running, State, Status, next_status}
+use Rattle.dvg_words.specs.Memory.{IsMemory, Memory, word_at}
 use Rattle.dvg_words.specs.Values.{Window}
-use Rattle.dvg_words.specs.declared.beam.Point.{Point}
 use Rattle.dvg_words.specs.declared.instruction.Cell.{Cell}
 use Rattle.dvg_words.specs.declared.instruction.Cell.TheVariants.{Holds}
 use Rattle.dvg_words.specs.declared.instruction.Format.{Format}
@@ -15,14 +14,13 @@ use Rattle.dvg_words.specs.declared.machine.Machine.TheVariants.{Board}
 use Rattle.dvg_cert.specs.declared.entry.Entry.{Entry}
 use Rattle.dvg_cert.specs.declared.entry.Key.{Key}
 use Rattle.dvg_cert.specs.declared.limits.TheConstants.{MOST_DEPTH}
-use Rattle.dvg_items.specs.Known.{Context, frame_context, words_before}
-use Rattle.dvg_items.specs.declared.item.Item.{Item}
+use Rattle.dvg_items.specs.Known.{frame_context}
 use Rattle.dvg_check.specs.Behaving.{PlaceFits, ScaleFits}
 use Rattle.dvg_check.specs.Rules.{Good, GoodFrame}
 use Rattle.dvg_check.specs.declared.fault.Mode.{Mode}
-use Rattle.dvg_clocks.specs.Clocks.{IsInRange, Measure, TakenOnCircuit, clocks_of_instr, states_of, words_of_instr}
+use Rattle.dvg_clocks.specs.Clocks.{IsInRange, Measure, TakenOnCircuit, clocks_of_instr, words_of_instr}
 use Rattle.dvg_clocks.specs.Forecasts.{Forecast, clocks_known, taken_before, words_known}
-use Rattle.dvg_clocks.specs.Sums.{IsSumOfItems, frame_sum, sum_of}
+use Rattle.dvg_clocks.specs.Sums.{IsSumOfItems}
 use Rattle.dvg_clocks.specs.declared.clocks.ClockRange.{ClockRange}
 use Rattle.dvg_clocks.specs.declared.clocks.States.{States}
 
@@ -87,18 +85,6 @@ abbrev pub frame_taken :
 frame_taken forecast by_entry {machine = machine} {list = list} good =
     taken_before forecast by_entry (frame_context machine list) (record { at = good.at; format = good.format; instr = Halt } ∷ good.items)
 
--- a good frame over good shapes takes so much on the generator, whenever it halts
-abbrev pub FrameTakes : Type 0
-FrameTakes =
-    (measure : Measure) (forecast : Forecast) (by_entry : Entry → ClockRange) (mode : Mode) (m : Memory) (w v : Window) (list : List Entry)
-    (budget words depth : ℕ)
-    → IsRight measure forecast → IsMemory m
-    → ((e : Entry) → Contains list e → e.depth ≤ MOST_DEPTH)
-    → Good mode w m.rom list → IsSumOfItems forecast m.rom list by_entry
-    → (good : GoodFrame v m.rom.machine m.frame list budget words depth)
-    → (place : Point) (scale steps : ℕ) (h : State) → Reached m steps (Running (start place scale)) (Halted h)
-    → IsInRange (frame_taken forecast by_entry good) (taken_by measure m steps (Running (start place scale)))
-
 -- a good frame over good shapes takes so much on the circuit, too
 abbrev pub CircuitTakes : Type 0
 CircuitTakes =
@@ -110,40 +96,7 @@ CircuitTakes =
     → (good : GoodFrame v m.rom.machine m.frame list budget words depth)
     → TakenOnCircuit measure m (frame_taken forecast by_entry good)
 
--- ---- few for each word
-
--- it is as much for each word as for an instruction of one word, at most; so is a frame's
-pub record FewTaken (forecast : Forecast) (each : ℕ) : Type 0 where
-  pub entries :
-      (by_entry : Entry → ClockRange) (mode : Mode) (w : Window) (rom : Rom) (list : List Entry)
-      → Good mode w rom list → IsSumOfItems forecast rom list by_entry
-      → (e : Entry) → Contains list e → (by_entry e).most ≤ each * e.words
-  pub items :
-      (by_entry : Entry → ClockRange) (c : Context) → ((e : Entry) → Contains c.list e → (by_entry e).most ≤ each * e.words)
-      → (items : List Item) → (taken_before forecast by_entry c items).most ≤ each * words_before c items
-
--- no instruction takes more than so much for each of its words
-abbrev pub IsFew : Forecast → ℕ → Type 0
-IsFew forecast each = (format : Format) (i : Instr) (key : Key) → (forecast format i key).most ≤ each * word_count format
-
--- where no instruction's states take more than this, no word takes more than 1,024 clocks more
-abbrev pub FewClocks : Type 0
-FewClocks =
-    (t : States) (most : ℕ) → ((format : Format) (i : Instr) → states_of t format i ≤ most) → FewTaken (clocks_known t) (1024 + most)
-
--- ---- the sums
-
 -- the forecasts of clocks and of words are right
 pub record ForecastsAreRight : Type 0 where
   pub clocks : (t : States) → IsRight (clocks_of_instr t) (clocks_known t)
   pub words : IsRight words_of_instr words_known
-
--- the sum of an entry is that of the items of its shape, and the sum of a frame that of its items
-pub record SumsAreSums : Type 0 where
-  pub entries :
-      (forecast : Forecast) (mode : Mode) (w : Window) (rom : Rom) (list : List Entry)
-      → Good mode w rom list → IsSumOfItems forecast rom list (sum_of forecast rom list)
-  pub frames :
-      (forecast : Forecast) (m : Memory) (w : Window) (list : List Entry) (budget words depth : ℕ)
-      → (good : GoodFrame w m.rom.machine m.frame list budget words depth)
-      → frame_sum forecast m list words ≡ frame_taken forecast (sum_of forecast m.rom list) good
