@@ -19,7 +19,7 @@ use Rattle.dvg_make.proofs.Onward.{same_if, listed_entry}
 use Rattle.dvg_items.proofs.Listed.{listed_at}
 use Rattle.dvg_cert.specs.Entry.{IsEntry}
 use Rattle.dvg_kept.specs.Kept.{Kept, IsKept}
-use Rattle.dvg_kept.specs.Private.Own.{IsMerged}
+use Rattle.dvg_make.specs.Merged.{IsMerged}
 use Rattle.dvg_kept.proofs.Own.{KeepsAt}
 
 -- a made entry that is good by a list is so by each that has more

@@ -2,7 +2,6 @@ pub mod Picking
 pub mod Own
 pub mod Marking
 pub mod Calls
-pub mod Merging
 pub mod Closing
 pub mod Keys
 pub mod Verdict

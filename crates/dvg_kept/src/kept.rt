@@ -1,8 +1,6 @@
 //! Frames over kept shapes.
 
-ghost use Rattle.std.specs.Prelude.{◌≡◌, ◌≤◌, [], Contains, Ok, IfOk, IfErr, IfSome, OnErr};
-ghost use Rattle.dvg_cert.specs.Entry.{IsClaim};
-ghost use Rattle.dvg_cert.specs.declared.entry.Entry.{Entry as EntryValue};
+ghost use Rattle.std.specs.Prelude.{◌≡◌, ◌≤◌, [], Ok, IfOk, IfErr, IfSome, OnErr};
 ghost use Rattle.dvg_cert.specs.declared.limits.TheConstants.{MOST_WORDS};
 ghost use Rattle.dvg_check.specs.Means.{Means};
 ghost use Rattle.dvg_check.specs.Rules.{GoodFrame};
@@ -15,7 +13,7 @@ ghost use Rattle.dvg_kept.specs.Kept.{IsKept};
 ghost use Rattle.dvg_kept.specs.declared.kept.Keeping.TheVariants.{Full};
 ghost use Rattle.dvg_kept.specs.Private.Leaves.{AreLeaves};
 ghost use Rattle.dvg_kept.specs.Private.Marks.{IsMarking};
-ghost use Rattle.dvg_kept.specs.Private.Own.{HasOwn, IsMerged};
+ghost use Rattle.dvg_kept.specs.Private.Own.{HasOwn};
 
 use crate::leaves::Leaves;
 use crate::marks::{MarkedEntries, Place};
@@ -23,7 +21,7 @@ use dvg_cert::{Entry, Key, MOST_ENTRIES};
 use dvg_check::{Accepted, JudgedShapes, Mode, Yes};
 use dvg_clocks::{ShapeClocks, States};
 use dvg_items::Kind;
-use dvg_make::{FrameRefusal, MadeEntries, explain_judging, own_verdict};
+use dvg_make::{FrameRefusal, MadeEntries, explain_judging, merged, own_verdict};
 use dvg_words::{FrameImage, FrameOn, RomImage, Window};
 use std::alloc::{AllocError, Global};
 use std::marker::Model;
@@ -49,21 +47,6 @@ impl<'a> Model for KeptShapes<'a> {
 
     ghost invariant = { λ kept. IsKept (record { rom = kept.rom; window = kept.window; list = kept.entries })
         × AreLeaves kept.rom kept.leaves };
-}
-
-/// These entries, and those of a certificate that are not among them, in the order of a certificate.
-fn merged(entries: MadeEntries, made: &[Entry]) -> Result<MadeEntries, AllocError>
-    requires { (e : EntryValue) → Contains made.now e → IsClaim e }
-    ensures { IfOk result (IsMerged entries made.now) }
-{
-    let mut merged = entries;
-    for entry in made {
-        if merged.find(entry.addr, entry.key).is_none() {
-            merged.add(*entry)?;
-        }
-    }
-    merged.sort()?;
-    Ok(merged)
 }
 
 /// The marks of the entries that a frame's items call; `None` if one of them is not among these, or there is no memory.

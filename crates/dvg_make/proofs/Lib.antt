@@ -21,3 +21,4 @@ pub mod Causes
 pub mod OneFrame
 pub mod OwnCertificate
 pub mod Pairs
+pub mod Adding

@@ -1,5 +1,6 @@
 pub mod Made
 pub mod EntryMaker
+pub mod Merged
 pub mod Frames
 pub mod Refusals
 pub mod Accounts

@@ -73,7 +73,7 @@ impl MadeEntries {
     }
 
     /// Adds an entry whose address and key have no entry yet.
-    pub fn add(&mut self, entry: Entry) -> Result<(), AllocError>
+    pub(crate) fn add(&mut self, entry: Entry) -> Result<(), AllocError>
         requires new { entry_at self.old entry.addr entry.key ≡ None }
         requires claim { IsClaim entry }
         ensures ok { OnOk result (self.new ≡ self.old ++ entry ∷ []) }
@@ -84,7 +84,7 @@ impl MadeEntries {
     }
 
     /// Puts the entries in the order of a certificate.
-    pub fn sort(&mut self) -> Result<(), AllocError>
+    pub(crate) fn sort(&mut self) -> Result<(), AllocError>
         ensures rising { OnOk result (IsRising self.new) }
         ensures same { OnOk result ((addr : ℕ) (key : KeyValue) → entry_at self.new addr key ≡ entry_at self.old addr key) }
         ensures len { OnOk result (length self.new ≡ length self.old) }

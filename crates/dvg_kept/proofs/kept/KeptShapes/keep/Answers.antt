@@ -2,7 +2,7 @@ use Rattle.std.proofs.Common.{arith, ◌≤◌, ◌+◌, length, sym, subst}
 use Rattle.dvg_items.proofs.Listed.{listed_claim}
 use Rattle.dvg_make.proofs.Common.{MOST_ENTRIES}
 use Rattle.dvg_kept.specs.Kept.{Kept, IsKept}
-use Rattle.dvg_kept.specs.Private.Own.{IsMerged}
+use Rattle.dvg_make.specs.Merged.{IsMerged}
 use Rattle.dvg_kept.proofs.Keeping.{kept_again}
 use Rattle.dvg_kept.proofs.kept.KeptShapes.keep.Goals as goal
 

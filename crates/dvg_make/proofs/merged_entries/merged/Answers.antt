@@ -1,9 +1,9 @@
 use Rattle.std.proofs.Common.{arith, ◌+◌, ◌<◌, sym, subst, ◌∙◌, List, length}
 use Rattle.std.proofs.lemmas.List.Elements.{Contains-get_or}
 use Rattle.dvg_make.proofs.Common.{Entry}
-use Rattle.dvg_kept.proofs.Merging.{Added, more_added, same_added, some_of}
-use Rattle.dvg_kept.proofs.kept.merged.Goals.{then-is_none+in_ok-add, else-is_none}
-use Rattle.dvg_kept.proofs.kept.merged.Goals as goal
+use Rattle.dvg_make.proofs.Adding.{Added, more_added, same_added, some_of}
+use Rattle.dvg_make.proofs.merged_entries.merged.Goals.{then-is_none+in_ok-add, else-is_none}
+use Rattle.dvg_make.proofs.merged_entries.merged.Goals as goal
 
 pub add-requires-clause-claim : goal.add-requires-clause-claim
 add-requires-clause-claim c =
