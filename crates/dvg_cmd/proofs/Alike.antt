@@ -1,6 +1,7 @@
 -- Judges that say the same.
 use Rattle.dvg_cmd.proofs.Common.{ℕ, List, Option, None, Some, IfSome, FrameAnswer, Judged, Judging, AnswersFrame, FrameDetail}
 use Rattle.dvg_cmd.specs.Frames.{AnswerMeans, JudgesAlike, Slow, Timed, Unread, refusal_in}
+use Rattle.dvg_spelling.specs.declared.outcome.Answer.TheVariants.{NoMemory}
 use Rattle.dvg_cmd.specs.SeveralFrames.{AnswersOpened, IsLineOfFrame}
 use Rattle.dvg_cmd.specs.Telling.{TellsAlike}
 
@@ -25,6 +26,7 @@ module _ (first later : Judging) (alike : JudgesAlike first later) (start : Opti
       said (Judged v) h = (h.0, h.1, alike.answer a.bytes (Judged v) h.2)
       said (Timed t) h = (h.0, h.1, alike.answer a.bytes (Timed t) h.2)
       said (Slow at) h = (h.0, h.1, alike.answer a.bytes (Slow at) h.2)
+      said NoMemory h = (h.0, h.1, alike.answer a.bytes NoMemory h.2)
 
   module _ {R : Type 0} (remaining : R → Option (List ℕ)) (failures : R → ℕ) (detail : FrameDetail) where
     pub lines_alike : TellsAlike (IsLineOfFrame remaining failures first start detail) (IsLineOfFrame remaining failures later start detail)

@@ -8,6 +8,7 @@ use Rattle.dvg_clocks.specs.declared.judging.TimedRefusal.TheVariants as timed
 use Rattle.dvg_clocks.specs.declared.judging.TimedYes.{TimedYes}
 use Rattle.dvg_check.specs.declared.verdict.Refusal.{Refusal}
 use Rattle.dvg_spelling.specs.declared.outcome.ItemPlace.TheVariants as place
+use Rattle.dvg_spelling.specs.declared.outcome.Answer.TheVariants.{NoMemory}
 use Rattle.dvg_make.specs.declared.judging.FrameRefusal.TheVariants.{Check}
 use Rattle.dvg_cmd.specs.Frames.{Slow, Timed, TimedAnswer, Unread, judged_timed, refusal_in, timed_answer, told_with, yes_in}
 use Rattle.dvg_cmd.specs.Kept.{IsKeptFor, IsTimedFor}
@@ -60,6 +61,7 @@ module _ (j : Judging) (start : Option ℕ) (reader left : Option (List ℕ)) wh
           }
       by (Slow at) answer long means told = record { bytes = slice; answers = (read, of, answer); told = tt; means = tt }
       by Unread answer long means told = record { bytes = slice; answers = tt; told = tt; means = tt }
+      by NoMemory answer long means told = record { bytes = slice; answers = (read, of, answer); told = tt; means = tt }
 
 -- ---- what a frame comes to
 

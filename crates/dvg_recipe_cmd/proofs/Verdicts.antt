@@ -72,3 +72,4 @@ module _ (rom : List ℕ) (options : RecipeOptions) (image : Rom) (recipe : Reci
   timed_answer clocks (answer.Timed timed) (told, of) = (told, timed_yes clocks.timing timed of)
   timed_answer clocks (answer.Slow at) h = tt
   timed_answer clocks answer.Unread h = absurd h
+  timed_answer clocks answer.NoMemory h = absurd h

@@ -21,7 +21,7 @@ use Rattle.dvg_cmd.specs.declared.detail.Behind.{Behind}
 use Rattle.dvg_cmd.specs.declared.listing.Lines.TheVariants as which
 use Rattle.dvg_cmd.specs.Frames.{told_with}
 use Rattle.dvg_spelling.specs.declared.outcome.Answer.{Answer}
-use Rattle.dvg_spelling.specs.declared.outcome.Answer.TheVariants.{Judged, Timed, Slow, Unread}
+use Rattle.dvg_spelling.specs.declared.outcome.Answer.TheVariants.{Judged, Timed, Slow, Unread, NoMemory}
 use Rattle.dvg_spelling.specs.Outcomes.{answer_outcome, is_unread}
 use Rattle.dvg_spelling.specs.Report.{line_text}
 use Rattle.dvg_spelling.specs.declared.fault.RunFault.{RunFault}
@@ -83,6 +83,7 @@ IsTimedAnswer rom options clocks (Judged (Err refusal)) = IsVerdict rom options 
 IsTimedAnswer rom options clocks (Timed timed) = (clocks.line ≡ line_clocks.Told) × IsTimedYes rom options clocks.timing timed
 IsTimedAnswer rom options clocks (Slow at) = Unit {0}
 IsTimedAnswer rom options clocks Unread = ⊥
+IsTimedAnswer rom options clocks NoMemory = ⊥
 
 -- what is said where none are asked: the verdict
 abbrev pub IsPlainAnswer : List ℕ → RecipeOptions → RecipeAnswer → Type 0
@@ -106,8 +107,8 @@ clocks_with (details.Account labels) clocks = None
 
 -- what an answer says of what a reader held: that there was no memory for it, or what is said of its text
 abbrev pub SaysOf : List ℕ → RecipeOptions → Option ClockOptions → Option (List ℕ) → Option (List ℕ) → RecipeAnswer → Type 0
-SaysOf rom options clocks old new (Judged (Err no.NoMemory)) = Unit {0}
 SaysOf rom options clocks old new Unread = Unit {0}
+SaysOf rom options clocks old new NoMemory = Unit {0}
 SaysOf rom options clocks old new answer = ((text : List ℕ) × ReadsRecipe old new text) × IsAnswer rom options clocks answer
 
 -- `remaining` is what a reader still holds, and `failures` its count of failed reads

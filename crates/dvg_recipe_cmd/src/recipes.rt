@@ -1,11 +1,10 @@
 //! Judging recipes, one after another.
 
-ghost use Rattle.std.specs.Prelude.{Err, None, ◌≡◌, ◌∷◌, [], false, IfOk, IfErr, OnErr, is_err};
+ghost use Rattle.std.specs.Prelude.{None, ◌≡◌, ◌∷◌, [], false, IfOk, IfErr, OnErr, is_err};
 ghost use Rattle.std.specs.Iterator.{IsFinite};
 ghost use Rattle.dvg_text.specs.Devices.{count_after};
 ghost use Rattle.dvg_cmd.specs.Telling.{HoldsOfAll, HoldsOfTaken, Reports, ReportsPrefix, no_line};
 ghost use Rattle.dvg_recipe_cmd.specs.Recipes.{SaysOf, IsAnswer, AnswersRecipe, IsLineOfRecipe, clocks_with, of_recipes};
-ghost use Rattle.dvg_recipe_cmd.specs.declared.answer.RecipeNo.TheVariants as refusals;
 ghost use Rattle.dvg_spelling.specs.Outcomes.{is_unread};
 ghost use Rattle.dvg_spelling.specs.declared.outcome.Answer.TheVariants as answers;
 ghost use Rattle.dvg_recipe_cmd.specs.Private.Judging.{wanted_detail};
@@ -13,7 +12,7 @@ ghost use Rattle.dvg_cmd.specs.Detail.{IsBehind};
 ghost use Rattle.dvg_cmd.specs.declared.detail.Detail.TheVariants as details;
 
 use crate::account::Explained;
-use crate::answer::{RecipeAnswer, RecipeNo};
+use crate::answer::RecipeAnswer;
 use crate::judging::{RecipeOptions, Wanted, Witness, judge_text, time_text};
 use crate::reading::read_text;
 use dvg_cmd::{
@@ -63,11 +62,11 @@ fn unread(alloc: Global, wanted: Wanted) -> Answered
 
 /// That there is no memory for the text of a recipe, and what is wanted beside it.
 fn no_memory(wanted: Wanted) -> Answered
-    ensures answer { result.answer ≡ answers.Judged (Err refusals.NoMemory) }
+    ensures answer { result.answer ≡ answers.NoMemory }
     ensures behind { IsBehind (wanted_detail wanted.entry) result.behind }
 {
     Answered {
-        answer: Answer::Judged(Err(RecipeNo::NoMemory)),
+        answer: Answer::NoMemory,
         witness: Witness::Nothing,
         behind: match wanted {
             Wanted::Verdict | Wanted::Witness => Behind::Nothing,

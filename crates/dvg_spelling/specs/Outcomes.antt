@@ -11,7 +11,7 @@ use Rattle.dvg_make.specs.declared.judging.FrameRefusal.TheVariants as frame
 use Rattle.dvg_spelling.specs.declared.outcome.Outcome.{Outcome}
 use Rattle.dvg_spelling.specs.declared.outcome.Outcome.TheVariants as outcome
 use Rattle.dvg_spelling.specs.declared.outcome.Answer.{Answer}
-use Rattle.dvg_spelling.specs.declared.outcome.Answer.TheVariants.{Judged, Timed, Slow, Unread}
+use Rattle.dvg_spelling.specs.declared.outcome.Answer.TheVariants.{Judged, Timed, Slow, Unread, NoMemory}
 
 -- the outcome of a refused certificate
 abbrev pub cert_outcome : CertWhy → Outcome
@@ -43,6 +43,7 @@ answer_outcome refused (Judged (Err why)) = refused why
 answer_outcome refused (Timed t) = outcome.Accepted
 answer_outcome refused (Slow at) = outcome.Refused
 answer_outcome refused Unread = outcome.Unread
+answer_outcome refused NoMemory = outcome.NoMemory
 
 -- the answer is that the frame or the recipe could not be read
 abbrev pub is_unread : {R : Type 0} → Answer R → Bool

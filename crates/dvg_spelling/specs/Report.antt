@@ -20,7 +20,7 @@ use Rattle.dvg_clocks.specs.declared.clocks.ClockRange.{ClockRange}
 use Rattle.dvg_spelling.specs.declared.outcome.ItemPlace.{ItemPlace}
 use Rattle.dvg_spelling.specs.declared.outcome.ItemPlace.TheVariants as place
 use Rattle.dvg_spelling.specs.declared.outcome.Answer.{Answer}
-use Rattle.dvg_spelling.specs.declared.outcome.Answer.TheVariants.{Judged, Timed, Slow, Unread}
+use Rattle.dvg_spelling.specs.declared.outcome.Answer.TheVariants.{Judged, Timed, Slow, Unread, NoMemory as Unkept}
 
 -- a word: four hexadecimal digits in capitals
 abbrev pub hex_word : ℕ → List ℕ
@@ -114,6 +114,7 @@ answer_text text (Judged (Err why)) = text why
 answer_text text (Timed t) = accepted_text t.yes ++ clocks_text t.clocks
 answer_text text (Slow at) = refused_at_text 58 at
 answer_text text Unread = codes "cannot read"
+answer_text text Unkept = codes "out of memory"
 
 -- the line from behind the name on
 abbrev pub line_text : {R : Type 0} → (R → List ℕ) → Answer R → List ℕ

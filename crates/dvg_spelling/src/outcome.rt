@@ -65,6 +65,8 @@ pub enum Answer<R> {
     Slow(ItemPlace),
     /// It could not be opened or read.
     Unread,
+    /// There was no memory to read it.
+    NoMemory,
 }
 
 /// What a line says of a frame.
@@ -99,6 +101,7 @@ impl<R: Why> Answer<R> {
             Answer::Judged(Err(why)) => why.outcome(),
             Answer::Slow(_) => Outcome::Refused,
             Answer::Unread => Outcome::Unread,
+            Answer::NoMemory => Outcome::NoMemory,
         }
     }
 
@@ -117,6 +120,7 @@ impl<R: Why> Answer<R> {
             }
             Answer::Slow(place) => line.push_refused_at(58, *place),
             Answer::Unread => line.push(b"cannot read"),
+            Answer::NoMemory => line.push(b"out of memory"),
         }
     }
 

@@ -35,8 +35,10 @@ pub fn answer_number(answer: &FrameAnswer) -> u8
         Answer::Judged(Err(FrameRefusal::Make { why, .. })) => MakeFault::from(*why).number(),
         Answer::Judged(Err(FrameRefusal::Check(refusal))) => refusal.number(),
         Answer::Slow(_) => 58,
-        Answer::Judged(Err(FrameRefusal::NoMemory) | Ok(_)) | Answer::Timed(_) | Answer::Unread =>
-            0,
+        Answer::Judged(Err(FrameRefusal::NoMemory) | Ok(_))
+        | Answer::Timed(_)
+        | Answer::Unread
+        | Answer::NoMemory => 0,
     }
 }
 

@@ -46,3 +46,4 @@ IsTimedRead rom recipe options clocks (answer.Timed timed) =
     (clocks.line ≡ line_clocks.Told) × IsTimedOf rom recipe options clocks.timing timed
 IsTimedRead rom recipe options clocks (answer.Slow at) = Unit {0}
 IsTimedRead rom recipe options clocks answer.Unread = ⊥
+IsTimedRead rom recipe options clocks answer.NoMemory = ⊥
