@@ -14,7 +14,7 @@ use Rattle.dvg_make.specs.Made.{HasEntry, EachItem, MadeEntry}
 use Rattle.dvg_make.specs.Frames.{IsAskedFor, FrameAsksFor, FrameMade, IsKeyed}
 use Rattle.dvg_make.proofs.Ends.{other_window}
 use Rattle.dvg_make.proofs.Merging.{only_listed}
-use Rattle.dvg_recipe.specs.Recipes.{Belongs}
+use Rattle.dvg_recipe.specs.Members.{IsMember}
 use Rattle.dvg_recipe.specs.Examples.{ColumnParts, column_recipe, WorkedRefusal}
 use Rattle.dvg_recipe.proofs.ColumnExample.{place_item, call_item, halt_item, belongs_by, some_same}
 
@@ -45,7 +45,7 @@ halt_there = refl
 beyond_leads : LeadsTo Frame frame 0 (call_item 0x800 ∷ place_item 0 257 ∷ []) 3
 beyond_leads = ((refl, place_there, refl), call_there, refl)
 
-beyond_belongs : (p : ColumnParts (pos 257)) → Belongs (rom_for Board) (column_recipe p) beyond_words
+beyond_belongs : (p : ColumnParts (pos 257)) → IsMember (rom_for Board) (column_recipe p) beyond_words
 beyond_belongs p =
     belongs_by 257 beyond_words (pos 257) p (record { some = omega arith; few = omega arith }) beyond_leads halt_there
     (record { low = omega (arith, ints); high = omega (arith, ints) })
@@ -172,7 +172,7 @@ beyond_fault =
 pub beyond_refused : (p : ColumnParts (pos 257)) → WorkedRefusal (column_recipe p)
 beyond_refused p =
     record {
-      belongs = beyond_belongs p;
+      member = beyond_belongs p;
       judged =
           record { list = example_list; made = beyond_made; verdict = ((worked_example Board).exact, beyond_fault) };
     }

@@ -12,7 +12,8 @@ use Rattle.dvg_check.proofs.Example.{draw_item, return_item, draw_there, return_
 use Rattle.dvg_words.specs.Beam.{signed_field}
 use Rattle.dvg_cert.specs.Order.{IsCertificate}
 use Rattle.dvg_words.specs.Values.{asteroids}
-use Rattle.dvg_recipe.specs.Recipes.{Piece, AddsRow, Takes, TakesCall, Belongs, IsInSpan, Area, BeginsAt}
+use Rattle.dvg_recipe.specs.Recipes.{Leading, IsFrameOf, RunsInto, Piece, AddsRow, Takes, TakesCall, IsInSpan, Area, BeginsAt}
+use Rattle.dvg_recipe.specs.Members.{IsMember, LeadsInto}
 use Rattle.dvg_recipe.specs.Private.Hulls.{HasFormat}
 use Rattle.dvg_words.specs.Memory.{IsFrame}
 use Rattle.dvg_words.specs.Values.{IsWindow}
@@ -35,7 +36,7 @@ halt_item = record { at = 3; format = Short; instr = Halt }
 pub belongs_by : (y : ℕ) (words : List ℕ) (top : ℤ) (p : ColumnParts top) → IsFrame words
     → LeadsTo Frame (frame_word Board words) 0 (call_item 0x800 ∷ place_item 0 y ∷ []) 3
     → cell_at (frame_word Board words) 3 ≡ Holds Short Halt → IsInSpan (record { low = pos 0; high = top }) (signed_field y)
-    → Belongs (rom_for Board) (column_recipe p) words
+    → IsMember (rom_for Board) (column_recipe p) words
 belongs_by y words top p whole leads halts there =
     let items : List Item = call_item 0x800 ∷ place_item 0 y ∷ [] in
     record {
@@ -51,7 +52,7 @@ belongs_by y words top p whole leads halts there =
         start = [];
         begins = refl;
         between = items;
-        spelled = row_of (column_piece top ∷ call_piece p.targets.0 ∷ []) p.row (rom_for Board) [] items (
+        spelled = row_of (column_piece top ∷ call_piece p.targets.0 ∷ []) p.row (LeadsInto (rom_for Board)) [] items (
           place_item 0 y ∷ [],
           record {
             item = place_item 0 y;
@@ -84,7 +85,7 @@ edge_halts : cell_at (frame_word Board edge_words) 3 ≡ Holds Short Halt
 unfolding cell_at instruction_of
 edge_halts = refl
 
-edge_belongs : (p : ColumnParts (pos 256)) → Belongs (rom_for Board) (column_recipe p) edge_words
+edge_belongs : (p : ColumnParts (pos 256)) → IsMember (rom_for Board) (column_recipe p) edge_words
 edge_belongs p =
     belongs_by 256 edge_words (pos 256) p (record { some = omega arith; few = omega arith }) edge_leads edge_halts
     (record { low = omega (arith, ints); high = omega (arith, ints) })
@@ -256,7 +257,7 @@ record IsColumn (words : List ℕ) : Type 0 where
 pub some_same : (m n : ℕ) → Some m ≡ Some n → m ≡ n
 some_same m n e = grind (arith)
 
-module _ (p : ColumnParts (pos 256)) (words : List ℕ) (b : Belongs (rom_for Board) (column_recipe p) words) where
+module _ (into : Leading) (p : ColumnParts (pos 256)) (words : List ℕ) (b : IsFrameOf into (column_recipe p) words) where
   abbrev source : Source
   source = frame_word Board words
 
@@ -265,8 +266,8 @@ module _ (p : ColumnParts (pos 256)) (words : List ℕ) (b : Belongs (rom_for Bo
       let same = only_area (record { first = 0; last = 0x00F }) b.spelled.area b.spelled.listed in
       subst (λ n. BeginsAt n b.spelled.start) (sym (ap (λ (a : Area). a.first) same)) b.spelled.begins
 
-  abbrev row : AddsRow (column_piece (pos 256) ∷ call_piece p.targets.0 ∷ []) (rom_for Board) b.spelled.start b.spelled.between
-  row = subst (λ (l : List Piece). AddsRow l (rom_for Board) b.spelled.start b.spelled.between) p.row.1 b.spelled.spelled
+  abbrev row : AddsRow (column_piece (pos 256) ∷ call_piece p.targets.0 ∷ []) into b.spelled.start b.spelled.between
+  row = subst (λ (l : List Piece). AddsRow l into b.spelled.start b.spelled.between) p.row.1 b.spelled.spelled
 
   labs_and_call : (l c : Item) → b.items ≡ c ∷ l ∷ [] → IsLabs l.instr → IsCall (0x800 ∷ 0x802 ∷ []) c.instr → IsColumn words
   labs_and_call l c are labs call =
@@ -302,10 +303,38 @@ module _ (p : ColumnParts (pos 256)) (words : List ℕ) (b : Belongs (rom_for Bo
       (labs_of l.instr row.1.taken)
       (call_of (0x800 ∷ 0x802 ∷ []) c.instr (subst (λ (targets : List ℕ). TakesCall targets c.instr) p.targets.1 row.2.1.taken))
 
-every : (p : ColumnParts (pos 256)) (words : List ℕ) → Belongs (rom_for Board) (column_recipe p) words
+  -- its draws have to lead nowhere
+  rebuilt : (other : Leading) → IsFrameOf other (column_recipe p) words
+  rebuilt other = record {
+    frame = b.frame;
+    items = b.items;
+    at = b.at;
+    format = b.format;
+    leads = b.leads;
+    halts = b.halts;
+    spelled = record {
+      area = b.spelled.area;
+      listed = b.spelled.listed;
+      start = b.spelled.start;
+      begins = b.spelled.begins;
+      between = b.spelled.between;
+      spelled = row_of (column_piece (pos 256) ∷ call_piece p.targets.0 ∷ []) p.row other b.spelled.start b.spelled.between (
+        row.0,
+        record { item = row.1.item; one_more = row.1.one_more; taken = row.1.taken; arrives = tt },
+        (
+          row.2.0,
+          record { item = row.2.1.item; one_more = row.2.1.one_more; taken = row.2.1.taken; arrives = tt },
+          row.2.2,
+        ),
+      );
+      jumped = b.spelled.jumped;
+    };
+  }
+
+every : (into : Leading) (p : ColumnParts (pos 256)) (words : List ℕ) → IsFrameOf into (column_recipe p) words
     → IsGoodMember screen both 20000 (column_recipe p) 7 1 words
-every p words b =
-    let m = is_column p words b in
+every into p words b =
+    let m = is_column into p words b in
     let c = frame_context Board both in
     let items : List Item = call_item m.to ∷ place_item m.x m.y ∷ [] in
     record {
@@ -324,5 +353,7 @@ column_accepted p =
     record {
       member = edge_belongs p;
       accepted =
-          every_means (rom_for Board) both screen 20000 (column_recipe p) 7 1 judged (inl whole) refl (every p);
+          every_means (rom_for Board) both screen 20000 (column_recipe p) 7 1 judged (inl whole) refl
+          (λ words b. every (RunsInto (record { frame = words; rom = rom_for Board })) p words b)
+          (λ words b. rebuilt (LeadsInto (rom_for Board)) p words b (RunsInto (record { frame = words; rom = rom_for Board })));
     }

@@ -18,9 +18,9 @@ use Rattle.dvg_recipe.proofs.Common.{◌<◌, IfSome}
 use Rattle.dvg_items.specs.Known.{callee_at, stop_effect, known_past}
 use Rattle.dvg_cert.specs.Lookup.{same_key}
 use Rattle.dvg_items.specs.Lit.{draw_extent, box_extent}
-use Rattle.dvg_recipe.specs.Recipes.{PlaceRange, PlaceSpan, IsEndIn, DrawRange, Span as Range, TakesPlace, TakesDraw, Place, Draw, IsInSpan}
-use Rattle.dvg_recipe.specs.Private.Judging.{IsTaken, IsJump}
-use Rattle.dvg_recipe.specs.Private.Hulls.{Rectangle, Change, Shown, IsInRectangle, IsMotion, IsLight, IsChange, HasFormat, IsNearRectangle, IsNearMotion, IsNearLight, IsNearInto, IsSoundChange, AreSoundChanges, IsInto, IsAmong, Within, span_places, into_of, DrawsAct, IsAct, at_point, places_of, place_change, still, stop_motion, box_light, call_change, moves, draw_light, draw_change, IsDrawBetween}
+use Rattle.dvg_recipe.specs.Recipes.{PlaceRange, PlaceSpan, DrawRange, Span as Range, TakesPlace, TakesDraw, Place, Draw, IsInSpan}
+use Rattle.dvg_recipe.specs.Private.Judging.{IsNotBeside, IsTaken, IsJump}
+use Rattle.dvg_recipe.specs.Private.Hulls.{Rectangle, Change, Shown, IsInRectangle, IsMotion, IsLight, IsChange, HasFormat, IsNearRectangle, IsNearMotion, IsNearLight, IsNearInto, IsSoundChange, AreSoundChanges, IsInto, IsNotOutside, span_places, into_of, DrawsAct, IsAct, at_point, places_of, place_change, still, stop_motion, box_light, call_change, moves, draw_light, draw_change, IsDrawBetween}
 
 -- ---- moves grow with sizes
 
@@ -347,17 +347,17 @@ pub record IsCorner (r : DrawRange) (x y b : ℤ) (d : DrawFields) : Type 0 wher
   pub dy : d.dy ≡ y
   pub bright : pos d.bright ≡ b
 
--- a place in the rectangle, in units
-span_among : (span : PlaceSpan) (place : End) → IsEndIn span place → IsAmong (Within (span_places span)) place
-span_among span (Rel x y) h = absurd h
-span_among span (Abs x y) h = record { left = h.0.low; right = h.0.high; bottom = h.1.low; top = h.1.high }
-span_among span LostEnd h = absurd h
+-- a place that is not beside the rectangle, in units
+not_outside : (span : PlaceSpan) (place : End) → IsNotBeside span place → IsNotOutside (span_places span) place
+not_outside span (Rel x y) h = tt
+not_outside span (Abs x y) h = record { left = h.0.low; right = h.0.high; bottom = h.1.low; top = h.1.high }
+not_outside span LostEnd h = tt
 
 -- a draw that leads to where it has to
 draws_into : (to : Option PlaceSpan) (known : Known) (i : Item) (d : DrawFields) → i.instr ≡ Draws d
-    → IfSome to (λ span. IsEndIn span (known_past Board i None known).place) → IsInto (into_of to) known i
+    → IfSome to (λ span. IsNotBeside span (known_past Board i None known).place) → IsInto (into_of to) known i
 draws_into None known i d is h = tt
-draws_into (Some span) known i d is h = (d, is, span_among span (known_past Board i None known).place h)
+draws_into (Some span) known i d is h = (d, is, not_outside span (known_past Board i None known).place h)
 
 -- what lies between two corners does what draws between them do
 pub draws_are : (r : DrawRange) (low high : DrawFields) → IsCorner r r.dx.low r.dy.low r.bright.low low

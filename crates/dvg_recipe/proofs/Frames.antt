@@ -7,7 +7,8 @@ use Rattle.dvg_words.specs.Memory.{Rom, IsFrame, frame_word}
 use Rattle.dvg_items.specs.declared.item.Item.{Item}
 use Rattle.dvg_items.specs.declared.item.Kind.TheVariants.{Frame}
 use Rattle.dvg_items.proofs.Leading.{same_lead, too_long}
-use Rattle.dvg_recipe.specs.Recipes.{Recipe, SpellsList, Belongs}
+use Rattle.dvg_recipe.specs.Recipes.{Recipe, SpellsList}
+use Rattle.dvg_recipe.specs.Members.{IsMember, LeadsInto}
 use Rattle.dvg_recipe.specs.Private.KnownPlaces.{ItemsOver}
 use Rattle.dvg_recipe.specs.Private.FrameItems.{FrameItems, AreItems}
 use Rattle.dvg_recipe.specs.Private.Indices.{RecipeLeads}
@@ -37,7 +38,7 @@ module _ (rom : Rom) (words : List ℕ) (all : FrameItems) (are : AreItems words
       )
 
   module _ (recipe : Recipe) where
-    pub belongs_if : IsFrame words → IsTrue all.halts → RecipeLeads recipe over (length listed) → Belongs rom recipe words
+    pub belongs_if : IsFrame words → IsTrue all.halts → RecipeLeads recipe over (length listed) → IsMember rom recipe words
     belongs_if frame halts leads =
         let halt = are.halts.0 halts in
         record {
@@ -48,10 +49,10 @@ module _ (rom : Rom) (words : List ℕ) (all : FrameItems) (are : AreItems words
           leads = are.leads;
           halts = halt.1;
           spelled =
-              subst (λ (l : List Item). SpellsList rom recipe l) front_whole (recipe_there over recipe (length listed) leads);
+              subst (λ (l : List Item). SpellsList (LeadsInto rom) recipe l) front_whole (recipe_there over recipe (length listed) leads);
         }
 
-    pub only_if : Belongs rom recipe words → IsTrue all.halts × RecipeLeads recipe over (length listed)
+    pub only_if : IsMember rom recipe words → IsTrue all.halts × RecipeLeads recipe over (length listed)
     only_if b =
         let short = no_longer b.items b.at b.leads in
         let same = same_lead Frame (frame_word Board words) 0 b.items whole b.at all.end b.leads are.leads

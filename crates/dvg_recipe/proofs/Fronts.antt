@@ -3,6 +3,7 @@ use Rattle.dvg_recipe.proofs.Common.{◌≡◌, ◌<◌, ◌≤◌, ◌∙◌, �
 use Rattle.dvg_items.specs.declared.item.Item.{Item}
 use Rattle.dvg_recipe.specs.Private.KnownPlaces.{ItemsOver}
 use Rattle.dvg_recipe.specs.Recipes.{Piece, Part, Jump, Recipe, Row, Then', Either', Repeat', Arrives, AddsPiece, AddsRow, AddsJump, Times, Spells, SpellsJumps, BeginsAt, SpellsList}
+use Rattle.dvg_recipe.specs.Members.{LeadsInto}
 use Rattle.dvg_recipe.specs.Private.Indices.{Leads, PieceLeads, RowLeads, PartLeads, TimesOver, JumpLeads, JumpsLead, ListStarts, RecipeLeads}
 
 cons_same : (x y : Item) (xs ys : List Item) → x ∷ xs ≡ y ∷ ys → (x ≡ y) × (xs ≡ ys)
@@ -38,7 +39,7 @@ module _ (over : ItemsOver) where
 
   -- ---- from indices to items
 
-  piece_there : (piece : Piece) (i j : ℕ) → PieceLeads piece over i j → AddsPiece piece over.rom (front i) (front j)
+  piece_there : (piece : Piece) (i j : ℕ) → PieceLeads piece over i j → AddsPiece piece (LeadsInto over.rom) (front i) (front j)
   piece_there piece i j h =
       record {
         item = h.item;
@@ -48,7 +49,7 @@ module _ (over : ItemsOver) where
         arrives = h.arrives;
       }
 
-  row_there : (row : List Piece) (i j : ℕ) → RowLeads row over i j → AddsRow row over.rom (front i) (front j)
+  row_there : (row : List Piece) (i j : ℕ) → RowLeads row over i j → AddsRow row (LeadsInto over.rom) (front i) (front j)
   row_there [] i j h = ap front h
   row_there (piece ∷ row) i j (k, first, rest) = (front k, piece_there piece i k first, row_there row k j rest)
 
@@ -57,13 +58,13 @@ module _ (over : ItemsOver) where
   times_there zero R Adds f i j h = ap front h
   times_there (suc n) R Adds f i j (k, first, rest) = (front k, f i k first, times_there n R Adds f k j rest)
 
-  pub part_there : (part : Part) (i j : ℕ) → PartLeads part over i j → Spells part over.rom (front i) (front j)
+  pub part_there : (part : Part) (i j : ℕ) → PartLeads part over i j → Spells part (LeadsInto over.rom) (front i) (front j)
   part_there (Row row) i j h = row_there row.items i j h
   part_there (Then' p a q b) i j (k, first, rest) = (front k, part_there a i k first, part_there b k j rest)
   part_there (Either' p a q b) i j (inl h) = inl (part_there a i j h)
   part_there (Either' p a q b) i j (inr h) = inr (part_there b i j h)
   part_there (Repeat' least most p body) i j (n, low, few, h) =
-      (n, low, few, times_there n (PartLeads body over) (Spells body over.rom) (part_there body) i j h)
+      (n, low, few, times_there n (PartLeads body over) (Spells body (LeadsInto over.rom)) (part_there body) i j h)
 
   jump_there : (to : ℕ) (i j : ℕ) → JumpLeads to over i j → AddsJump to (front i) (front j)
   jump_there to i j h =
@@ -74,7 +75,7 @@ module _ (over : ItemsOver) where
             h.jumps;
       }
 
-  jumps_there : (jumps : List Jump) (i j : ℕ) → JumpsLead jumps over i j → SpellsJumps jumps over.rom (front i) (front j)
+  jumps_there : (jumps : List Jump) (i j : ℕ) → JumpsLead jumps over i j → SpellsJumps jumps (LeadsInto over.rom) (front i) (front j)
   jumps_there [] i j h = ap front h
   jumps_there (jump ∷ jumps) i j (k, first, (l, part, rest)) =
       (front k, front l, jump_there jump.area.first i k first, part_there jump.body k l part, jumps_there jumps l j rest)
@@ -83,7 +84,7 @@ module _ (over : ItemsOver) where
   starts_there zero j h = ap front h
   starts_there (suc n) j h = jump_there (suc n) 0 j h
 
-  pub recipe_there : (recipe : Recipe) (j : ℕ) → RecipeLeads recipe over j → SpellsList over.rom recipe (front j)
+  pub recipe_there : (recipe : Recipe) (j : ℕ) → RecipeLeads recipe over j → SpellsList (LeadsInto over.rom) recipe (front j)
   recipe_there recipe j h =
       let s = h.starts in
       let b = h.spelled in
@@ -108,7 +109,7 @@ module _ (over : ItemsOver) where
     leads : R i j
 
   piece_back : (piece : Piece) (before after : List Item) (j : ℕ) → j ≤ length items → after ≡ front j
-      → AddsPiece piece over.rom before after → From (PieceLeads piece over) before j
+      → AddsPiece piece (LeadsInto over.rom) before after → From (PieceLeads piece over) before j
   piece_back piece before after j le is h =
       let b = one_back h.item before j le (sym h.one_more ∙ is) in
       record {
@@ -122,13 +123,13 @@ module _ (over : ItemsOver) where
               there = b.there;
               taken = h.taken;
               arrives =
-                  subst (Arrives over.rom piece.kind) is h.arrives;
+                  subst (Arrives (LeadsInto over.rom) piece.kind) is h.arrives;
               next = b.next;
             };
       }
 
   row_back : (row : List Piece) (before after : List Item) (j : ℕ) → j ≤ length items → after ≡ front j
-      → AddsRow row over.rom before after → From (RowLeads row over) before j
+      → AddsRow row (LeadsInto over.rom) before after → From (RowLeads row over) before j
   row_back [] before after j le is h = record { i = j; le = le; is = sym h ∙ is; leads = refl }
   row_back (piece ∷ row) before after j le is (between, first, rest) =
       let r = row_back row between after j le is rest in
@@ -145,7 +146,7 @@ module _ (over : ItemsOver) where
       let b = f before between r.i r.le r.is first in
       record { i = b.i; le = b.le; is = b.is; leads = (r.i, b.leads, r.leads) }
 
-  part_back : (part : Part) → Back (PartLeads part over) (Spells part over.rom)
+  part_back : (part : Part) → Back (PartLeads part over) (Spells part (LeadsInto over.rom))
   part_back (Row row) before after j le is h =
       let r = row_back row.items before after j le is h in record { i = r.i; le = r.le; is = r.is; leads = r.leads }
   part_back (Then' p a q b) before after j le is (between, first, rest) =
@@ -157,7 +158,7 @@ module _ (over : ItemsOver) where
   part_back (Either' p a q b) before after j le is (inr h) =
       let r = part_back b before after j le is h in record { i = r.i; le = r.le; is = r.is; leads = inr r.leads }
   part_back (Repeat' least most p body) before after j le is (n, low, few, h) =
-      let r = times_back n (PartLeads body over) (Spells body over.rom) (part_back body) before after j le is h in
+      let r = times_back n (PartLeads body over) (Spells body (LeadsInto over.rom)) (part_back body) before after j le is h in
       record { i = r.i; le = r.le; is = r.is; leads = (n, low, few, r.leads) }
 
   jump_back : (to : ℕ) → Back (JumpLeads to over) (AddsJump to)
@@ -171,7 +172,7 @@ module _ (over : ItemsOver) where
             record { item = h.item; within = b.less; there = b.there; jumps = h.jumps; next = b.next };
       }
 
-  jumps_back : (jumps : List Jump) → Back (JumpsLead jumps over) (SpellsJumps jumps over.rom)
+  jumps_back : (jumps : List Jump) → Back (JumpsLead jumps over) (SpellsJumps jumps (LeadsInto over.rom))
   jumps_back [] before after j le is h = record { i = j; le = le; is = sym h ∙ is; leads = refl }
   jumps_back (jump ∷ jumps) before after j le is (there, between, jumped, spelled, rest) =
       let r = jumps_back jumps between after j le is rest in
@@ -189,7 +190,7 @@ module _ (over : ItemsOver) where
       let b = jump_back (suc n) [] start i le is h in
       subst (λ m. JumpLeads (suc n) over m i) (none_before b.i b.le b.is) b.leads
 
-  pub recipe_back : (recipe : Recipe) (after : List Item) (j : ℕ) → j ≤ length items → after ≡ front j → SpellsList over.rom recipe after
+  pub recipe_back : (recipe : Recipe) (after : List Item) (j : ℕ) → j ≤ length items → after ≡ front j → SpellsList (LeadsInto over.rom) recipe after
       → RecipeLeads recipe over j
   recipe_back recipe after j le is h =
       let r = jumps_back recipe.jumps h.between after j le is h.jumped in

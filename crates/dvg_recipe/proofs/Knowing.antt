@@ -1,5 +1,5 @@
 -- By made entries just one thing is known behind the items of a frame.
-use Rattle.dvg_recipe.proofs.Common.{◌≡◌, ◌<◌, ◌+◌, ◌++◌, ◌∙◌, ℕ, zero, suc, List, [], ◌∷◌, Option, Some, None, length, take, get_or, reverse, reverse-append, take-suc, refl, sym, ap, subst, ⊎_elim, cases_lt, arith, nat_tests, Contains, Contains-append_cases}
+use Rattle.dvg_recipe.proofs.Common.{◌≡◌, ◌<◌, ◌++◌, ◌∙◌, ℕ, zero, suc, List, [], ◌∷◌, Option, Some, None, length, take, get_or, reverse, reverse-append, take-suc, refl, sym, ap, subst, ⊎_elim, cases_lt, arith, nat_tests, Contains, Contains-append_cases}
 use Rattle.dvg_check.proofs.Common.{Entry, Key, Item, Known, Frame, target}
 use Rattle.dvg_words.specs.Memory.{Rom}
 use Rattle.dvg_words.specs.declared.machine.Machine.TheVariants.{Board}
@@ -10,7 +10,7 @@ use Rattle.dvg_check.proofs.Common.{listed_claim}
 use Rattle.std.proofs.lemmas.List.{get_or_append_left, get_or_push, length_push}
 use Rattle.dvg_check.proofs.Common.{IsSoundCursor, ADDRESS_END, next_address}
 use Rattle.dvg_words.specs.Decoding.{InstrFits}
-use Rattle.dvg_recipe.specs.Recipes.{NamesMade, Names, ComesTo}
+use Rattle.dvg_recipe.specs.Members.{NamesMade, Names, ComesTo}
 use Rattle.dvg_recipe.specs.Private.KnownPlaces.{AreFramesItems, AreKnownTo}
 
 made_once : (rom : Rom) (to : ℕ) (scale : Key) (a b : Option Entry) → NamesMade rom to scale a → NamesMade rom to scale b → a ≡ b

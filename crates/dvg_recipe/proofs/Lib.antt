@@ -1,6 +1,6 @@
 pub mod Common
 pub mod Sets
-pub mod Leading
+pub mod PastParts
 pub mod Turns
 pub mod Fronts
 pub mod Frames
@@ -8,6 +8,9 @@ pub mod Fitting
 pub mod Past
 pub mod Knowing
 pub mod Judging
+pub mod Spelled
+pub mod Standing
+pub mod Once
 pub mod Sounds
 pub mod Doing
 pub mod Members

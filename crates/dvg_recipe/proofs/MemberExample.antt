@@ -3,7 +3,8 @@ use Rattle.dvg_recipe.proofs.Common.{◌≡◌, ◌≤◌, ◌+◌, ◌∙◌, �
 use Rattle.dvg_check.proofs.Common.{ints, pos, negsuc, Item, Board, Short, Long, Holds, Halt, Labs, Jsrl, Draws, Frame, frame_word, Source}
 unfoldable use Rattle.dvg_check.proofs.Common.{cell_at, instruction_of}
 use Rattle.dvg_items.proofs.Leading.{same_lead, too_long}
-use Rattle.dvg_recipe.specs.Recipes.{Recipe, Area, Piece, Row, Either', AddsRow, Spells, Takes, Belongs}
+use Rattle.dvg_recipe.specs.Recipes.{Leading, Recipe, Area, Piece, Row, Either', AddsRow, Spells, Takes}
+use Rattle.dvg_recipe.specs.Members.{IsMember, LeadsInto}
 use Rattle.dvg_words.specs.Memory.{Rom}
 use Rattle.dvg_recipe.specs.Private.KnownPlaces.{ItemsOver}
 use Rattle.dvg_recipe.specs.Private.Indices.{Leads, PieceLeads, RowLeads, PartLeads, TimesOver, ListStarts, RecipeLeads}
@@ -14,7 +15,7 @@ use Rattle.dvg_recipe.proofs.Fronts.{recipe_back}
 
 -- items that lead to a HALT are those by which the frame belongs to a recipe
 pub one_way : (words : List ℕ) (items : List Item) (at : ℕ) → LeadsTo Frame (frame_word Board words) 0 items at
-    → cell_at (frame_word Board words) at ≡ Holds Short Halt → (rom : Rom) (recipe : Recipe) → (b : Belongs rom recipe words)
+    → cell_at (frame_word Board words) at ≡ Holds Short Halt → (rom : Rom) (recipe : Recipe) → (b : IsMember rom recipe words)
     → b.items ≡ items
 one_way words items at leads halts rom recipe b =
     let source : Source = frame_word Board words in
@@ -72,33 +73,33 @@ unfolding instruction_of
 dot_taken = refl
 
 -- a vector of pieces adds what they add
-pub row_of : (pieces : List Piece) (v : VecOf pieces) (rom : Rom) (before after : List Item) → AddsRow pieces rom before after
-    → Spells (Row v.0) rom before after
-row_of pieces v rom before after h = subst (λ (l : List Piece). AddsRow l rom before after) (sym v.1) h
+pub row_of : (pieces : List Piece) (v : VecOf pieces) (into : Leading) (before after : List Item) → AddsRow pieces into before after
+    → Spells (Row v.0) into before after
+row_of pieces v into before after h = subst (λ (l : List Piece). AddsRow l into before after) (sym v.1) h
 
 module _ (rom : Rom) (p : ExampleParts) where
   call_taken : Takes (call_piece p.targets.0).kind Short (Jsrl 0x803)
   call_taken = subst (λ (l : List ℕ). Contains l 0x803) (sym p.targets.1) (1, omega arith, refl)
 
-  start_spelled : Spells (Row p.start.0) rom [] (call_item ∷ place_item 0xFF8 ∷ [])
+  start_spelled : Spells (Row p.start.0) (LeadsInto rom) [] (call_item ∷ place_item 0xFF8 ∷ [])
   start_spelled =
-      row_of (place_piece ∷ call_piece p.targets.0 ∷ []) p.start rom [] (call_item ∷ place_item 0xFF8 ∷ []) (
+      row_of (place_piece ∷ call_piece p.targets.0 ∷ []) p.start (LeadsInto rom) [] (call_item ∷ place_item 0xFF8 ∷ []) (
         place_item 0xFF8 ∷ [],
         record { item = place_item 0xFF8; one_more = refl; taken = place_taken; arrives = tt },
         (call_item ∷ place_item 0xFF8 ∷ [], record { item = call_item; one_more = refl; taken = call_taken; arrives = tt }, refl),
       )
 
-  stroke_spelled : (before : List Item) → Spells (Row p.stroke.0) rom before (stroke_item ∷ before)
+  stroke_spelled : (before : List Item) → Spells (Row p.stroke.0) (LeadsInto rom) before (stroke_item ∷ before)
   stroke_spelled before =
-      row_of (stroke_piece ∷ []) p.stroke rom before (stroke_item ∷ before)
+      row_of (stroke_piece ∷ []) p.stroke (LeadsInto rom) before (stroke_item ∷ before)
       (stroke_item ∷ before, record { item = stroke_item; one_more = refl; taken = stroke_taken; arrives = tt }, refl)
 
-  dot_spelled : (before : List Item) → Spells (Row p.dot.0) rom before (dot_item 5 ∷ before)
+  dot_spelled : (before : List Item) → Spells (Row p.dot.0) (LeadsInto rom) before (dot_item 5 ∷ before)
   dot_spelled before =
-      row_of (dot_piece ∷ []) p.dot rom before (dot_item 5 ∷ before)
+      row_of (dot_piece ∷ []) p.dot (LeadsInto rom) before (dot_item 5 ∷ before)
       (dot_item 5 ∷ before, record { item = dot_item 5; one_more = refl; taken = dot_taken; arrives = tt }, refl)
 
-  belongs : Belongs rom (example_recipe p) member_words
+  belongs : IsMember rom (example_recipe p) member_words
   belongs =
       let two : List Item = call_item ∷ place_item 0xFF8 ∷ [] in
       record {
@@ -197,7 +198,7 @@ unfolding cell_at instruction_of
 third_turn_halts = refl
 
 module _ (rom : Rom) (p : ExampleParts) where
-  past_place : Belongs rom (example_recipe p) past_place_words → ⊥
+  past_place : IsMember rom (example_recipe p) past_place_words → ⊥
   past_place b =
       let items : ItemsOver = record { rom = rom; items = place_item 0xFF7 ∷ call_item ∷ [] } in
       let same = one_way past_place_words (call_item ∷ place_item 0xFF7 ∷ []) 3 past_place_leads past_place_halts rom (example_recipe p)
@@ -206,7 +207,7 @@ module _ (rom : Rom) (p : ExampleParts) where
       let taken = subst (λ (i : Item). Takes place_piece.kind i.format i.instr) (sym placed.there) placed.taken in
       omega (arith, ints, taken.1.low)
 
-  third_turn : Belongs rom (example_recipe p) third_turn_words → ⊥
+  third_turn : IsMember rom (example_recipe p) third_turn_words → ⊥
   third_turn b =
       let items : ItemsOver = record { rom = rom; items = place_item 0xFF8 ∷ call_item ∷ dot_item 3 ∷ dot_item 4 ∷ dot_item 5 ∷ [] } in
       let same = one_way third_turn_words (dot_item 5 ∷ dot_item 4 ∷ dot_item 3 ∷ call_item ∷ place_item 0xFF8 ∷ []) 6 third_turn_leads

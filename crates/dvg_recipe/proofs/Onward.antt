@@ -1,12 +1,11 @@
 -- What leads on over the parts, the jumps and the lists of a recipe.
-use Rattle.std.proofs.Common.{◌-◌}
 use Rattle.dvg_recipe.proofs.Sounds.{next_listed}
 use Rattle.dvg_recipe.proofs.Common.{◌≡◌, ◌⊎◌, ◌≤◌, ◌<◌, ℕ, zero, suc, List, [], ◌∷◌, length, take, get_or, take-suc, take_all, refl, sym, subst, ⊎_elim, arith, Contains, Contains-append_cases}
 use Rattle.dvg_check.proofs.Common.{Window, Entry, Item, ◌≢◌}
 use Rattle.dvg_recipe.specs.Limits.{PartFits, JumpsFit, MOST_LEVELS, MOST_NESTED}
 use Rattle.dvg_recipe.specs.Recipes.{Part, Piece, Jump, Area, AddsRow, AddsJump, Spells, SpellsJumps, Times, BeginsAt}
 use Rattle.dvg_recipe.specs.Private.Hulls.{Hull, AreUnder, LeadOn}
-use Rattle.dvg_recipe.specs.Private.Judging.{Adds, Both, TimesOver, Turns, IsTaken, IsJump, IsFront, IsGoodFront, Carries, IsFirst, AreListStarts, IsCounted}
+use Rattle.dvg_recipe.specs.Private.Judging.{Adds, Both, TimesOver, Turns, IsTaken, IsJump, IsFront, IsGoodFront, KnownInto, Carries, IsFirst, AreListStarts, IsCounted}
 use Rattle.dvg_recipe.proofs.Judging.{extends_part, good_under, carries_same, carries_row_whole, carries_both, carries_under, carries_either, good_item, carries_piece, carries_jump, carries_row_next, turn_next, turns_more, carries_jumps_next}
 
 -- ---- hulls behind hulls
@@ -39,7 +38,7 @@ module _ (w : Window) (list : List Entry) (budget : ℕ) where
   then_both a b xs ys zs h k = carries_both w list budget (Spells a) (Spells b) xs ys zs (extends_part b) h k
 
   pub either_one : (R S : Adds) (xs ys zs all : List Hull) → AreUnder ys all → AreUnder zs all → Carries w list budget R xs ys
-      → Carries w list budget S xs zs → Carries w list budget (λ rom before after. R rom before after ⊎ S rom before after) xs all
+      → Carries w list budget S xs zs → Carries w list budget (λ into before after. R into before after ⊎ S into before after) xs all
   either_one R S xs ys zs all u v h k =
       carries_either w list budget R S xs xs all (carries_under w list budget R xs ys all u h) (carries_under w list budget S xs zs all v k)
 
@@ -57,8 +56,8 @@ module _ (w : Window) (list : List Entry) (budget : ℕ) where
     least_turns least xs ys zs u h =
         carries_under w list budget (Turns least least (Spells body)) xs ys zs u
         (record {
-          each = λ rom made words before after t f good. h.each rom made words before after
-              (subst (λ n. Times n (Spells body rom) before after) (omega (arith, t.1, t.2)) t.3) f good;
+          each = λ words before after t f good. h.each words before after
+              (subst (λ n. Times n (Spells body (KnownInto w list budget words)) before after) (omega (arith, t.1, t.2)) t.3) f good;
         })
 
     pub more_turns : (least n m : ℕ) (xs here next more : List Hull) → m ≡ suc n
@@ -89,7 +88,7 @@ only_area a b (suc k, lt, is) = absurd (omega (arith, lt))
 
 module _ (w : Window) (list : List Entry) (budget : ℕ) where
   good_start : (h : Hull) (words : List ℕ) → IsFirst h → IsGoodFront w list budget (h ∷ []) words []
-  good_start h words first = record { covered = first; comes = λ rom made. refl; kept = tt }
+  good_start h words first = record { covered = first; comes = λ rom made. refl; each = tt; kept = tt }
 
   pub starts_none : (areas : List Area) (here : List Hull) → AreListStarts w list budget (take 0 areas) here
   starts_none areas here = record { each = λ words items b f. absurd (omega (arith, b.1.1)) }

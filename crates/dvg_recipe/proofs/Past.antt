@@ -13,7 +13,7 @@ use Rattle.dvg_items.proofs.Common.{clamps}
 use Rattle.dvg_items.specs.Bounds.{ITEM_REACH}
 use Rattle.dvg_items.proofs.Reached.{reached_more, reached_shift}
 use Rattle.dvg_cert.specs.declared.limits.TheConstants.{MOST_WORDS}
-use Rattle.dvg_recipe.specs.Private.Hulls.{Rectangle, Places, Lost, Within, Hull, Motion, To, Away, By, Light, Dark, Shown, Unbounded, Change, IsInRectangle, IsAmong, IsInHull, IsMotion, IsLight, IsChange, moved, places_past, hull_past, around, common, part_in, places_in, joined_places, joined, IsInto, IsNearInto, IsNearRectangle, AreNearPlaces, IsNearMotion, IsSoundHull, IsSoundChange, HasFormat, IsShown, LightsIn, HullKeeps, KeepsOthers}
+use Rattle.dvg_recipe.specs.Private.Hulls.{Rectangle, Places, Lost, Within, Hull, Motion, To, Away, By, Light, Dark, Shown, Unbounded, Change, IsInRectangle, IsAmong, IsNotOutside, IsInHull, IsMotion, IsLight, IsChange, moved, places_past, hull_past, around, common, part_in, places_in, joined_places, joined, IsInto, IsNearInto, IsNearRectangle, AreNearPlaces, IsNearMotion, IsSoundHull, IsSoundChange, HasFormat, IsShown, LightsIn, HullKeeps, KeepsOthers}
 
 -- ---- rectangles
 
@@ -66,26 +66,26 @@ common_in r s p h k =
 
 -- where the item leads, whatever it calls: a draw calls nothing
 into_place : (r : Rectangle) (named : Option Entry) (k : Known) (i : Item) → IsInto (Some r) k i
-    → IsAmong (Within r) (known_past Board i named k).place
+    → IsNotOutside r (known_past Board i named k).place
 into_place r named k i (d, is, there) =
-    subst (λ (e : Effect). IsAmong (Within r) (place_past e k.place))
+    subst (λ (e : Effect). IsNotOutside r (place_past e k.place))
     (ap (λ (j : Instr). effect_of Board j k.scale None) is ∙ sym (ap (λ (j : Instr). effect_of Board j k.scale named) is)) there
 
 into_on : (into : Option Rectangle) (places : Places) (named : Option Entry) (k : Known) (i : Item)
     → IsAmong places (known_past Board i named k).place → IsInto into k i
     → IsAmong (places_in into places) (known_past Board i named k).place
 into_on None places named k i h t = h
-into_on (Some r) Lost named k i h t = into_place r named k i t
+into_on (Some r) Lost named k i h t = tt
 into_on (Some r) (Within s) named k i h t = both (known_past Board i named k).place (into_place r named k i t) h
   where
-    both : (place : End) → IsAmong (Within r) place → IsAmong (Within s) place → IsAmong (Within (common r s)) place
-    both (Rel x y) a b = absurd a
+    both : (place : End) → IsNotOutside r place → IsAmong (Within s) place → IsAmong (Within (common r s)) place
+    both (Rel x y) a b = absurd b
     both (Abs x y) a b = common_in r s (record { x = x; y = y }) a b
-    both LostEnd a b = absurd a
+    both LostEnd a b = absurd b
 
 -- a lit draw ends where it leads
 draw_ends : (r : Rectangle) (d : DrawFields) (bright : ℕ) (scale : Key) (x y : ℤ) (a b : Point)
-    → IsAmong (Within r) (place_past (draw_effect Board d scale) (Abs x y)) → draw_extent Board bright d scale ≡ Between a b
+    → IsNotOutside r (place_past (draw_effect Board d scale) (Abs x y)) → draw_extent Board bright d scale ≡ Between a b
     → IsInRectangle r (shift (record { x = x; y = y }) b)
 draw_ends r d zero scale x y a b there is = absurd (no_light scale is)
   where
@@ -96,15 +96,18 @@ draw_ends r d (suc n) (At g) x y a b there is = subst (λ (q : Point). IsInRecta
   where
     second : Between origin (displacement Board d g) ≡ Between a b → displacement Board d g ≡ b
     second e = grind (arith, e)
-draw_ends r d (suc n) Any x y a b there is = absurd there
+draw_ends r d (suc n) Any x y a b there is = absurd (nowhere is)
+  where
+    nowhere : Anywhere ≡ Between a b → ⊥
+    nowhere e = grind (arith, e)
 
 -- what is lit into a rectangle ends there
 ends_in : (r : Rectangle) (named : Option Entry) (k : Known) (i : Item) (x y : ℤ) (a b : Point) → IsInto (Some r) k i → k.place ≡ Abs x y
     → extent_of Board i.instr k.scale named ≡ Between a b → IsInRectangle r (shift (record { x = x; y = y }) b)
 ends_in r named k i x y a b (d, is, there) at lit =
     draw_ends r d d.bright k.scale x y a b
-    (subst (λ (p : End). IsAmong (Within r) (place_past (draw_effect Board d k.scale) p)) at
-    (subst (λ (e : Effect). IsAmong (Within r) (place_past e k.place)) (ap (λ (j : Instr). effect_of Board j k.scale None) is) there))
+    (subst (λ (p : End). IsNotOutside r (place_past (draw_effect Board d k.scale) p)) at
+    (subst (λ (e : Effect). IsNotOutside r (place_past e k.place)) (ap (λ (j : Instr). effect_of Board j k.scale None) is) there))
     (sym (ap (λ (j : Instr). extent_of Board j k.scale named) is) ∙ lit)
 
 -- ---- what is lit
@@ -320,7 +323,7 @@ common_near n r s h k = (
 into_near : (n : ℕ) (into : Option Rectangle) (places : Places) → 1 ≤ n → IsNearInto into → AreNearPlaces n places
     → AreNearPlaces n (places_in into places)
 into_near n None places some h k = k
-into_near n (Some r) Lost some h k = more_near 1 n r some h
+into_near n (Some r) Lost some h k = tt
 into_near n (Some r) (Within s) some h k = common_near n r s (more_near 1 n r some h) k
 
 pub past_sound : (h : Hull) (c : Change) → IsSoundHull h → IsSoundChange c → c.words + h.words ≤ MOST_WORDS → IsSoundHull (hull_past c h)

@@ -1,5 +1,5 @@
 -- Sets of hulls.
-use Rattle.dvg_recipe.proofs.Common.{◌≡◌, ◌<◌, ◌+◌, ◌⊎◌, ◌∙◌, ℕ, suc, zero, List, [], ◌∷◌, ◌++◌, length, take, get_or, take-suc, take_all, sym, subst, ap, inl, inr, ⊎_elim, arith, cases_lt, Contains, Contains-append_cases, Contains-get_or}
+use Rattle.dvg_recipe.proofs.Common.{◌≡◌, ◌<◌, ◌⊎◌, ◌∙◌, ℕ, suc, zero, List, [], ◌∷◌, ◌++◌, length, take, get_or, take-suc, take_all, sym, subst, ap, inl, inr, ⊎_elim, arith, cases_lt, Contains, Contains-append_cases, Contains-get_or}
 use Rattle.std.proofs.lemmas.List.{length-set, get_or-set_same, get_or-set_other}
 use Rattle.std.proofs.Common.{set, ◌≤◌}
 use Rattle.dvg_check.proofs.Common.{Known, ◌≢◌}

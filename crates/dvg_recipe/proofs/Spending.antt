@@ -7,9 +7,9 @@ use Rattle.dvg_items.specs.Known.{scale_before, scale_set}
 use Rattle.dvg_clocks.specs.declared.clocks.States.{States}
 use Rattle.dvg_clocks.specs.declared.clocks.ClockRange.{ClockRange}
 use Rattle.dvg_clocks.specs.Forecasts.{plus, just, clocks_known, taken_before}
-use Rattle.dvg_recipe.specs.Recipes.{PieceKind, Place, Takes, TakesPlace, TakesCall, PlaceRange, Part, Piece, Jump, Area, Recipe, AddsPiece, AddsRow, Spells, SpellsJumps, Times, BeginsAt}
+use Rattle.dvg_recipe.specs.Recipes.{Leading, PieceKind, Place, Takes, TakesPlace, TakesCall, PlaceRange, Part, Piece, Jump, Area, Recipe, AddsPiece, AddsRow, Spells, SpellsJumps, Times, BeginsAt}
 use Rattle.dvg_recipe.specs.Private.Judging.{Adds, AddsJumpTo, Both, TimesOver, Turns}
-use Rattle.dvg_recipe.specs.Private.Clocks.{MostClocks, most_at, IsUnder, AreNoMore, AreAlike, IsLabsAt, TakeOn, Spend, StartWith, EndWith, AreUnderMost, AreListsUnder, scale_past, taken_past}
+use Rattle.dvg_recipe.specs.Private.Clocks.{Anywhere, MostClocks, most_at, IsUnder, AreNoMore, AreAlike, IsLabsAt, TakeOn, Spend, StartWith, EndWith, AreUnderMost, AreListsUnder, scale_past, taken_past}
 use Rattle.dvg_recipe.proofs.Judging.{row_split, jumps_split, times_last, JumpPart}
 use Rattle.dvg_recipe.proofs.Onward.{begins_here, begins_there, only_area}
 
@@ -129,18 +129,18 @@ module _ (t : States) (list : List Entry) (by_entry : Entry → ClockRange) wher
 
   pub spend_both : (R S : Adds) (xs ys zs : MostClocks) → Spend t list by_entry R xs ys → Spend t list by_entry S ys zs
       → Spend t list by_entry (Both R S) xs zs
-  spend_both R S xs ys zs h k = record { each = λ rom before after b under. k.each rom b.0 after b.2 (h.each rom before b.0 b.1 under) }
+  spend_both R S xs ys zs h k = record { each = λ before after b under. k.each b.0 after b.2 (h.each before b.0 b.1 under) }
 
-  pub spend_as : (R S : Adds) (xs ys : MostClocks) → ((rom : _) (before after : List Item) → S rom before after → R rom before after)
+  pub spend_as : (R S : Adds) (xs ys : MostClocks) → ((into : Leading) (before after : List Item) → S into before after → R into before after)
       → Spend t list by_entry R xs ys → Spend t list by_entry S xs ys
-  spend_as R S xs ys g h = record { each = λ rom before after s under. h.each rom before after (g rom before after s) under }
+  spend_as R S xs ys g h = record { each = λ before after s under. h.each before after (g Anywhere before after s) under }
 
   pub spend_either : (R S : Adds) (xs ys zs all : MostClocks) → AreNoMore ys all → AreNoMore zs all → Spend t list by_entry R xs ys
-      → Spend t list by_entry S xs zs → Spend t list by_entry (λ rom before after. R rom before after ⊎ S rom before after) xs all
+      → Spend t list by_entry S xs zs → Spend t list by_entry (λ into before after. R into before after ⊎ S into before after) xs all
   spend_either R S xs ys zs all u v h k =
       record {
-        each = λ rom before after s under. ⊎_elim (λ r. u.each _ _ (h.each rom before after r under))
-            (λ q. v.each _ _ (k.each rom before after q under)) s;
+        each = λ before after s under. ⊎_elim (λ r. u.each _ _ (h.each before after r under))
+            (λ q. v.each _ _ (k.each before after q under)) s;
       }
 
   pub part_as : (part other : Part) (xs ys : MostClocks) → part ≡ other → Spend t list by_entry (Spells part) xs ys
@@ -160,7 +160,7 @@ module _ (t : States) (list : List Entry) (by_entry : Entry → ClockRange) wher
       → Spend t list by_entry (AddsPiece piece) xs ys
   spend_piece piece xs ys on =
       record {
-        each = λ rom before after a under. spend_item (λ i. Takes piece.kind i.format i.instr) xs ys before after a.item on
+        each = λ before after a under. spend_item (λ i. Takes piece.kind i.format i.instr) xs ys before after a.item on
             a.one_more a.taken under;
       }
 
@@ -168,7 +168,7 @@ module _ (t : States) (list : List Entry) (by_entry : Entry → ClockRange) wher
       → Spend t list by_entry (AddsJumpTo to) xs ys
   spend_jump to xs ys on =
       record {
-        each = λ rom before after a under. spend_item (λ i. (to : ℕ) × (i.instr ≡ Jmpl to)) xs ys before after a.item on
+        each = λ before after a under. spend_item (λ i. (to : ℕ) × (i.instr ≡ Jmpl to)) xs ys before after a.item on
             a.one_more (to, a.jumps) under;
       }
 
@@ -218,18 +218,18 @@ module _ (t : States) (list : List Entry) (by_entry : Entry → ClockRange) wher
         → Spend t list by_entry (Turns least least (Spells body)) xs ys
     least_turns least n xs ys is h =
         record {
-          each = λ rom before after turns under. h.each rom before after
-              (subst (λ m. Times m (Spells body rom) before after) (omega (arith, is, turns.1, turns.2)) turns.3) under;
+          each = λ before after turns under. h.each before after
+              (subst (λ m. Times m (Spells body Anywhere) before after) (omega (arith, is, turns.1, turns.2)) turns.3) under;
         }
 
     pub more_turns : (least n m : ℕ) (xs here next more : MostClocks) → m ≡ suc n
         → Spend t list by_entry (Turns least n (Spells body)) xs next → Spend t list by_entry (TimesOver m (Spells body)) xs here
         → AreNoMore next more → AreNoMore here more → Spend t list by_entry (Turns least m (Spells body)) xs more
     more_turns least n m xs here next more is h k u v = record {
-      each = λ rom before after turns under. ⊎_elim
-          (λ less. u.each _ _ (h.each rom before after (turns.0, turns.1, omega (arith, is, less), turns.3) under))
-          (λ same. v.each _ _ (k.each rom before after
-          (subst (λ l. Times l (Spells body rom) before after) (omega (arith, same, turns.2)) turns.3) under))
+      each = λ before after turns under. ⊎_elim
+          (λ less. u.each _ _ (h.each before after (turns.0, turns.1, omega (arith, is, less), turns.3) under))
+          (λ same. v.each _ _ (k.each before after
+          (subst (λ l. Times l (Spells body Anywhere) before after) (omega (arith, same, turns.2)) turns.3) under))
           (cases_lt turns.0 m);
     }
 
@@ -271,8 +271,8 @@ module _ (t : States) (list : List Entry) (by_entry : Entry → ClockRange) wher
       → Spend t list by_entry (Spells recipe.body) start between → Spend t list by_entry (SpellsJumps recipe.jumps) between ends
       → EndWith t list by_entry recipe ends
   end_with recipe start between ends lists body jumps = record {
-    each = λ rom items s. jumps.each rom s.between items s.jumped
-        (body.each rom s.start s.between s.spelled (lists.each s.start (s.area, s.listed, s.begins)));
+    each = λ items s. jumps.each s.between items s.jumped
+        (body.each s.start s.between s.spelled (lists.each s.start (s.area, s.listed, s.begins)));
   }
 
   -- with a HALT behind it, a list takes what is known at all scales and what the HALT takes
@@ -280,11 +280,11 @@ module _ (t : States) (list : List Entry) (by_entry : Entry → ClockRange) wher
       → ((scale : Key) (n : ClockRange) → IsUnder n (most_at ends scale) → IsUnder n (Some before))
       → most ≡ plus (plus (clocks_known t Short Halt Any) (just 0)) before → AreListsUnder t list by_entry recipe most
   lists_under recipe ends before most all greatest is = record {
-    each = λ rom items at format s. subst
+    each = λ items at format s. subst
         (λ m. IsUnder (taken_before (clocks_known t) by_entry (frame_context Board list)
         (record { at = at; format = format; instr = Halt } ∷ items)) (Some m)) (sym is)
         (under format (scale_before (frame_context Board list) items)
-        (taken_before (clocks_known t) by_entry (frame_context Board list) items) (greatest _ _ (all.each rom items s)));
+        (taken_before (clocks_known t) by_entry (frame_context Board list) items) (greatest _ _ (all.each items s)));
   }
     where
       under : (format : Format) (scale : Key) (n : ClockRange) → IsUnder n (Some before)

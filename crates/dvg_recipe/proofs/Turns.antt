@@ -1,7 +1,7 @@
 -- The turns of a repeat.
 use Rattle.dvg_recipe.proofs.Common.{◌≡◌, ◌≤◌, ◌+◌, ◌-◌, ℕ, zero, suc, List, Contains, refl, sym, subst, inl, inr, ⊎_elim, arith, cases_lt}
 use Rattle.dvg_recipe.specs.Private.Indices.{Leads, Both, TimesOver, Turns, IsPast, IsJoined}
-use Rattle.dvg_recipe.proofs.Leading.{past_as, past_both, past_same, past_to}
+use Rattle.dvg_recipe.proofs.PastParts.{past_as, past_both, past_same, past_to}
 
 module _ (R : Leads) where
   times_join : (n : ℕ) (i j : ℕ) → Both (TimesOver n R) R i j → TimesOver (suc n) R i j

@@ -13,7 +13,8 @@ use Rattle.dvg_check.specs.declared.fault.FrameWhy.TheVariants as frame
 use Rattle.dvg_check.specs.declared.verdict.Refusal.TheVariants as refusal
 use Rattle.dvg_make.specs.declared.judging.FrameRefusal.{FrameRefusal}
 use Rattle.dvg_make.specs.declared.judging.FrameRefusal.TheVariants.{Check}
-use Rattle.dvg_recipe.specs.Recipes.{Recipe, Belongs, Piece, Place, Call, Draw, Fixed, Row, Then', Either', Repeat'}
+use Rattle.dvg_recipe.specs.Recipes.{Recipe, Piece, Place, Call, Draw, Fixed, Row, Then', Either', Repeat'}
+use Rattle.dvg_recipe.specs.Members.{IsMember}
 use Rattle.dvg_recipe.specs.Means.{AllMean}
 use Rattle.dvg_recipe.specs.Members.{IsMemberVerdict}
 
@@ -100,10 +101,10 @@ third_turn_words = 0xAFF8 ∷ 0x2064 ∷ 0xC803 ∷ 0xF0F0 ∷ 0xF0F0 ∷ 0xF0F0
 
 -- the first frame belongs by these items; one with a place past the range does not, nor does one with a turn too many
 pub record WorkedBelonging (rom : Rom) (recipe : Recipe) : Type 0 where
-  pub belongs : Belongs rom recipe member_words
+  pub belongs : IsMember rom recipe member_words
   pub items : belongs.items ≡ member_items
-  pub past_place : Belongs rom recipe past_place_words → ⊥
-  pub third_turn : Belongs rom recipe third_turn_words → ⊥
+  pub past_place : IsMember rom recipe past_place_words → ⊥
+  pub third_turn : IsMember rom recipe third_turn_words → ⊥
 
 -- over any ROM, and wherever the recipe lies in memory
 abbrev pub WorkedMembers : Type 0
@@ -140,7 +141,7 @@ edge_words = 0xA100 ∷ 0x0000 ∷ 0xC800 ∷ 0xB000 ∷ []
 -- from Y 256 the stroke ends at 1023, the edge of the screen: each frame is all that a yes means, with at most seven words and one return
 -- place
 pub record WorkedAcceptance (recipe : Recipe) : Type 0 where
-  pub member : Belongs (rom_for Board) recipe edge_words
+  pub member : IsMember (rom_for Board) recipe edge_words
   pub accepted : AllMean (rom_for Board) recipe screen 7 1
 
 -- the bytes of LABS to X 0 and Y 257 at scale 0; JSRL 800; HALT

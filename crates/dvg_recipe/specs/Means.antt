@@ -8,12 +8,15 @@ use Rattle.dvg_clocks.specs.Clocks.{TakenOnCircuit, clocks_of_instr}
 use Rattle.dvg_clocks.specs.declared.clocks.ClockRange.{ClockRange}
 use Rattle.dvg_clocks.specs.declared.clocks.States.{States}
 use Rattle.dvg_recipe.specs.Recipes.{Recipe, Belongs}
+use Rattle.dvg_recipe.specs.Members.{IsMember}
 
--- each frame of the recipe over this ROM is all that a yes means, with counts of its own that are no greater than these (profile)
-abbrev pub AllMean : Rom → Recipe → Window → ℕ → ℕ → Type 0
-AllMean rom recipe w words depth =
-    (frame : List ℕ) → Belongs rom recipe frame
-    → (n d : ℕ) × (n ≤ words) × (d ≤ depth) × Means Exact (record { frame = frame; rom = rom }) w n d
+-- what a yes on a recipe over this ROM says (profile)
+pub record AllMean (rom : Rom) (recipe : Recipe) (w : Window) (words depth : ℕ) : Type 0 where
+  -- each frame of the recipe is all that a yes on a frame says, with counts of its own that are no greater than these
+  pub each : (frame : List ℕ) → Belongs rom recipe frame
+      → (n d : ℕ) × (n ≤ words) × (d ≤ depth) × Means Exact (record { frame = frame; rom = rom }) w n d
+  -- a frame of the recipe by what is known of its items is one by what its runs do
+  pub members : (frame : List ℕ) → IsMember rom recipe frame → Belongs rom recipe frame
 
 -- each frame of the recipe over this ROM takes so much on the circuit, by the table of states: what a range of its own says, of which
 -- neither end is past that of this one (profile)

@@ -4,7 +4,7 @@
 //! indices where it may begin to that of the indices where it may end.
 
 ghost use Rattle.std.specs.Prelude.{◌≡◌, ◌↔◌, ◌+◌, ◌^◌, ◌<◌, ℕ, false, Contains, length, IsTrue, IfOk, IfErr, IfSome, IfNone};
-ghost use Rattle.dvg_recipe.specs.Recipes.{Belongs};
+ghost use Rattle.dvg_recipe.specs.Members.{IsMember};
 ghost use Rattle.dvg_recipe.specs.Private.Indices.{IsPast, PieceLeads, RowLeads, Turns, PartLeads, JumpLeads, JumpsLead, ListStarts, SomeStarts, RecipeLeads, AreThose};
 ghost use Rattle.dvg_recipe.specs.Private.Belonging.{IfLeaves};
 ghost use Rattle.dvg_recipe.specs.Private.KnownPlaces.{AreFramesItems};
@@ -324,8 +324,8 @@ pub fn belongs(
     recipe: &Recipe,
     frame: &FrameImage,
 ) -> Result<(), NotMember>
-    ensures ok { IfOk result (λ _. Belongs rom.now recipe.now frame.now) }
-    ensures err { IfErr result (IfLeaves (Belongs rom.now recipe.now frame.now → ⊥)) }
+    ensures ok { IfOk result (λ _. IsMember rom.now recipe.now frame.now) }
+    ensures err { IfErr result (IfLeaves (IsMember rom.now recipe.now frame.now → ⊥)) }
 {
     frame.prove_whole();
     let all = frame_items(alloc, frame)?;

@@ -10,7 +10,8 @@ ghost use Rattle.dvg_items.specs.Known.{target};
 ghost use Rattle.dvg_items.specs.Bounds.{IsSoundCursor};
 ghost use Rattle.dvg_make.specs.Made.{AllMade};
 ghost use Rattle.dvg_make.specs.Refusals.{BarsEntry};
-ghost use Rattle.dvg_recipe.specs.Recipes.{NamesMade, Names, ComesTo, IsPlaceIn, IsEndIn, LeadsInto, Arrives};
+ghost use Rattle.dvg_recipe.specs.Recipes.{IsPlaceIn, Arrives};
+ghost use Rattle.dvg_recipe.specs.Members.{NamesMade, Names, ComesTo, IsEndIn, LeadsInto};
 ghost use Rattle.dvg_recipe.specs.Private.KnownPlaces.{AreFramesItems, AreKnownTo};
 
 use crate::piece::{PieceKind, PlaceSpan, Span};
@@ -95,7 +96,7 @@ impl<'a> KnownPlaces<'a> {
 
     /// Whether they lead to where a draw of a piece has to.
     pub fn arrives(&self, kind: &PieceKind, index: usize) -> Result<bool, AllocError>
-        ensures { IfOk result (λ yes. IsTrue yes ↔ Arrives self.now.rom kind.now (reverse (take index self.now.items))) }
+        ensures { IfOk result (λ yes. IsTrue yes ↔ Arrives (LeadsInto self.now.rom) kind.now (reverse (take index self.now.items))) }
     {
         match kind {
             PieceKind::Draw(range) => self.leads_to(&range.to, index),

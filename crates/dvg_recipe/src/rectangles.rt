@@ -69,14 +69,13 @@ pub fn part_in(into: &Option<Rectangle>, r: &Rectangle) -> Rectangle
     }
 }
 
-/// The places that are in a rectangle, if there is one.
+/// The places that are in a rectangle, if there is one. A lost place stays lost: a draw that has to lead somewhere is stuck there.
 pub fn places_in(into: &Option<Rectangle>, places: &Places) -> Places
     ensures { result ≡ places_in into.now places.now }
 {
     match (into, places) {
-        (None, _) => *places,
-        (Some(into), Places::Lost) => Places::Within(*into),
         (Some(into), Places::Within(r)) => Places::Within(common(into, r)),
+        (None, _) | (Some(_), Places::Lost) => *places,
     }
 }
 

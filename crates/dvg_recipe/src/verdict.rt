@@ -168,12 +168,13 @@ fn verdict_noting(
 /// Judges all frames of a recipe over a vector ROM on the board, by the certificate that is made for all that they call.
 ///
 /// `budget` is how many words a frame may take at most, up to 1,000,000, `window` where strokes may be lit. Where it answers words and
-/// depth, each frame of the recipe is safe, as [`check_parts_exact`](dvg_check::check_parts_exact) says, with counts of its own that
-/// are no greater. Else it answers the first of these: 57 if the longest list doesn't fit, 60 to 62 for the first call whose entry can't
-/// be made, 25 for the first made shape that lights outside the window, and 44 to 48 for the first piece at which some frame breaks a
-/// rule, the pieces in the order of reading with repeats written out, and of the rules there the one of the lowest number. That a recipe
-/// is refused only where one of its frames is, and that the words and the depth are those of one of its frames, is only tested. Takes
-/// memory for the certificate and its making.
+/// depth, each frame that belongs to the recipe by its runs is safe, as [`check_parts_exact`](dvg_check::check_parts_exact) says, with
+/// counts of its own that are no greater; and each that [`belongs`](crate::belongs) finds to belong does so by its runs. Else it answers
+/// the first of these: 57 if the longest list doesn't fit, 60 to 62 for the first call whose entry can't be made, 25 for the first made
+/// shape that lights outside the window, and 44 to 48 for the first piece at which some frame breaks a rule, the pieces in the order of
+/// reading with repeats written out, and of the rules there the one of the lowest number. That a recipe is refused only where one of its
+/// frames is, and that the words and the depth are those of one of its frames, is only tested. Takes memory for the certificate and its
+/// making.
 pub fn judge_recipe(
     alloc: Global,
     rom: &RomImage,

@@ -4,7 +4,6 @@ use Rattle.dvg_words.specs.declared.machine.Machine.TheVariants.{Board}
 use Rattle.dvg_words.specs.declared.instruction.Format.{Format}
 use Rattle.dvg_words.specs.declared.instruction.Instr.TheVariants.{Halt, Labs}
 use Rattle.dvg_words.specs.declared.instruction.Instr.{Instr}
-use Rattle.dvg_words.specs.Memory.{Rom}
 use Rattle.dvg_cert.specs.declared.entry.Entry.{Entry}
 use Rattle.dvg_cert.specs.declared.entry.Key.{Key}
 use Rattle.dvg_cert.specs.declared.entry.Key.TheVariants.{At, Any}
@@ -14,7 +13,7 @@ use Rattle.dvg_items.specs.Known.{target, callee_at, scale_set, scale_before, fr
 use Rattle.dvg_clocks.specs.declared.clocks.States.{States}
 use Rattle.dvg_clocks.specs.declared.clocks.ClockRange.{ClockRange}
 use Rattle.dvg_clocks.specs.Forecasts.{plus, callee_taken, clocks_known, taken_before}
-use Rattle.dvg_recipe.specs.Recipes.{Area, Recipe, SpellsList}
+use Rattle.dvg_recipe.specs.Recipes.{Area, Recipe, Leading, SpellsList}
 use Rattle.dvg_recipe.specs.Private.Judging.{Adds, BeginsAtOne}
 pub use Rattle.dvg_recipe.specs.declared.most_clocks.MostClocks.{MostClocks}
 
@@ -56,6 +55,10 @@ pub record AreAlike (t : States) (i j : Item) : Type 0 where
   pub calls : target Frame i.instr ≡ target Frame j.instr
   pub sets : (named : Option Entry) → scale_set i.instr named ≡ scale_set j.instr named
 
+-- draws may lead anywhere
+abbrev pub Anywhere : Leading
+Anywhere to items = Unit {0}
+
 -- by this table of states, these entries, and what is said of their shapes
 module _ (t : States) (list : List Entry) (by_entry : Entry → ClockRange) where
   -- the entry that an item names at a scale
@@ -84,7 +87,7 @@ module _ (t : States) (list : List Entry) (by_entry : Entry → ClockRange) wher
 
   -- where the items before take no more than the most there, so do all of them
   pub record Spend (R : Adds) (here next : MostClocks) : Type 0 where
-    pub each : (rom : Rom) (before after : List Item) → R rom before after → AreUnderMost here before → AreUnderMost next after
+    pub each : (before after : List Item) → R Anywhere before after → AreUnderMost here before → AreUnderMost next after
 
   -- so do all that lead to a list
   pub record StartWith (areas : List Area) (next : MostClocks) : Type 0 where
@@ -92,11 +95,11 @@ module _ (t : States) (list : List Entry) (by_entry : Entry → ClockRange) wher
 
   -- so do all lists of a recipe
   pub record EndWith (recipe : Recipe) (next : MostClocks) : Type 0 where
-    pub each : (rom : Rom) (items : List Item) → SpellsList rom recipe items → AreUnderMost next items
+    pub each : (items : List Item) → SpellsList Anywhere recipe items → AreUnderMost next items
 
   -- no list of a recipe takes more than this, with a HALT behind it
   pub record AreListsUnder (recipe : Recipe) (most : ClockRange) : Type 0 where
     pub each :
-        (rom : Rom) (items : List Item) (at : ℕ) (format : Format) → SpellsList rom recipe items
+        (items : List Item) (at : ℕ) (format : Format) → SpellsList Anywhere recipe items
         → IsUnder (taken_before (clocks_known t) by_entry (frame_context Board list)
         (record { at = at; format = format; instr = Halt } ∷ items)) (Some most)

@@ -113,10 +113,16 @@ IsLight (Shown from to) Anywhere = ⊥
 IsLight Unbounded (Between a b) = Unit {0}
 IsLight Unbounded Anywhere = Unit {0}
 
--- the item is a draw, and leads from what is known into the rectangle, if there is one
+-- the place is not known to be outside the rectangle
+abbrev pub IsNotOutside : Rectangle → End → Type 0
+IsNotOutside r (Rel x y) = Unit {0}
+IsNotOutside r (Abs x y) = IsInRectangle r (record { x = x; y = y })
+IsNotOutside r LostEnd = Unit {0}
+
+-- the item is a draw, and does not lead from what is known to a place outside the rectangle, if there is one
 abbrev pub IsInto : Option Rectangle → Known → Item → Type 0
 IsInto None known i = Unit {0}
-IsInto (Some r) known i = (d : DrawFields) × (i.instr ≡ Draws d) × IsAmong (Within r) (known_past Board i None known).place
+IsInto (Some r) known i = (d : DrawFields) × (i.instr ≡ Draws d) × IsNotOutside r (known_past Board i None known).place
 
 -- at this scale, the item, with the entry that it calls, does what the change says, and no more
 pub record IsChange (named : Option Entry) (scale : Key) (change : Change) (i : Item) : Type 0 where
@@ -166,7 +172,7 @@ part_in (Some into) r = common into r
 -- the places that are in the rectangle, if there is one
 abbrev pub places_in : Option Rectangle → Places → Places
 places_in None places = places
-places_in (Some into) Lost = Within into
+places_in (Some into) Lost = Lost
 places_in (Some into) (Within r) = Within (common into r)
 
 -- the hull past a change

@@ -3,6 +3,7 @@ use Rattle.std.specs.Prelude.{◌≡◌, ◌≤◌, ◌<◌, ◌⊎◌, ◌↔�
 use Rattle.dvg_words.specs.declared.instruction.Instr.TheVariants.{Jmpl}
 use Rattle.dvg_items.specs.declared.item.Item.{Item}
 use Rattle.dvg_recipe.specs.Recipes.{Recipe, Area, Piece, Part, Jump, Row, Then', Either', Repeat', Takes, Arrives}
+use Rattle.dvg_recipe.specs.Members.{LeadsInto}
 use Rattle.dvg_recipe.specs.Private.KnownPlaces.{ItemsOver}
 
 -- what leads from one index to another
@@ -28,7 +29,7 @@ pub record PieceLeads (piece : Piece) (over : ItemsOver) (i j : ℕ) : Type 0 wh
   pub within : i < length over.items
   pub there : get_or over.items i item ≡ item
   pub taken : Takes piece.kind item.format item.instr
-  pub arrives : Arrives over.rom piece.kind (reverse (take j over.items))
+  pub arrives : Arrives (LeadsInto over.rom) piece.kind (reverse (take j over.items))
   pub next : j ≡ suc i
 
 -- the pieces allow the items between two indices

@@ -5,7 +5,7 @@ use Rattle.dvg_words.specs.Decoding.{InstrFits}
 use Rattle.dvg_words.specs.Memory.{Rom}
 use Rattle.dvg_items.specs.declared.item.Item.{Item}
 use Rattle.dvg_items.specs.declared.known.Known.{Known}
-use Rattle.dvg_recipe.specs.Recipes.{ComesTo}
+use Rattle.dvg_recipe.specs.Members.{ComesTo}
 
 -- the items of a frame, over a ROM
 pub record ItemsOver : Type 0 where

@@ -4,7 +4,7 @@ use Rattle.dvg_recipe.proofs.Common.{◌≡◌, ◌+◌, ◌∙◌, ℕ, List, C
 use Rattle.dvg_recipe.specs.Recipes.{Part, Row, Then', Either', Repeat'}
 use Rattle.dvg_recipe.specs.Private.Indices.{IsPast, RowLeads, TimesOver, Turns, PartLeads}
 use Rattle.dvg_recipe.proofs.Sets.{joined_with}
-use Rattle.dvg_recipe.proofs.Leading.{if_ok_on, part_to, past_from, past_same, past_both, past_either}
+use Rattle.dvg_recipe.proofs.PastParts.{if_ok_on, part_to, past_from, past_same, past_both, past_either}
 use Rattle.dvg_recipe.proofs.Turns.{turn_next, turns_same, turns_first, turns_more, turns_closed}
 use Rattle.dvg_recipe.proofs.belonging.+past_part.Goals as goal
 

@@ -1,6 +1,6 @@
 use Rattle.dvg_recipe.proofs.Common.{◌+◌, ◌∙◌, get_or, refl, arith}
 use Rattle.dvg_recipe.specs.Private.Indices.{JumpLeads}
-use Rattle.dvg_recipe.proofs.Leading.{push_next, skip_next, past_whole}
+use Rattle.dvg_recipe.proofs.PastParts.{push_next, skip_next, past_whole}
 use Rattle.dvg_recipe.proofs.belonging.past_jump.Goals as goal
 use Rattle.dvg_recipe.proofs.belonging.past_jump.Goals.{then-is_jump+in_ok-push, else-is_jump}
 

@@ -1,7 +1,7 @@
 use Rattle.dvg_recipe.proofs.Common.{◌+◌, subst, arith}
 use Rattle.dvg_recipe.specs.Recipes.{Jump}
 use Rattle.dvg_recipe.specs.Private.Indices.{JumpLeads, PartLeads, IsPast}
-use Rattle.dvg_recipe.proofs.Leading.{past_jumps_next, past_from}
+use Rattle.dvg_recipe.proofs.PastParts.{past_jumps_next, past_from}
 use Rattle.dvg_recipe.proofs.belonging.past_jumps.Goals as goal
 
 pub loop-jump-preserved : goal.loop-jump-preserved

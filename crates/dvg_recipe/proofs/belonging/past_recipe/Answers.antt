@@ -1,7 +1,7 @@
 use Rattle.dvg_recipe.proofs.Common.{List, subst}
 use Rattle.dvg_recipe.specs.Recipes.{Jump}
 use Rattle.dvg_recipe.specs.Private.Indices.{IsPast, JumpsLead}
-use Rattle.dvg_recipe.proofs.Leading.{part_to, those_of, recipe_those}
+use Rattle.dvg_recipe.proofs.PastParts.{part_to, those_of, recipe_those}
 use Rattle.dvg_recipe.proofs.belonging.past_recipe.Goals as goal
 
 pub returns : goal.returns

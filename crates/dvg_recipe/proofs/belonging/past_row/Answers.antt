@@ -1,6 +1,6 @@
 use Rattle.dvg_recipe.proofs.Common.{◌+◌, arith}
 use Rattle.dvg_recipe.specs.Private.Indices.{PieceLeads}
-use Rattle.dvg_recipe.proofs.Leading.{past_row_next, past_from, piece_to}
+use Rattle.dvg_recipe.proofs.PastParts.{past_row_next, past_from, piece_to}
 use Rattle.dvg_recipe.proofs.belonging.past_row.Goals as goal
 
 pub loop-piece-preserved : goal.loop-piece-preserved

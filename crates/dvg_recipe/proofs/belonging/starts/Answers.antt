@@ -1,6 +1,6 @@
 use Rattle.dvg_recipe.proofs.Common.{◌+◌, List, ℕ, [], ◌∷◌, subst, sym, arith}
 use Rattle.dvg_recipe.specs.Private.Indices.{IsJoined}
-use Rattle.dvg_recipe.proofs.Leading.{starts_add, starts_skip}
+use Rattle.dvg_recipe.proofs.PastParts.{starts_add, starts_skip}
 use Rattle.dvg_recipe.proofs.belonging.starts.Goals as goal
 use Rattle.dvg_recipe.proofs.belonging.starts.Goals.{in-Some+in_ok-add, in_default}
 

@@ -4,7 +4,7 @@ use Rattle.dvg_clocks.specs.Kept.{clocks_in}
 use Rattle.dvg_recipe.specs.Recipes.{Part, Either', Repeat', Spells}
 use Rattle.dvg_recipe.specs.Private.Judging.{TimesOver, Turns}
 use Rattle.dvg_recipe.specs.Private.Clocks.{Spend}
-use Rattle.dvg_recipe.proofs.Leading.{if_ok_on}
+use Rattle.dvg_recipe.proofs.PastParts.{if_ok_on}
 use Rattle.dvg_recipe.proofs.Spending.{part_as, spend_either, one_turn, least_turns, more_turns}
 use Rattle.dvg_recipe.proofs.clocks.+past_part.Goals as goal
 

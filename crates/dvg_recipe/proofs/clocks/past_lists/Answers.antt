@@ -3,7 +3,7 @@ use Rattle.dvg_clocks.specs.Kept.{clocks_in}
 use Rattle.dvg_recipe.specs.Limits.{MOST_LEVELS, MOST_NESTED}
 use Rattle.dvg_recipe.specs.Recipes.{Part, Jump, Area, Spells, SpellsJumps}
 use Rattle.dvg_recipe.specs.Private.Clocks.{Spend, StartWith}
-use Rattle.dvg_recipe.proofs.Leading.{if_ok_on}
+use Rattle.dvg_recipe.proofs.PastParts.{if_ok_on}
 use Rattle.dvg_recipe.proofs.Spending.{end_with}
 use Rattle.dvg_recipe.proofs.clocks.past_lists.Goals as goal
 

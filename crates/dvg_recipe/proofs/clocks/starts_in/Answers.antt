@@ -1,6 +1,6 @@
 use Rattle.dvg_recipe.proofs.Common.{arith}
 use Rattle.dvg_clocks.specs.Kept.{clocks_in}
-use Rattle.dvg_recipe.proofs.Leading.{if_ok_on}
+use Rattle.dvg_recipe.proofs.PastParts.{if_ok_on}
 use Rattle.dvg_recipe.proofs.Spending.{starts_here, starts_there}
 use Rattle.dvg_recipe.proofs.clocks.starts_in.Goals as goal
 

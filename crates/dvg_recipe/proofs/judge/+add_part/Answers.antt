@@ -4,7 +4,7 @@ use Rattle.dvg_recipe.specs.Recipes.{Part, Row, Then', Either', Repeat', AddsRow
 use Rattle.dvg_recipe.specs.Private.Hulls.{Hull, AreUnder}
 use Rattle.dvg_recipe.specs.Private.Judging.{Carries, TimesOver, Turns}
 use Rattle.dvg_recipe.proofs.Sounds.{under_same, under_on}
-use Rattle.dvg_recipe.proofs.Leading.{if_ok_on, if_ok_both}
+use Rattle.dvg_recipe.proofs.PastParts.{if_ok_on, if_ok_both}
 use Rattle.dvg_recipe.proofs.Onward.{part_as, from_as, then_both, either_one, times_none, one_turn, least_turns, more_turns}
 use Rattle.dvg_recipe.proofs.judge.+add_part.Goals as goal
 

@@ -1,7 +1,7 @@
 use Rattle.dvg_recipe.proofs.Common.{List, subst}
 use Rattle.dvg_recipe.specs.Recipes.{AddsRow}
 use Rattle.dvg_recipe.specs.Private.Hulls.{Hull, AreUnder}
-use Rattle.dvg_recipe.proofs.Leading.{if_ok_on}
+use Rattle.dvg_recipe.proofs.PastParts.{if_ok_on}
 use Rattle.dvg_recipe.proofs.Onward.{from_as, behind_under}
 use Rattle.dvg_recipe.proofs.judge.add_pieces.Goals as goal
 

@@ -2,7 +2,7 @@ use Rattle.dvg_recipe.proofs.Common.{arith, subst}
 use Rattle.dvg_recipe.specs.Recipes.{Piece}
 use Rattle.dvg_recipe.specs.Private.Judging.{IsTaken}
 use Rattle.dvg_recipe.specs.Private.Hulls.{LeadOn}
-use Rattle.dvg_recipe.proofs.Leading.{if_ok_on}
+use Rattle.dvg_recipe.proofs.PastParts.{if_ok_on}
 use Rattle.dvg_recipe.proofs.Onward.{row_one}
 use Rattle.dvg_recipe.proofs.judge.add_row.Goals as goal
 

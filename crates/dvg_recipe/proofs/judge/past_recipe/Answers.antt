@@ -2,7 +2,7 @@ use Rattle.dvg_recipe.proofs.Common.{List, subst, Contains}
 use Rattle.dvg_recipe.specs.Limits.{MOST_LEVELS, MOST_NESTED}
 use Rattle.dvg_recipe.specs.Recipes.{Part, Jump, Area, Spells, SpellsJumps}
 use Rattle.dvg_recipe.specs.Private.Judging.{Carries, AreListStarts}
-use Rattle.dvg_recipe.proofs.Leading.{if_ok_on}
+use Rattle.dvg_recipe.proofs.PastParts.{if_ok_on}
 use Rattle.dvg_recipe.proofs.Onward.{from_as}
 use Rattle.dvg_recipe.proofs.Members.{every_front}
 use Rattle.dvg_recipe.proofs.judge.past_recipe.Goals as goal

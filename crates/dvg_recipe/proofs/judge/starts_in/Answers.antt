@@ -1,5 +1,5 @@
 use Rattle.dvg_recipe.proofs.Common.{arith}
-use Rattle.dvg_recipe.proofs.Leading.{if_ok_on}
+use Rattle.dvg_recipe.proofs.PastParts.{if_ok_on}
 use Rattle.dvg_recipe.proofs.Onward.{starts_there}
 use Rattle.dvg_recipe.proofs.judge.starts_in.Goals as goal
 

@@ -2,7 +2,7 @@ use Rattle.dvg_recipe.proofs.Common.{◌+◌, ◌∷◌, ◌∙◌, arith, sym, 
 use Rattle.dvg_words.specs.Memory.{Rom}
 use Rattle.dvg_words.specs.Decoding.{InstrFits}
 use Rattle.dvg_check.proofs.Common.{IsSoundCursor, Item}
-use Rattle.dvg_recipe.specs.Recipes.{ComesTo}
+use Rattle.dvg_recipe.specs.Members.{ComesTo}
 use Rattle.dvg_recipe.proofs.Knowing.{known_next}
 use Rattle.dvg_recipe.proofs.known_places.all_known.Goals as goal
 

@@ -19,4 +19,4 @@ returns-clause-take c =
     subst (λ (l : List Entry). AreListsUnder t l (clocks_in kept) recipe most) c.in_ok-entries.ensures
     c.in_ok-most_of_lists.ensures.lists in
     all_take t rom recipe c.requires.good.0 list c.requires.good.1 kept most c.requires.board c.requires.good.2 told under
-    (λ frame b. record { frame = b.frame; rom = c.prove_whole.ensures })
+    c.prove_whole.ensures

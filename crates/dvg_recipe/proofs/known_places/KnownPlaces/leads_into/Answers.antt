@@ -1,6 +1,6 @@
 use Rattle.dvg_recipe.proofs.Common.{◌≡◌, subst, take, reverse, get_or, rules}
 use Rattle.dvg_check.proofs.Common.{Known}
-use Rattle.dvg_recipe.specs.Recipes.{IsEndIn, ComesTo}
+use Rattle.dvg_recipe.specs.Members.{IsEndIn, ComesTo}
 use Rattle.dvg_recipe.specs.Private.KnownPlaces.{ItemsOver}
 use Rattle.dvg_recipe.proofs.Knowing.{known_once}
 use Rattle.dvg_recipe.proofs.known_places.KnownPlaces.leads_into.Goals as goal
