@@ -1,7 +1,10 @@
 -- What leads from one set of indices to another.
 use Rattle.dvg_recipe.proofs.Common.{◌≡◌, ◌<◌, ◌≤◌, ◌⊎◌, ◌++◌, ℕ, zero, suc, List, [], ◌∷◌, Contains, length, take, get_or, refl, sym, subst, inl, inr, ⊎_elim, arith, take-suc, take_all, Contains-append_cases, Contains-append_left, Contains-append_right, Contains-push_cases}
 use Rattle.std.proofs.Common.{Result, Ok, Err}
-use Rattle.dvg_recipe.proofs.Common.{IfOk}
+use Rattle.std.specs.Prelude.{slice_set}
+use Rattle.std.proofs.Math.Seq.{take-suc-set}
+use Rattle.std.proofs.lemmas.List.{length-set, get_or-set_other}
+use Rattle.dvg_recipe.proofs.Common.{IfOk, ap, ◌∙◌, ◌+◌}
 use Rattle.dvg_recipe.specs.Private.KnownPlaces.{ItemsOver}
 use Rattle.dvg_recipe.specs.Recipes.{Area, Piece, Part, Jump, Recipe}
 use Rattle.dvg_recipe.specs.Private.Indices.{Leads, Both, IsPast, IsJoined, PieceLeads, RowLeads, PartLeads, JumpLeads, JumpsLead, ListStarts, SomeStarts, AreThose, RecipeLeads}
@@ -84,6 +87,40 @@ module _ (R : Leads) (here ys : List ℕ) (i n d : ℕ) (is : n ≡ suc i) (lt :
       (subst (λ (l : List ℕ). IsPast R (take i here ++ get_or here i d ∷ []) l) (sym same)
       (past_skip R (take i here) ys h (get_or here i d) (λ j r. none j (subst (λ m. R m j) (sym at) r))))
 
+-- ---- in place
+
+-- indices that are put one after another to the front of the list that they come from: `passed` of them, from those before a place
+module _ (R : Leads) (start here : List ℕ) (place n passed : ℕ) (is : n ≡ suc place) (lt : place < length start) (few : passed ≤ place)
+    (long : length here ≡ length start) (same : (k : ℕ) → place ≤ k → get_or here k 0 ≡ get_or start k 0)
+    (h : IsPast R (take place start) (take passed here)) where
+  pub put_next : (x y p : ℕ) (more : List ℕ) → x ≡ get_or here place 0 → p ≡ suc passed → more ≡ slice_set here passed y → R x y
+      → ((j : ℕ) → R x j → j ≡ y)
+      → (p ≤ n) × (length more ≡ length start) × ((k : ℕ) → n ≤ k → get_or more k 0 ≡ get_or start k 0)
+      × IsPast R (take n start) (take p more)
+  put_next x y p more at next stored leads only =
+      let room : passed < length here = omega (arith, few, lt, long) in (
+        omega (arith, few, is, next),
+        ap length stored ∙ length-set here passed y ∙ long,
+        λ k from.
+            ap (λ (l : List ℕ). get_or l k 0) stored
+            ∙ get_or-set_other here passed k y 0 (λ e. omega (arith, few, is, from, e))
+            ∙ same k (omega (arith, is, from)),
+        push_next R start (take passed here) place n 0 is lt h x y (take p more) (at ∙ same place (omega arith))
+            (ap (λ m. take m more) next ∙ ap (λ (l : List ℕ). take (suc passed) l) stored ∙ take-suc-set here passed y room)
+            leads only,
+      )
+
+  pub put_none : (x p : ℕ) (more : List ℕ) → x ≡ get_or here place 0 → p ≡ passed → more ≡ here → ((j : ℕ) → R x j → ⊥)
+      → (p ≤ n) × (length more ≡ length start) × ((k : ℕ) → n ≤ k → get_or more k 0 ≡ get_or start k 0)
+      × IsPast R (take n start) (take p more)
+  put_none x p more at count stays none = (
+    omega (arith, few, is, count),
+    ap length stays ∙ long,
+    λ k from. ap (λ (l : List ℕ). get_or l k 0) stays ∙ same k (omega (arith, is, from)),
+    skip_next R start (take passed here) place n 0 is lt h x (take p more) (at ∙ same place (omega arith))
+        (ap (λ m. take m more) count ∙ ap (λ (l : List ℕ). take passed l) stays) none,
+  )
+
 -- ---- rows and jumps
 
 row_join : (row : List Piece) (piece : Piece) (items : ItemsOver) (i j : ℕ) → Both (RowLeads row items) (PieceLeads piece items) i j
@@ -104,6 +141,26 @@ past_row_next row items i n d xs ys zs is lt h k =
     (row_split (take i row) (get_or row i d) items) (past_both _ _ xs ys zs h k) in
     subst (λ m. IsPast (RowLeads (take m row) items) xs zs) (sym is)
     (subst (λ (l : List Piece). IsPast (RowLeads l items) xs zs) (sym (take-suc row i d lt)) more)
+
+-- a row up to a piece, from its pieces before and from that one
+module _ (row : List Piece) (items : ItemsOver) (n m : ℕ) (d : Piece) (is : m ≡ suc n) (lt : n < length row) where
+  up_to : take m row ≡ take n row ++ get_or row n d ∷ []
+  up_to = subst (λ l. take l row ≡ take n row ++ get_or row n d ∷ []) (sym is) (take-suc row n d lt)
+
+  pub row_next : (i j k : ℕ) → RowLeads (take n row) items i j → PieceLeads (get_or row n d) items j k → RowLeads (take m row) items i k
+  row_next i j k before leads =
+      subst (λ (l : List Piece). RowLeads l items i k) (sym up_to) (row_join (take n row) (get_or row n d) items i k (j, before, leads))
+
+  pub row_last : (i j : ℕ) → RowLeads (take m row) items i j → Both (RowLeads (take n row) items) (PieceLeads (get_or row n d) items) i j
+  row_last i j leads =
+      row_split (take n row) (get_or row n d) items i j (subst (λ (l : List Piece). RowLeads l items i j) up_to leads)
+
+-- a row's first pieces
+pub row_front : (n : ℕ) (row : List Piece) (items : ItemsOver) (i j : ℕ) → RowLeads row items i j
+    → (k : ℕ) × RowLeads (take n row) items i k
+row_front zero row items i j leads = (i, refl)
+row_front (suc n) [] items i j leads = (i, refl)
+row_front (suc n) (piece ∷ row) items i j (m, first, rest) = let r = row_front n row items m j rest in (r.0, (m, first, r.1))
 
 -- a jump and its part
 abbrev pub JumpPart : Jump → ItemsOver → Leads

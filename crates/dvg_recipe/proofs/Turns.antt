@@ -1,6 +1,8 @@
 -- The turns of a repeat.
-use Rattle.dvg_recipe.proofs.Common.{◌≡◌, ◌≤◌, ◌+◌, ◌-◌, ℕ, zero, suc, List, Contains, refl, sym, subst, inl, inr, ⊎_elim, arith, cases_lt}
+use Rattle.dvg_recipe.proofs.Common.{◌≡◌, ◌≤◌, ◌<◌, ◌+◌, ◌-◌, ◌++◌, ℕ, zero, suc, List, [], ◌∷◌, Contains, Contains-append_cases, Contains-append_left, Contains-append_right, refl, sym, subst, inl, inr, ⊎_elim, arith, cases_lt}
 use Rattle.dvg_recipe.specs.Private.Indices.{Leads, Both, TimesOver, Turns, IsPast, IsJoined}
+use Rattle.std.specs.Prelude.{◌↔◌}
+use Rattle.dvg_recipe.proofs.Sets.{is_alone, alone}
 use Rattle.dvg_recipe.proofs.PastParts.{past_as, past_both, past_same, past_to}
 
 module _ (R : Leads) where
@@ -61,6 +63,73 @@ module _ (R : Leads) where
     where
       just : (i j : ℕ) → Turns least least R i j → TimesOver least R i j
       just i j (n, low, high, times) = subst (λ m. TimesOver m R i j) (omega (arith, low, high)) times
+
+  -- the indices to which fewer than so many turns lead from one index, `least` at the least
+  abbrev pub AreFewer : ℕ → ℕ → ℕ → List ℕ → Type 0
+  AreFewer least turn i ends = (j : ℕ) → Contains ends j ↔ ((n : ℕ) × (least ≤ n) × (n < turn) × TimesOver n R i j)
+
+  pub fewer_none : (least i : ℕ) (ends : List ℕ) → ends ≡ [] → AreFewer least 0 i ends
+  fewer_none least i ends is j = (
+    λ there. absurd (let k = subst (λ (l : List ℕ). Contains l j) is there in omega (arith, k.1)),
+    λ t. absurd (omega (arith, t.2)),
+  )
+
+  module _ (least turn next i : ℕ) (is : next ≡ suc turn) (ends : List ℕ) (h : AreFewer least turn i ends) where
+    pub fewer_skip : turn < least → AreFewer least next i ends
+    fewer_skip early j = (
+      λ there. let t = (h j).0 there in (t.0, t.1, omega (arith, is, t.2), t.3),
+      λ t. absurd (omega (arith, early, is, t.1, t.2)),
+    )
+
+    pub fewer_push : (end : ℕ) (more : List ℕ) → more ≡ ends ++ end ∷ [] → least ≤ turn → TimesOver turn R i end
+        → ((j : ℕ) → TimesOver turn R i j → j ≡ end) → AreFewer least next i more
+    fewer_push end more grown late leads only j = (
+      λ there. ⊎_elim
+          (λ old. let t = (h j).0 old in (t.0, t.1, omega (arith, is, t.2), t.3))
+          (λ new. (turn, late, omega (arith, is), subst (λ k. TimesOver turn R i k) (is_alone end j new) leads))
+          (Contains-append_cases ends (end ∷ []) j (subst (λ (l : List ℕ). Contains l j) grown there)),
+      λ t. subst (λ (l : List ℕ). Contains l j) (sym grown) (⊎_elim
+          (λ less. Contains-append_left ends (end ∷ []) j ((h j).1 (t.0, t.1, less, t.3)))
+          (λ last. Contains-append_right ends (end ∷ []) j (alone end j (sym (only j
+          (subst (λ n. TimesOver n R i j) (omega (arith, is, last, t.2)) t.3)))))
+          (cases_lt t.0 turn)),
+    )
+
+  module _ (turn next i end : ℕ) (is : next ≡ suc turn) (only : (j : ℕ) → TimesOver turn R i j → j ≡ end) where
+    pub turns_step : (j : ℕ) → TimesOver turn R i end → R end j → TimesOver next R i j
+    turns_step j before leads = subst (λ n. TimesOver n R i j) (sym is) (times_join turn i j (end, before, leads))
+
+    pub turns_only : (k : ℕ) → ((j : ℕ) → R end j → j ≡ k) → (j : ℕ) → TimesOver next R i j → j ≡ k
+    turns_only k one j times =
+        let last = times_last turn i j (subst (λ n. TimesOver n R i j) is times) in
+        one j (subst (λ x. R x j) (only last.0 last.1) last.2)
+
+    -- where a turn leads nowhere, there are no more
+    pub turns_end : (least most : ℕ) (ends : List ℕ) → AreFewer least next i ends → ((j : ℕ) → R end j → ⊥) → turn < most
+        → IsPast (Turns least most R) (i ∷ []) ends
+    turns_end least most ends h none lt = record {
+      each = λ j. (
+        λ there. let t = (h j).0 there in (i, alone i i refl, (t.0, t.1, omega (arith, is, lt, t.2), t.3)),
+        λ t.
+            let times = subst (λ x. TimesOver t.2.0 R x j) (sym (is_alone i t.0 t.1)) t.2.3 in
+            ⊎_elim
+            (λ less. (h j).1 (t.2.0, t.2.1, less, times))
+            (λ more.
+            let parts = times_split next (t.2.0 - next) t.2.0 i j (omega (arith, more)) times in
+            let last = times_last turn i parts.0 (subst (λ n. TimesOver n R i parts.0) is parts.1) in
+            absurd (none parts.0 (subst (λ x. R x parts.0) (only last.0 last.1) last.2)))
+            (cases_lt t.2.0 next),
+      );
+    }
+
+  pub turns_all : (least most last i : ℕ) (ends : List ℕ) → last ≡ suc most → AreFewer least last i ends
+      → IsPast (Turns least most R) (i ∷ []) ends
+  turns_all least most last i ends is h = record {
+    each = λ j. (
+      λ there. let t = (h j).0 there in (i, alone i i refl, (t.0, t.1, omega (arith, is, t.2), t.3)),
+      λ t. (h j).1 (t.2.0, t.2.1, omega (arith, is, t.2.2), subst (λ x. TimesOver t.2.0 R x j) (sym (is_alone i t.0 t.1)) t.2.3),
+    );
+  }
 
   module _ (least n m : ℕ) (xs next here : List ℕ) (is : m ≡ suc n) (low : least ≤ n) (h : IsPast (Turns least n R) xs next)
       (k : IsPast (TimesOver m R) xs here) where

@@ -3,7 +3,7 @@
 //! The items of a frame are determined, so an index of an item stands for the items before it. A part of the recipe takes the set of the
 //! indices where it may begin to that of the indices where it may end.
 
-ghost use Rattle.std.specs.Prelude.{◌≡◌, ◌↔◌, ◌+◌, ◌^◌, ◌<◌, ℕ, false, Contains, length, IsTrue, IfOk, IfErr, IfSome, IfNone};
+ghost use Rattle.std.specs.Prelude.{◌≡◌, ◌↔◌, ◌+◌, ◌^◌, ◌<◌, ◌≤◌, [], ◌∷◌, ℕ, false, Contains, length, IsTrue, IfOk, IfErr, IfSome, IfNone};
 ghost use Rattle.dvg_recipe.specs.Members.{IsMember};
 ghost use Rattle.dvg_recipe.specs.Private.Indices.{IsPast, PieceLeads, RowLeads, Turns, PartLeads, JumpLeads, JumpsLead, ListStarts, SomeStarts, RecipeLeads, AreThose};
 ghost use Rattle.dvg_recipe.specs.Private.Belonging.{IfLeaves};
@@ -11,15 +11,16 @@ ghost use Rattle.dvg_recipe.specs.Private.KnownPlaces.{AreFramesItems};
 ghost use Rattle.dvg_recipe.specs.declared.belonging.NotMember.TheVariants.{Memory};
 
 use crate::frame_items::{FrameItems, frame_items};
-use crate::indices::{add, add_all, has_all};
+use crate::indices::{add, add_all, set_to};
 use crate::known_places::KnownPlaces;
-use crate::piece::{DrawRange, Piece, PieceKind};
+use crate::piece::Piece;
 use crate::recipe::{Area, Jump, Part, Recipe};
 use crate::takes::takes;
-use crate::tried::Tried;
+use crate::tried::{Tried, Work};
 use dvg_items::Item;
 use dvg_words::{FrameImage, Instr, RomImage};
 use std::alloc::{AllocError, Global};
+use std::mem::replace;
 
 /// Where a frame leaves a recipe: behind the longest front of its items that some frame of the recipe has.
 #[derive(Debug, Drop)]
@@ -49,6 +50,7 @@ impl From<AllocError> for NotMember {
 }
 
 /// Whether an item that a piece allows stands at an index, and leads to where it has to.
+#[inline(always)]
 fn is_taken(places: &KnownPlaces<'_>, index: usize, piece: &Piece) -> Result<bool, AllocError>
     ensures yes { IfOk result (λ yes. IsTrue yes → PieceLeads piece.now places.now index (index + 1)) }
     ensures no { IfOk result (λ yes. yes ≡ false → (j : ℕ) → PieceLeads piece.now places.now index j → ⊥) }
@@ -60,29 +62,34 @@ fn is_taken(places: &KnownPlaces<'_>, index: usize, piece: &Piece) -> Result<boo
     }
 }
 
-/// The indices behind the items that a piece allows.
+/// Takes indices to those behind the items that a piece allows.
+#[inline(always)]
 fn past_piece(
-    alloc: Global,
     places: &KnownPlaces<'_>,
+    tried: &mut Tried,
     piece: &Piece,
-    here: &[usize],
-) -> Result<Vec<usize>, AllocError>
-    ensures { IfOk result (λ next. IsPast (PieceLeads piece.now places.now) here.now next.items) }
+    here: &mut Vec<usize>,
+) -> Result<(), AllocError>
+    ensures { IfOk result (λ _. IsPast (PieceLeads piece.now places.now) here.old.items here.new.items) }
 {
-    let mut next = Vec::new(alloc);
-    for &index in here {
+    let mut passed = 0;
+    for place in 0..here.len() {
+        let index = here[place];
         let taken = is_taken(places, index, piece)?;
         if taken {
-            next.push(index + 1)?;
+            here[passed] = index + 1;
+            passed += 1;
+        } else {
+            tried.note(piece.number, index)?;
         }
     }
-    Ok(next)
+    here.truncate(passed);
+    Ok(())
 }
 
 /// Takes indices to those behind the items that a row allows.
-#[inline(never)]
+#[inline(always)]
 fn past_row(
-    alloc: Global,
     places: &KnownPlaces<'_>,
     tried: &mut Tried,
     row: &[Piece],
@@ -91,8 +98,7 @@ fn past_row(
     ensures { IfOk result (λ _. IsPast (RowLeads row.now places.now) here.old.items here.new.items) }
 {
     for piece in row {
-        tried.note(piece.number, here)?;
-        *here = past_piece(alloc, places, piece, here)?;
+        past_piece(places, tried, piece, here)?;
     }
     Ok(())
 }
@@ -101,29 +107,85 @@ fn past_row(
 #[cycle(past_part)]
 fn past_part(
     part: &Part,
-    alloc: Global,
     places: &KnownPlaces<'_>,
-    tried: &mut Tried,
+    work: &mut Work,
     here: &mut Vec<usize>,
 ) -> Result<(), AllocError>
     ensures { IfOk result (λ _. IsPast (PartLeads part.now places.now) here.old.items here.new.items) }
 {
     match part {
-        Part::Row(row) => past_row(alloc, places, tried, row, here),
+        Part::Row(row) => past_row(places, &mut work.tried, row, here),
         Part::Then(first, second) => {
-            past_part(first, alloc, places, tried, here)?;
-            past_part(second, alloc, places, tried, here)
+            past_part(first, places, work, here)?;
+            past_part(second, places, work, here)
         }
         Part::Either(one, other) => {
-            let mut more = Vec::from_slice(alloc, here)?;
-            past_part(one, alloc, places, tried, here)?;
-            past_part(other, alloc, places, tried, &mut more)?;
-            add_all(here, &more)
+            let mut more = work.take()?;
+            set_to(&mut more, here)?;
+            past_part(one, places, work, here)?;
+            past_part(other, places, work, &mut more)?;
+            add_all(here, &more)?;
+            work.put(more);
+            Ok(())
         }
         Part::Repeat { least, most, body } => {
-            past_repeat(body, alloc, places, tried, *least, *most, here)
+            past_repeat(body, places, work, *least, *most, here)
         }
     }
+}
+
+/// The index behind the items that a row allows from an index on, if it allows them.
+#[inline(always)]
+fn row_end(
+    places: &KnownPlaces<'_>,
+    tried: &mut Tried,
+    row: &[Piece],
+    index: usize,
+) -> Result<Option<usize>, AllocError>
+    ensures some { IfOk result (λ end. IfSome end (RowLeads row.now places.now index)) }
+    ensures only { IfOk result (λ end. IfSome end (λ i. (j : ℕ) → RowLeads row.now places.now index j → j ≡ i)) }
+    ensures none { IfOk result (λ end. IfNone end ((j : ℕ) → RowLeads row.now places.now index j → ⊥)) }
+{
+    let mut end = index;
+    for piece in row {
+        let taken = is_taken(places, end, piece)?;
+        if !taken {
+            tried.note(piece.number, end)?;
+            return Ok(None);
+        }
+        end += 1;
+    }
+    Ok(Some(end))
+}
+
+/// The indices behind `least` to `most` turns of a row from an index on.
+#[inline(never)]
+fn past_turns(
+    places: &KnownPlaces<'_>,
+    tried: &mut Tried,
+    row: &[Piece],
+    least: u16,
+    most: u16,
+    index: usize,
+    ends: &mut Vec<usize>,
+) -> Result<(), AllocError>
+    requires turns { least ≤ most }
+    ensures { IfOk result (λ _. IsPast (Turns least most (RowLeads row.now places.now)) (index ∷ []) ends.new.items) }
+{
+    ends.clear();
+    let mut end = index;
+    for turn in 0..most {
+        if least <= turn {
+            ends.push(end)?;
+        }
+        let next = row_end(places, tried, row, end)?;
+        match next {
+            Some(next) => end = next,
+            None => return Ok(()),
+        }
+    }
+    ends.push(end)?;
+    Ok(())
 }
 
 /// Takes indices to those behind `least` to `most` turns of a part.
@@ -131,9 +193,8 @@ fn past_part(
 #[inline(never)]
 fn past_repeat(
     body: &Part,
-    alloc: Global,
     places: &KnownPlaces<'_>,
-    tried: &mut Tried,
+    work: &mut Work,
     least: u16,
     most: u16,
     here: &mut Vec<usize>,
@@ -141,28 +202,33 @@ fn past_repeat(
     ensures { IfOk result (λ _. IsPast (Turns least most (PartLeads body.now places.now)) here.old.items here.new.items) }
 {
     if most < least {
-        *here = Vec::new(alloc);
+        here.clear();
         return Ok(());
     }
+    if let (Part::Row(row), 1) = (body, here.len()) {
+        // most repeats are so, and need no sets
+        return past_turns(places, &mut work.tried, row, least, most, here[0], here);
+    }
+    let mut next = work.take()?;
     for _ in 0..least {
-        let before = Vec::from_slice(alloc, here)?;
-        past_part(body, alloc, places, tried, here)?;
-        if *here == before {
+        set_to(&mut next, here)?;
+        past_part(body, places, work, here)?;
+        if *here == next {
             // each further turn changes nothing either
+            work.put(next);
             return Ok(());
         }
     }
-    let mut next = Vec::from_slice(alloc, here)?;
+    set_to(&mut next, here)?;
     for _ in least..most {
-        past_part(body, alloc, places, tried, here)?;
-        if has_all(&next, here) {
+        past_part(body, places, work, here)?;
+        if !add_all(&mut next, here)? {
             // each further turn adds nothing either
-            *here = next;
+            work.put(replace(here, next));
             return Ok(());
         }
-        add_all(&mut next, here)?;
     }
-    *here = next;
+    work.put(replace(here, next));
     Ok(())
 }
 
@@ -178,19 +244,22 @@ fn is_jump(places: &KnownPlaces<'_>, index: usize, to: u16) -> bool
     }
 }
 
-/// The indices behind a jump to a word address.
+/// The indices behind a jump.
 fn past_jump(
     alloc: Global,
     places: &KnownPlaces<'_>,
-    to: u16,
+    tried: &mut Tried,
+    jump: &Jump,
     here: &[usize],
 ) -> Result<Vec<usize>, AllocError>
-    ensures { IfOk result (λ next. IsPast (JumpLeads to places.now) here.now next.items) }
+    ensures { IfOk result (λ next. IsPast (JumpLeads jump.now.area.first places.now) here.now next.items) }
 {
     let mut next = Vec::new(alloc);
     for &index in here {
-        if is_jump(places, index, to) {
+        if is_jump(places, index, jump.area.first) {
             next.push(index + 1)?;
+        } else {
+            tried.note(jump.number, index)?;
         }
     }
     Ok(next)
@@ -200,7 +269,7 @@ fn past_jump(
 fn past_jumps(
     alloc: Global,
     places: &KnownPlaces<'_>,
-    tried: &mut Tried,
+    work: &mut Work,
     jumps: &[Jump],
     here: Vec<usize>,
 ) -> Result<Vec<usize>, AllocError>
@@ -208,9 +277,8 @@ fn past_jumps(
 {
     let mut here = here;
     for jump in jumps {
-        tried.note(jump.number, &here)?;
-        let mut there = past_jump(alloc, places, jump.area.first, &here)?;
-        past_part(&jump.body, alloc, places, tried, &mut there)?;
+        let mut there = past_jump(alloc, places, &mut work.tried, jump, &here)?;
+        past_part(&jump.body, places, work, &mut there)?;
         here = there;
     }
     Ok(here)
@@ -232,10 +300,15 @@ fn start_of(places: &KnownPlaces<'_>, first: u16) -> Option<usize>
 }
 
 /// The indices of the first items of lists to which the frame's word 000 leads.
-fn starts(alloc: Global, places: &KnownPlaces<'_>, lists: &[Area]) -> Result<Vec<usize>, AllocError>
+fn starts(
+    places: &KnownPlaces<'_>,
+    work: &mut Work,
+    lists: &[Area],
+) -> Result<Vec<usize>, AllocError>
     ensures { IfOk result (λ here. AreThose (SomeStarts lists.now places.now) here.items) }
 {
-    let mut here = Vec::new(alloc);
+    let mut here = work.take()?;
+    here.clear();
     for area in lists {
         if let Some(index) = start_of(places, area.first) {
             add(&mut here, index)?;
@@ -248,15 +321,17 @@ fn starts(alloc: Global, places: &KnownPlaces<'_>, lists: &[Area]) -> Result<Vec
 fn past_recipe(
     alloc: Global,
     places: &KnownPlaces<'_>,
-    tried: &mut Tried,
+    work: &mut Work,
     recipe: &Recipe,
 ) -> Result<Vec<usize>, AllocError>
     ensures { IfOk result (λ here. AreThose (RecipeLeads recipe.now places.now) here.items) }
 {
-    let mut here = starts(alloc, places, recipe.lists())?;
-    past_part(recipe.body(), alloc, places, tried, &mut here)?;
-    let here = past_jumps(alloc, places, tried, recipe.jumps(), here)?;
-    tried.note(recipe.halt(), &here)?;
+    let mut here = starts(places, work, recipe.lists())?;
+    past_part(recipe.body(), places, work, &mut here)?;
+    let here = past_jumps(alloc, places, work, recipe.jumps(), here)?;
+    for &index in &here {
+        work.tried.note(recipe.halt(), index)?;
+    }
     Ok(here)
 }
 
@@ -278,22 +353,6 @@ fn leaving_of(all: &FrameItems, tried: Tried) -> Result<Leaving, AllocError> {
     Ok(Leaving { at, pieces })
 }
 
-/// Whether a piece is a draw that has to lead somewhere.
-fn has_to(piece: &Piece) -> bool {
-    matches!(piece.kind, PieceKind::Draw(DrawRange { to: Some(_), .. }))
-}
-
-/// Whether some draw of a part has to lead somewhere.
-#[cycle(leads_somewhere)]
-fn leads_somewhere(part: &Part) -> bool {
-    match part {
-        Part::Row(row) => row.iter().any(has_to),
-        Part::Then(first, second) => leads_somewhere(first) || leads_somewhere(second),
-        Part::Either(one, other) => leads_somewhere(one) || leads_somewhere(other),
-        Part::Repeat { body, .. } => leads_somewhere(body),
-    }
-}
-
 /// What has to be known of a frame's items for a recipe: if no draw has to lead somewhere, nothing.
 fn places_for<'a>(
     alloc: Global,
@@ -304,12 +363,7 @@ fn places_for<'a>(
     requires { AreFramesItems items.now }
     ensures { IfOk result (λ places. places ≡ record { rom = rom.now; items = items.now }) }
 {
-    let leads = leads_somewhere(recipe.body())
-        || recipe
-            .jumps()
-            .iter()
-            .any(|jump| leads_somewhere(&jump.body));
-    if leads {
+    if recipe.leads_somewhere() {
         KnownPlaces::find(alloc, rom, items)
     } else {
         Ok(KnownPlaces::unknown(alloc, rom, items))
@@ -330,10 +384,10 @@ pub fn belongs(
     frame.prove_whole();
     let all = frame_items(alloc, frame)?;
     let places = places_for(alloc, rom, recipe, &all.items)?;
-    let mut tried = Tried::new(alloc);
-    let here = past_recipe(alloc, &places, &mut tried, recipe)?;
+    let mut work = Work::new(alloc, all.items.len());
+    let here = past_recipe(alloc, &places, &mut work, recipe)?;
     if has_end(&all, &here) {
         return Ok(());
     }
-    Err(NotMember::Leaves(leaving_of(&all, tried)?))
+    Err(NotMember::Leaves(leaving_of(&all, work.tried)?))
 }

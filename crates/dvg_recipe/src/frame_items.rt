@@ -23,8 +23,8 @@ pub fn frame_items(alloc: Global, frame: &FrameImage) -> Result<FrameItems, Allo
     ensures items { IfOk result (AreItems frame.now) }
     ensures fits { IfOk result (λ all. AreFramesItems all.items.items) }
 {
+    let mut items = Vec::with_capacity(alloc, usize::from(frame.words()))?;
     let frame = FrameOn::new(Machine::Board, frame);
-    let mut items = Vec::new(alloc);
     let mut at = 0;
     while let Cell::Holds { format, instr } = read_cell(&frame, at) {
         let item = Item { at, format, instr };

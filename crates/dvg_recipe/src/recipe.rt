@@ -5,7 +5,7 @@ ghost use Rattle.dvg_recipe.specs.declared.recipe.Jump.{Jump};
 ghost use Rattle.dvg_recipe.specs.Limits.{IsRecipe, PartFits, MOST_LEVELS, MOST_NESTED};
 
 use crate::limits::is_recipe;
-use crate::piece::Piece;
+use crate::piece::{DrawRange, Piece, PieceKind};
 use std::marker::Model;
 
 /// The word addresses of the first and of the last word of a part of vector RAM.
@@ -42,6 +42,22 @@ pub struct Jump {
     pub body: Part,
 }
 
+/// Whether a piece is a draw that has to lead somewhere.
+fn has_to(piece: &Piece) -> bool {
+    matches!(piece.kind, PieceKind::Draw(DrawRange { to: Some(_), .. }))
+}
+
+/// Whether some draw of a part has to lead somewhere.
+#[cycle(leads_somewhere)]
+fn leads_somewhere(part: &Part) -> bool {
+    match part {
+        Part::Row(row) => row.iter().any(has_to),
+        Part::Then(first, second) => leads_somewhere(first) || leads_somewhere(second),
+        Part::Either(one, other) => leads_somewhere(one) || leads_somewhere(other),
+        Part::Repeat { body, .. } => leads_somewhere(body),
+    }
+}
+
 /// What the frames of a game are made of, within the limits of recipes.
 #[derive(Drop)]
 pub struct Recipe {
@@ -49,6 +65,8 @@ pub struct Recipe {
     body: Part,
     jumps: Vec<Jump>,
     halt: u16,
+    /// Whether some draw has to lead somewhere.
+    leads: bool,
 }
 
 impl Model for Recipe {
@@ -77,11 +95,13 @@ impl Recipe {
         if !is_recipe(&lists, &body, &jumps, halt) {
             return None;
         }
+        let leads = leads_somewhere(&body) || jumps.iter().any(|jump| leads_somewhere(&jump.body));
         Some(Recipe {
             lists,
             body,
             jumps,
             halt,
+            leads,
         })
     }
 
@@ -113,5 +133,10 @@ impl Recipe {
         ensures { result ≡ self.now.halt }
     {
         self.halt
+    }
+
+    /// Whether some draw has to lead somewhere.
+    pub(crate) fn leads_somewhere(&self) -> bool {
+        self.leads
     }
 }

@@ -108,6 +108,7 @@ fn says(first: u16, second: u16, item: &Item) -> bool
 }
 
 /// Whether an item is one that a piece allows.
+#[inline(always)]
 pub fn takes(kind: &PieceKind, item: &Item) -> bool
     ensures { IsTrue result ↔ Takes kind.now item.now.format item.now.instr }
 {

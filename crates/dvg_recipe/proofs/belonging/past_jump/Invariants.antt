@@ -3,4 +3,4 @@ use Rattle.dvg_recipe.specs.Private.Indices.{IsPast, JumpLeads}
 use Rattle.dvg_recipe.proofs.belonging.past_jump.Given as goal
 
 abbrev pub invariant-loop-index : goal.invariant-loop-index
-invariant-loop-index l = IsPast (JumpLeads l.to l.places) (take l.index-index l.here) l.next.items
+invariant-loop-index l = IsPast (JumpLeads l.jump.area.first l.places) (take l.index-index l.here) l.next.items

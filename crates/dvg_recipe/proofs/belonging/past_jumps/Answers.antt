@@ -11,7 +11,7 @@ loop-jump-preserved c =
     c.loop-jump.here.items c.in_ok-there.there.items c.past_part.new.here.items (omega arith) c.loop-jump-test.true
     c.loop-jump.invariant
     (subst (λ (jump : Jump). IsPast (JumpLeads jump.area.first items) c.loop-jump.here.items c.in_ok-there.there.items) c.jump-item.is
-    (past_from (JumpLeads c.jump-item.result.area.first items) c.deref-in-loop-jump.result.now c.loop-jump.here.items
-    c.in_ok-there.there.items c.deref-in-loop-jump.ensures.value c.in_ok-there.ensures))
+    (past_from (JumpLeads c.jump-item.result.area.first items) c.deref.result.now c.loop-jump.here.items
+    c.in_ok-there.there.items c.deref.ensures.value c.in_ok-there.ensures))
     (subst (λ (jump : Jump). IsPast (PartLeads jump.body items) c.in_ok-there.there.items c.past_part.new.here.items) c.jump-item.is
     c.in_ok-past_part.ensures)

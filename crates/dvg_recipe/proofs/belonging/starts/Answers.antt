@@ -12,7 +12,7 @@ loop-area-preserved c =
           (omega arith) c.loop-area-test.true c.loop-area.invariant
           w.in-Some.index c.match-start_of.here.items w.in-Some.ensures.some w.in-Some.ensures.only
           (subst (λ (l : List ℕ). IsJoined c.loop-area.here.items (w.in-Some.index ∷ []) l) (sym (λ i. (w.here-is i).items))
-          w.in_ok-add.ensures)
+          w.in_ok-add.ensures.joined)
       | in_default w ↦
           starts_skip c.args.lists.now c.args.places.now c.loop-area.area-index (c.loop-area.area-index + 1) _ c.loop-area.here.items
           (omega arith) c.loop-area-test.true c.loop-area.invariant
