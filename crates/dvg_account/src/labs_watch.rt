@@ -5,65 +5,35 @@ use dvg_items::Item;
 use dvg_spelling::RemarkKind;
 use dvg_words::Instr;
 
-/// What came behind a LABS.
-#[derive(Clone, Copy)]
-enum Behind {
-    Nothing,
-    DarkDraws,
-    /// A lit draw or a call. A call of what lights nothing is here, too: games write blanks, such as digits that are not shown.
-    More,
-}
-
-/// The last LABS of the items that were gone over, and what came behind it.
+/// What is remarked of the last LABS of the items that were gone over, if the next item is another one.
 #[derive(Clone, Copy)]
 pub struct LabsWatch {
-    last: Option<(u16, Behind)>,
+    remark: Option<FrameRemark>,
 }
 
 impl LabsWatch {
     /// Before the first item.
     pub fn new() -> LabsWatch {
-        LabsWatch { last: None }
+        LabsWatch { remark: None }
     }
 
     /// Goes over the next item, and answers what is remarked of the last LABS if this is another one. Nothing is remarked of a LABS
-    /// behind which only dark draws come before the end: many games put the beam somewhere last.
+    /// behind which only dark draws come before the end: many games put the beam somewhere last. A call of what lights nothing counts
+    /// as if it lit something: games write blanks, such as digits that are not shown.
     pub fn pass(&mut self, item: &Item) -> Option<FrameRemark> {
         match item.instr {
             Instr::Labs { .. } => {
-                let remark = self.remark();
-                self.last = Some((item.at, Behind::Nothing));
-                return remark;
+                let kind = RemarkKind::IdleLabs;
+                return self.remark.replace(FrameRemark { at: item.at, kind });
             }
-            Instr::Draw(draw) if draw.bright == 0 => self.note_dark(),
-            Instr::Draw(_) | Instr::Jsrl { .. } => self.note(Behind::More),
+            Instr::Draw(draw) if draw.bright == 0 => {
+                if let Some(remark) = &mut self.remark {
+                    remark.kind = RemarkKind::NothingLit;
+                }
+            }
+            Instr::Draw(_) | Instr::Jsrl { .. } => self.remark = None,
             Instr::Halt | Instr::Rtsl | Instr::Jmpl { .. } => {}
         }
         None
-    }
-
-    /// Notes a dark draw.
-    fn note_dark(&mut self) {
-        if let Some((_, Behind::Nothing)) = self.last {
-            self.note(Behind::DarkDraws);
-        }
-    }
-
-    /// Notes what came behind the last LABS.
-    fn note(&mut self, behind: Behind) {
-        if let Some((at, _)) = self.last {
-            self.last = Some((at, behind));
-        }
-    }
-
-    /// What is remarked of the last LABS where another one comes.
-    fn remark(&self) -> Option<FrameRemark> {
-        let (at, behind) = self.last?;
-        let kind = match behind {
-            Behind::Nothing => RemarkKind::IdleLabs,
-            Behind::DarkDraws => RemarkKind::NothingLit,
-            Behind::More => return None,
-        };
-        Some(FrameRemark { at, kind })
     }
 }
