@@ -22,22 +22,22 @@ pub struct Way {
 impl Way {
     /// What leads to the item at a word address, among the items that begin at another. Zeros may be its own words, too.
     pub fn to<F: Fetch>(words: &F, kind: Kind, first: u16, at: u16) -> Way {
-        let mut passed = Passed {
-            last: None,
-            run: None,
-            before: None,
-        };
+        let mut last = None;
+        let mut run = None;
+        let mut before = None;
         for item in Items::from(words, kind, first) {
-            if item.at >= at {
+            let here = item.at;
+            if here >= at {
                 break;
             }
-            passed = if are_zeros(words, item.at) {
-                passed.and_zeros(item)
+            last = Some(item);
+            if are_zeros(words, here) {
+                run = run.or(Some(here));
             } else {
-                Passed::behind(item)
-            };
+                run = None;
+                before = last;
+            }
         }
-        let Passed { last, run, before } = passed;
         let own = if are_zeros(words, at) { Some(at) } else { None };
         let zeros = run.or(own).map(|first| Zeros {
             first,
@@ -45,40 +45,6 @@ impl Way {
             before,
         });
         Way { last, zeros }
-    }
-}
-
-/// The items passed so far.
-#[derive(Clone, Copy)]
-struct Passed {
-    last: Option<Item>,
-    /// Where the zeros begin that the last item ends, if it is of zeros.
-    run: Option<u16>,
-    /// The last item that isn't of zeros.
-    before: Option<Item>,
-}
-
-impl Passed {
-    /// After an item that isn't of zeros.
-    fn behind(item: Item) -> Passed {
-        let last = Some(item);
-        let before = last;
-        Passed {
-            last,
-            run: None,
-            before,
-        }
-    }
-
-    /// After an item of zeros more.
-    fn and_zeros(self, item: Item) -> Passed {
-        let Passed { run, before, .. } = self;
-        let at = item.at;
-        Passed {
-            last: Some(item),
-            run: run.or(Some(at)),
-            before,
-        }
     }
 }
 
