@@ -1,5 +1,6 @@
 //! Where something begins beside the shapes of a certificate.
 
+use crate::inputs::Inputs;
 use crate::starts::ShapeStarts;
 use dvg_labels::{Labels, Nearest};
 use dvg_words::{ADDRESS_END, RomImage};
@@ -14,29 +15,34 @@ pub enum Beginning {
     Label,
 }
 
-/// Where something begins beside the shapes of a certificate: the shapes of other frames, and what labels name.
+/// Where something begins in a ROM beside the shapes of a certificate: the shapes of other frames, and what labels name.
 #[derive(Drop)]
 pub struct Beginnings<'a> {
+    pub rom: &'a RomImage<'a>,
     others: Option<&'a ShapeStarts>,
     /// By word address, whether it is in the ROM and a label stands there; of no word where there are no labels.
     labelled: Vec<bool>,
 }
 
 impl<'a> Beginnings<'a> {
-    /// Those of the shapes of other frames, if these were looked at, and of the words of a ROM with labels, if there are any.
+    /// Those of the shapes of other frames and of labels, as far as these inputs have them.
     pub fn new(
         alloc: Global,
-        rom: &RomImage,
-        others: Option<&'a ShapeStarts>,
-        labels: Option<&Labels>,
+        inputs: &Inputs<'a>,
+        rom: &'a RomImage<'a>,
     ) -> Result<Beginnings<'a>, AllocError> {
         let mut labelled = Vec::new(alloc);
-        if let Some(labels) = labels {
+        if let Some(labels) = inputs.labels {
             for at in 0..ADDRESS_END {
                 labelled.push(rom.word(at).is_some() && stands_at(labels, at))?;
             }
         }
-        Ok(Beginnings { others, labelled })
+        let others = inputs.others;
+        Ok(Beginnings {
+            rom,
+            others,
+            labelled,
+        })
     }
 
     /// What begins at a word address, a shape before a label.

@@ -10,7 +10,6 @@ use crate::frame_list::list_remarks;
 use crate::inputs::Inputs;
 use crate::item::instruction_at;
 use crate::labs_watch::LabsWatch;
-use crate::reached::Reached;
 use crate::remarked::{FrameRemark, in_order};
 use crate::shape_items::{ShapeItem, ShapeItems, from_address};
 use crate::shape_walk::{ShapeWalk, has_length};
@@ -27,12 +26,12 @@ const FIGURE_DRAWS: usize = 2;
 /// What the remarks are found by, the entries that the frame reaches, and the remarks so far.
 #[derive(Drop)]
 pub struct Finder<'a> {
-    rom: &'a RomImage<'a>,
     cert: &'a Cert,
     entries: HashIndex<'a>,
     labels: Option<&'a Labels>,
     beginnings: Beginnings<'a>,
-    reached: Reached,
+    /// The entries in the order in which the frame reaches them, each once.
+    reached: Vec<Entry>,
     remarks: Vec<FrameRemark>,
 }
 
@@ -46,12 +45,11 @@ impl<'a> Finder<'a> {
         rom: &'a RomImage<'a>,
     ) -> Result<Finder<'a>, AllocError> {
         Ok(Finder {
-            rom,
             cert,
             entries,
             labels: inputs.labels,
-            beginnings: Beginnings::new(alloc, rom, inputs.others, inputs.labels)?,
-            reached: Reached::new(alloc),
+            beginnings: Beginnings::new(alloc, inputs, rom)?,
+            reached: Vec::new(alloc),
             remarks: Vec::new(alloc),
         })
     }
@@ -68,13 +66,13 @@ impl<'a> Finder<'a> {
             self.reach(&call.entry)?;
         }
         self.remarks
-            .extend_from_slice(&list_remarks(alloc, self.rom, frame)?)
+            .extend_from_slice(&list_remarks(alloc, self.beginnings.rom, frame)?)
     }
 
     /// Looks at the shapes that the frame reaches.
     pub fn find_in_shapes(&mut self) -> Result<(), AllocError> {
         for index in 0..MOST_ENTRIES {
-            let Some(entry) = self.reached.get(index) else {
+            let Some(entry) = self.reached.get(index).copied() else {
                 break;
             };
             self.find_in_shape(&entry)?;
@@ -88,7 +86,7 @@ impl<'a> Finder<'a> {
         let mut watch = LabsWatch::new();
         let later = from_address(self.cert.entries(), Some(entry.addr));
         let mut items = ShapeItems::of(entry, later);
-        while let Some(next) = items.next(self.rom, &self.entries, &self.beginnings) {
+        while let Some(next) = items.next(&self.entries, &self.beginnings) {
             walk.note(&next);
             self.note_some(RemarkKind::RunsOn, next.meets.map(|(at, _)| at))?;
             if let Some(remark) = watch.pass(&next.item) {
@@ -114,20 +112,32 @@ impl<'a> Finder<'a> {
             self.reach(&called)?;
         }
         if let Some(entry) = next.goes_on {
-            self.reached.add(&entry)?;
+            self.reach_once(&entry)?;
         }
         Ok(())
     }
 
     /// Comes to an entry by a call.
     fn reach(&mut self, entry: &Entry) -> Result<(), AllocError> {
-        self.reached.add(entry)?;
+        self.reach_once(entry)?;
         match self.labels {
-            Some(labels) if leads_beside(self.rom, labels, entry.addr) => {
+            Some(labels) if leads_beside(self.beginnings.rom, labels, entry.addr) => {
                 self.note(RemarkKind::BesideLabel, entry.addr)
             }
             _ => Ok(()),
         }
+    }
+
+    /// Adds an entry to those that are reached, unless it is there.
+    fn reach_once(&mut self, entry: &Entry) -> Result<(), AllocError> {
+        let is_known = self
+            .reached
+            .iter()
+            .any(|known| known.is_at(entry.addr, entry.key));
+        if !is_known {
+            self.reached.push(*entry)?;
+        }
+        Ok(())
     }
 
     /// Notes something of a word, if there is one.

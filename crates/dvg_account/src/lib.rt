@@ -28,7 +28,6 @@ mod meant;
 mod middle;
 mod own;
 mod piece;
-mod reached;
 mod recipes;
 mod refused;
 mod remarked;

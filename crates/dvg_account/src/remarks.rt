@@ -22,8 +22,8 @@ pub fn remarks_on<E: Entries>(
     let mut remarks = Vec::new(alloc);
     push_faint(&mut remarks, None, faint.len(), faint.first().copied())?;
     if let Some(rom) = rom {
-        let beginnings = Beginnings::new(alloc, rom, inputs.others, inputs.labels)?;
-        push_shapes(&mut remarks, rom, cert, entries, &beginnings)?;
+        let beginnings = Beginnings::new(alloc, inputs, rom)?;
+        push_shapes(&mut remarks, cert, entries, &beginnings)?;
     }
     Ok(remarks)
 }
@@ -77,7 +77,6 @@ fn push_runs_on(
 /// Adds the remarks on the shapes. A shape that runs on has this remark at its first scale alone.
 fn push_shapes<E: Entries>(
     remarks: &mut Vec<Piece>,
-    rom: &RomImage,
     cert: &Cert,
     entries: &E,
     beginnings: &Beginnings,
@@ -87,7 +86,7 @@ fn push_shapes<E: Entries>(
     for entry in cert.entries() {
         later = from_address(later, Some(entry.addr));
         let shape = (entry.addr, entry.key);
-        let walk = ShapeWalk::over(rom, entries, entry, later, beginnings);
+        let walk = ShapeWalk::over(entries, entry, later, beginnings);
         push_faint(remarks, Some(shape), walk.faint, walk.first_faint)?;
         if told != Some(entry.addr) {
             push_runs_on(remarks, shape, walk.into)?;

@@ -5,8 +5,8 @@ ghost use Rattle.dvg_items.specs.Iterating.{most_left};
 
 use crate::beginnings::{Beginning, Beginnings};
 use dvg_cert::{Entries, Entry, Key};
-use dvg_items::{Item, Items, Kind, target};
-use dvg_words::{Instr, RomImage};
+use dvg_items::{Item, Items, Kind, callee, target};
+use dvg_words::Instr;
 
 /// An item of a shape, and what is known of it.
 #[derive(Clone, Copy)]
@@ -42,20 +42,12 @@ impl<'a> ShapeItems<'a> {
     }
 
     /// The next item. There is none behind one that meets another shape of the certificate at the very scale that is known there.
-    pub fn next<E: Entries>(
-        &mut self,
-        rom: &RomImage,
-        entries: &E,
-        beginnings: &Beginnings,
-    ) -> Option<ShapeItem>
+    pub fn next<E: Entries>(&mut self, entries: &E, beginnings: &Beginnings) -> Option<ShapeItem>
         ensures { IfSome result (λ _. most_left self.new.here < most_left self.old.here) }
     {
-        let item = Items::from(rom, Kind::Shape, self.here?).next()?;
+        let item = Items::from(beginnings.rom, Kind::Shape, self.here?).next()?;
         let scale = self.scale;
-        let called = match target(Kind::Shape, &item.instr) {
-            Some(to) => entries.named(to, scale),
-            None => None,
-        };
+        let called = callee(entries, target(Kind::Shape, &item.instr), scale);
         self.scale = scale_behind(&item.instr, scale, &called);
         self.here = item.next_address(Kind::Shape);
         self.later = from_address(self.later, self.here);

@@ -4,7 +4,7 @@ use crate::beginnings::{Beginning, Beginnings};
 use crate::shape_items::{ShapeItem, ShapeItems};
 use dvg_cert::{Entries, Entry};
 use dvg_survey::is_faint;
-use dvg_words::{Instr, RomImage};
+use dvg_words::Instr;
 
 /// What is noted of the items of an entry's shape.
 #[derive(Clone, Copy)]
@@ -35,7 +35,6 @@ impl ShapeWalk {
 
     /// The walk over the shape of an entry. `later` are the entries of its certificate that begin behind it, and maybe some before.
     pub fn over<E: Entries>(
-        rom: &RomImage,
         entries: &E,
         entry: &Entry,
         later: &[Entry],
@@ -43,7 +42,7 @@ impl ShapeWalk {
     ) -> ShapeWalk {
         let mut walk = ShapeWalk::new();
         let mut items = ShapeItems::of(entry, later);
-        while let Some(item) = items.next(rom, entries, beginnings) {
+        while let Some(item) = items.next(entries, beginnings) {
             walk.note(&item);
         }
         walk
