@@ -57,6 +57,6 @@ pub use remarked::{FrameRemark, frame_remarks, remarks_text};
 pub use starts::ShapeStarts;
 pub use swapped::{Swapped, find_swapped};
 pub use texts::{
-    address_text, certificate_text, frame_text, leaving_text, made_text, own_text, plain_text,
-    timed_text, unmade_text, verdict_text,
+    address_text, certificate_text, frame_text, leaving_text, made_text, plain_text, timed_text,
+    unmade_text, verdict_text,
 };

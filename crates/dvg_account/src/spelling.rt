@@ -25,28 +25,12 @@ pub enum CertificateOf {
 
 /// What the words of an account depend on: who made the certificate, and which input has its bytes swapped, if one has.
 #[derive(Clone, Copy)]
-pub struct Telling {
-    pub cert: CertificateOf,
-    pub swapped: Option<Swapped>,
+struct Telling {
+    cert: CertificateOf,
+    swapped: Option<Swapped>,
 }
 
 impl Telling {
-    /// By the certificate that was given.
-    pub fn of_given(swapped: Option<Swapped>) -> Telling {
-        Telling {
-            cert: CertificateOf::User,
-            swapped,
-        }
-    }
-
-    /// By the frame's own certificate.
-    pub fn of_own(swapped: Option<Swapped>) -> Telling {
-        Telling {
-            cert: CertificateOf::Frame,
-            swapped,
-        }
-    }
-
     /// The text of a number's rule.
     fn rule(self, number: u8) -> Option<Rule> {
         match self.cert {
@@ -56,15 +40,18 @@ impl Telling {
     }
 }
 
-/// The text of an account, in which addresses are named by these labels.
+/// The text of an account that speaks of this certificate, in which addresses are named by these labels. It tells first of which input
+/// the bytes are to be swapped, if they are.
 pub fn text_of(
     alloc: Global,
-    telling: Telling,
+    cert: CertificateOf,
+    swapped: Option<Swapped>,
     pieces: &[Piece],
     labels: Option<&Labels>,
 ) -> Result<String, AllocError> {
+    let telling = Telling { cert, swapped };
     let mut text = Text::new(alloc, labels);
-    if let Some(swapped) = telling.swapped {
+    if let Some(swapped) = swapped {
         push_swapped(&mut text, swapped);
     }
     for piece in pieces {

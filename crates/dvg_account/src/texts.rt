@@ -1,11 +1,10 @@
 //! The accounts of answers, as texts. Where labels are given, they name the addresses: `SHIP+3 (819)` is three words past `SHIP`.
 
-use crate::answers::verdict_lines;
 use crate::inputs::{Inputs, PlainWhy, certificate_lines, plain_lines};
 use crate::leaving::leaving_lines;
 use crate::making::{made_lines, unmade_lines};
 use crate::own::{frame_lines, own_lines};
-use crate::spelling::{Telling, text_of};
+use crate::spelling::{CertificateOf, text_of};
 use crate::swapped::{Swapped, find_swapped};
 use crate::text::Text;
 use crate::time::{slow_lines, time_lines};
@@ -18,44 +17,31 @@ use dvg_text::RefusedText;
 use dvg_words::{FrameImage, Machine, RomImage};
 use std::alloc::{AllocError, Global};
 
-/// Where inputs are refused because of an item: the input that gets them accepted once its bytes are swapped.
+/// Where a frame is refused because of an item, or by the maker: the input that gets it accepted once its bytes are swapped.
 fn swapped_for(
-    alloc: Global,
-    inputs: &Inputs,
-    refusal: &Refusal,
-) -> Result<Option<Swapped>, AllocError> {
-    match refusal {
-        Refusal::Shape(_) | Refusal::Frame(_) => find_swapped(alloc, inputs),
-        _ => Ok(None),
-    }
-}
-
-/// The same for a verdict on a frame.
-fn swapped_for_frame(
     alloc: Global,
     inputs: &Inputs,
     verdict: &Result<Yes, FrameRefusal>,
 ) -> Result<Option<Swapped>, AllocError> {
     match verdict {
-        Ok(_) | Err(FrameRefusal::NoMemory) => Ok(None),
-        Err(FrameRefusal::Make { .. }) => find_swapped(alloc, inputs),
-        Err(FrameRefusal::Check(refusal)) => swapped_for(alloc, inputs, refusal),
+        Err(FrameRefusal::Make { .. })
+        | Err(FrameRefusal::Check(Refusal::Shape(_) | Refusal::Frame(_))) => {
+            find_swapped(alloc, inputs)
+        }
+        _ => Ok(None),
     }
 }
 
-/// The account of [`verdict_lines`] as a text. Of a refusal because of an item it tells first what [`find_swapped`] finds.
+/// The account of [`verdict_lines`](crate::verdict_lines) as a text. Of a refusal because of an item it tells first what
+/// [`find_swapped`] finds.
 pub fn verdict_text(
     alloc: Global,
     inputs: &Inputs,
     verdict: &Result<Yes, Refusal>,
     cause: Option<&Finding>,
 ) -> Result<String, AllocError> {
-    let lines = verdict_lines(alloc, inputs, verdict, cause)?;
-    let swapped = match verdict {
-        Ok(_) => None,
-        Err(refusal) => swapped_for(alloc, inputs, refusal)?,
-    };
-    text_of(alloc, Telling::of_given(swapped), &lines, inputs.labels)
+    let verdict = verdict.map_err(FrameRefusal::Check);
+    text_by(alloc, CertificateOf::User, inputs, &verdict, cause)
 }
 
 /// The account of [`frame_lines`] as a text. Of a refusal because of an item, or by the maker, it tells first what [`find_swapped`]
@@ -66,29 +52,28 @@ pub fn frame_text(
     verdict: &Result<Yes, FrameRefusal>,
     cause: Option<&Finding>,
 ) -> Result<String, AllocError> {
-    let lines = frame_lines(alloc, inputs, verdict, cause)?;
-    let swapped = swapped_for_frame(alloc, inputs, verdict)?;
-    let telling = match inputs.cert {
-        Some(_) => Telling::of_given(swapped),
-        None => Telling::of_own(swapped),
+    let cert = match inputs.cert {
+        Some(_) => CertificateOf::User,
+        None => CertificateOf::Frame,
     };
-    text_of(alloc, telling, &lines, inputs.labels)
+    text_by(alloc, cert, inputs, verdict, cause)
 }
 
-/// The account of [`own_lines`] as a text. Of a refusal because of an item, or by the maker, it tells first what [`find_swapped`]
-/// finds.
-pub fn own_text(
+/// That account, by this certificate.
+fn text_by(
     alloc: Global,
+    cert: CertificateOf,
     inputs: &Inputs,
-    rom: &RomImage,
-    frame: &FrameImage,
-    judged: Result<JudgedFrame, MakeAccount>,
+    verdict: &Result<Yes, FrameRefusal>,
+    cause: Option<&Finding>,
 ) -> Result<String, AllocError> {
-    own_text_with(alloc, inputs, rom, frame, judged, None)
+    let lines = frame_lines(alloc, inputs, verdict, cause)?;
+    let swapped = swapped_for(alloc, inputs, verdict)?;
+    text_of(alloc, cert, swapped, &lines, inputs.labels)
 }
 
-/// That account, with the time that the frame takes on the board.
-fn own_text_with(
+/// The account of [`own_lines`] as a text, with the time that the frame takes on the board.
+fn own_text(
     alloc: Global,
     inputs: &Inputs,
     rom: &RomImage,
@@ -101,12 +86,13 @@ fn own_text_with(
     if let (Machine::Board, Some(time)) = (inputs.machine, time) {
         lines.extend_from_slice(&time_lines(alloc, &time)?)?;
     }
-    let swapped = swapped_for_frame(alloc, inputs, &verdict)?;
-    text_of(alloc, Telling::of_own(swapped), &lines, inputs.labels)
+    let swapped = swapped_for(alloc, inputs, &verdict)?;
+    text_of(alloc, CertificateOf::Frame, swapped, &lines, inputs.labels)
 }
 
-/// The account of a frame that was judged with its time, as a text: that of [`own_text`], behind which the time is told that an accepted
-/// frame takes on the board; or where it may take more than `limit` clocks, that of its refusal with 58.
+/// The account of a frame that was judged with its time, as a text: that of [`own_lines`], behind which the time is told that an accepted
+/// frame takes on the board; or where it may take more than `limit` clocks, that of its refusal with 58. Of a refusal because of an
+/// item, or by the maker, it tells first what [`find_swapped`] finds.
 pub fn timed_text(
     alloc: Global,
     inputs: &Inputs,
@@ -123,9 +109,9 @@ pub fn timed_text(
     match (answer, time?) {
         (Err(TimedRefusal::Slow { at }), Some(time)) => {
             let lines = slow_lines(alloc, inputs, frame, at, limit, &time)?;
-            text_of(alloc, Telling::of_own(None), &lines, inputs.labels)
+            text_of(alloc, CertificateOf::Frame, None, &lines, inputs.labels)
         }
-        (_, time) => own_text_with(alloc, inputs, rom, frame, judged, time),
+        (_, time) => own_text(alloc, inputs, rom, frame, judged, time),
     }
 }
 
@@ -138,7 +124,7 @@ pub fn plain_text(
     labels: Option<&Labels>,
 ) -> Result<String, AllocError> {
     let lines = plain_lines(machine, alloc, number, why)?;
-    text_of(alloc, Telling::of_own(None), &lines, labels)
+    text_of(alloc, CertificateOf::Frame, None, &lines, labels)
 }
 
 /// The account of [`leaving_lines`] as a text.
@@ -150,7 +136,7 @@ pub fn leaving_text(
     labels: Option<&Labels>,
 ) -> Result<String, AllocError> {
     let lines = leaving_lines(alloc, frame, at, &could_stand)?;
-    text_of(alloc, Telling::of_own(None), &lines, labels)
+    text_of(alloc, CertificateOf::Frame, None, &lines, labels)
 }
 
 /// The account of a certificate's text that is refused, [`certificate_lines`] as a text.
@@ -161,7 +147,7 @@ pub fn certificate_text(
     labels: Option<&Labels>,
 ) -> Result<String, AllocError> {
     let lines = certificate_lines(machine, alloc, refused.fault(), refused.why())?;
-    text_of(alloc, Telling::of_given(None), &lines, labels)
+    text_of(alloc, CertificateOf::User, None, &lines, labels)
 }
 
 /// A word address as accounts spell it: with the label that names it, if one does, as in `SHIP+3 (819)`.
@@ -183,7 +169,7 @@ pub fn made_text(
     labels: Option<&Labels>,
 ) -> Result<String, AllocError> {
     let lines = made_lines(machine, alloc, cert)?;
-    text_of(alloc, Telling::of_own(None), &lines, labels)
+    text_of(alloc, CertificateOf::Frame, None, &lines, labels)
 }
 
 /// The account of [`unmade_lines`] as a text.
@@ -195,5 +181,5 @@ pub fn unmade_text(
     labels: Option<&Labels>,
 ) -> Result<String, AllocError> {
     let lines = unmade_lines(alloc, rom, frames, &account)?;
-    text_of(alloc, Telling::of_own(None), &lines, labels)
+    text_of(alloc, CertificateOf::Frame, None, &lines, labels)
 }
