@@ -11,7 +11,7 @@ ghost use Rattle.dvg_account.specs.Building.{Adds};
 use crate::lines::Lines;
 use crate::piece::Piece::{self, Line, Text};
 use dvg_items::{Item, Items, Kind};
-use dvg_make::{EntryCause, MakeAccount};
+use dvg_make::{EntryFault, MakeAccount};
 use dvg_words::{Fetch, FrameImage, FrameOn, Instr, Machine};
 
 /// A jump, and the instruction into whose second word it may lead.
@@ -68,19 +68,8 @@ fn middle_before<F: Fetch>(frame: &F, call: u16) -> Option<Middle>
     None
 }
 
-/// Whether the making stops at an item that can be in no shape that is called so, as where a word that is no call is read as one.
-fn is_of_item(cause: EntryCause) -> bool {
-    match cause {
-        EntryCause::Missing
-        | EntryCause::Odd
-        | EntryCause::Halt
-        | EntryCause::BeamUnknown
-        | EntryCause::ScaleUnknown => true,
-        _ => false,
-    }
-}
-
-/// That jump before the call of a frame, if there is one and the making stops at such an item.
+/// That jump before the call of a frame, if there is one and the making stops at an item that can be in no shape that is called so, as
+/// where a word that is no call is read as one.
 pub fn middle_of(
     machine: Machine,
     frame: Option<&FrameImage>,
@@ -88,9 +77,9 @@ pub fn middle_of(
 ) -> Option<Middle>
     ensures { IsMiddleOf machine (option_copied frame.entry) result }
 {
-    if !is_of_item(account.cause) {
+    let EntryFault::Unstraight { .. } = account.fault.why else {
         return None;
-    }
+    };
     let framed = FrameOn::new(machine, frame?);
     middle_before(&framed, account.fault.call?.at)
 }
