@@ -208,14 +208,6 @@ fn shape_lines(
     lines.finish()
 }
 
-/// How a certificate was made that is for the other machine than this one.
-fn made_otherwise(machine: Machine) -> &'static str {
-    match machine {
-        Machine::Profile => "for the board",
-        Machine::Board => "without `--board`",
-    }
-}
-
 /// Adds that the certificate may have been made for the other machine, if this fault may come of it.
 fn push_other_machine(lines: &mut Lines, machine: Machine, why: ShapeWhy)
     ensures { Adds lines.old lines.new (other_machine_lines why) }
@@ -226,10 +218,11 @@ fn push_other_machine(lines: &mut Lines, machine: Machine, why: ShapeWhy)
     lines.add(&[
         Line("other machine"),
         Text("the certificate may have been made "),
-        Text(made_otherwise(machine)),
         Text(match machine {
-            Machine::Profile => ", by `make --board`; `make` without it makes one for this machine",
-            Machine::Board => "; `make --board` makes one for the board",
+            Machine::Profile => {
+                "for the board, by `make --board`; `make` without it makes one for this machine"
+            }
+            Machine::Board => "without `--board`; `make --board` makes one for the board",
         }),
     ]);
 }
