@@ -72,23 +72,19 @@ fn push_odd_fields(lines: &mut Lines, y: Option<u16>, x: Option<u16>)
     let most = Text(", at most 1023");
     match (y, x) {
         (Some(y), Some(x)) => lines.add(&[
-            Text("bit 11 or bit 10 is set in both its words: "),
-            Text("Y "),
+            Text("bit 11 or bit 10 is set in both its words: Y "),
             Number(y as u64),
-            Text(", "),
-            Text("X "),
+            Text(", X "),
             Number(x as u64),
             most,
         ]),
         (Some(y), None) => lines.add(&[
-            Text("bit 11 or bit 10 is set in its first word: "),
-            Text("Y "),
+            Text("bit 11 or bit 10 is set in its first word: Y "),
             Number(y as u64),
             most,
         ]),
         (None, Some(x)) => lines.add(&[
-            Text("bit 11 or bit 10 is set in its second word: "),
-            Text("X "),
+            Text("bit 11 or bit 10 is set in its second word: X "),
             Number(x as u64),
             most,
         ]),
@@ -108,12 +104,9 @@ pub const AT_UNKNOWN_SCALE: &str = "it draws lit at unknown scale";
 /// What lights at a lost place: the box of the entry that the item names, or a draw.
 fn lost_place(found: &Found) -> &'static str {
     match found {
-        Found::Seen(
-            Seen {
-                callee: Some(_),
-                ..
-            },
-        ) => "the entry that it names has a box, and the place is lost",
+        Found::Seen(seen) if seen.callee.is_some() => {
+            "the entry that it names has a box, and the place is lost"
+        }
         _ => AT_LOST_PLACE,
     }
 }
@@ -126,12 +119,11 @@ fn point_of(place: End) -> Option<Point> {
     }
 }
 
-/// The start of a draw, or the lower left corner of a called box.
+/// The first corner of what an item lights: the start of a draw, or the lower left corner of a called box.
 fn first_corner(seen: &Seen) -> Option<Point> {
     let place = point_of(seen.place)?;
-    match (seen.item.instr, seen.extent) {
-        (Instr::Draw(_), _) => Some(place),
-        (_, LitExtent::Between { from, .. }) => Some(Point {
+    match seen.extent {
+        LitExtent::Between { from, .. } => Some(Point {
             x: place.x.wrapping_add(from.x),
             y: place.y.wrapping_add(from.y),
         }),
@@ -141,15 +133,10 @@ fn first_corner(seen: &Seen) -> Option<Point> {
 
 /// Which corner of what an item lights stands at a point: an end of a draw, or a corner of the box of the entry that it calls.
 fn corner(found: &Found, point: Point) -> &'static str {
-    match found {
-        Found::Seen(seen) => corner_of(seen, point),
-        _ => "its end at ",
-    }
-}
-
-fn corner_of(seen: &Seen, point: Point) -> &'static str {
-    let is_first = first_corner(seen) == Some(point);
-    match (seen.item.instr, is_first) {
+    let Found::Seen(seen) = found else {
+        return "its end at ";
+    };
+    match (seen.item.instr, first_corner(seen) == Some(point)) {
         (Instr::Draw(_), true) => "its start at ",
         (Instr::Draw(_), false) => "its end at ",
         (_, true) => "the lower left corner of its entry's box at ",
@@ -251,10 +238,9 @@ pub fn push_frame_why(
             push_missing(lines, &framed, at, IN_FRAME, 0, last)
         }
         FrameCause::Odd => push_odd(lines, &framed, at),
-        FrameCause::ReturnInFrame => lines.add(&[
-            Text("RTSL stands in a frame"),
-            Text(", and there is no call to return from"),
-        ]),
+        FrameCause::ReturnInFrame => {
+            lines.add(&[Text("RTSL stands in a frame, and there is no call to return from")])
+        }
         FrameCause::BackJump(to) => lines.add(&[
             Text("it jumps to "),
             Address(to),
