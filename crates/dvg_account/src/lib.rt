@@ -9,7 +9,6 @@
 #![tactic(auto)]
 
 mod accepted;
-mod answers;
 mod beginnings;
 mod beside;
 mod chains;
@@ -26,7 +25,6 @@ mod lines;
 mod making;
 mod meant;
 mod middle;
-mod own;
 mod piece;
 mod recipes;
 mod refused;
@@ -41,16 +39,15 @@ mod text;
 mod texts;
 mod time;
 mod unseen;
+mod verdicts;
 mod why;
 mod zeros;
 
-pub use answers::verdict_lines;
 pub use beginnings::Beginning;
 pub use dumps::dump_text;
 pub use inputs::{Inputs, PlainWhy, certificate_lines, plain_lines};
 pub use leaving::leaving_lines;
 pub use making::{made_lines, unmade_lines};
-pub use own::{frame_lines, own_lines};
 pub use piece::{Bounds, Instruction, Piece};
 pub use recipes::{KnownBefore, RecipeLine, recipe_text};
 pub use remarked::{FrameRemark, frame_remarks, remarks_text};
@@ -60,3 +57,4 @@ pub use texts::{
     address_text, certificate_text, frame_text, leaving_text, made_text, plain_text, timed_text,
     unmade_text, verdict_text,
 };
+pub use verdicts::{frame_lines, own_lines, verdict_lines};

@@ -3,11 +3,11 @@
 use crate::inputs::{Inputs, PlainWhy, certificate_lines, plain_lines};
 use crate::leaving::leaving_lines;
 use crate::making::{made_lines, unmade_lines};
-use crate::own::{frame_lines, own_lines};
 use crate::spelling::{CertificateOf, text_of};
 use crate::swapped::{Swapped, find_swapped};
 use crate::text::Text;
 use crate::time::{slow_lines, time_lines};
+use crate::verdicts::{frame_lines, own_lines};
 use dvg_cert::Cert;
 use dvg_check::{Finding, Refusal, Yes};
 use dvg_clocks::{FrameTime, TimedJudging, TimedRefusal};
