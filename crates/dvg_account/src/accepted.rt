@@ -9,7 +9,7 @@ use crate::inputs::Inputs;
 use crate::lines::Lines;
 use crate::piece::Piece::{self, Address, Answer, Distance, Line, Number, Text, Within};
 use crate::remarks::remarks_on;
-use dvg_cert::{Cert, HashIndex, LitBox};
+use dvg_cert::{HashIndex, LitBox};
 use dvg_check::{Refusal, Yes, frame_of};
 use dvg_make::{FrameRefusal, judge};
 use dvg_survey::{Call, FrameSurvey, Margins, shapes_extent, survey_frame};
@@ -26,16 +26,7 @@ pub struct Survey {
 }
 
 impl Survey {
-    /// What there is to tell without a certificate.
-    fn nothing(alloc: Global) -> Survey {
-        Survey {
-            frame: FrameSurvey::empty(alloc),
-            shapes: LitBox::Empty,
-            remarks: Vec::new(alloc),
-        }
-    }
-
-    /// The survey of inputs with these images, as far as their bytes are of the right length.
+    /// The survey of inputs with these images, as far as their bytes are of the right length; nothing without a certificate.
     fn of(
         alloc: Global,
         inputs: &Inputs,
@@ -45,22 +36,13 @@ impl Survey {
         ensures { IfOk result (λ s. IfSome inputs.now.cert (λ cert. Surveyed inputs.now.machine cert.now (option_copied rom.entry)
             (option_copied frame.entry) s)) }
     {
-        match inputs.cert {
-            Some(cert) => Survey::by(alloc, inputs, cert, rom, frame),
-            None => Ok(Survey::nothing(alloc)),
-        }
-    }
-
-    /// The survey of inputs with these images by a certificate, as far as their bytes are of the right length.
-    fn by(
-        alloc: Global,
-        inputs: &Inputs,
-        cert: &Cert,
-        rom: Option<&RomImage>,
-        frame: Option<&FrameImage>,
-    ) -> Result<Survey, AllocError>
-        ensures { IfOk result (Surveyed inputs.now.machine cert.now (option_copied rom.entry) (option_copied frame.entry)) }
-    {
+        let Some(cert) = inputs.cert else {
+            return Ok(Survey {
+                frame: FrameSurvey::empty(alloc),
+                shapes: LitBox::Empty,
+                remarks: Vec::new(alloc),
+            });
+        };
         let entries = HashIndex::new(alloc, cert)?;
         let frame = match frame {
             Some(frame) => survey_frame(inputs.machine, alloc, cert, &entries, frame)?,
