@@ -114,16 +114,11 @@ fn push_beside_frame(
     ensures { OnOk result (Tells lines.old lines.new (TellsBesideFrame inputs.now cert.now.entries cause)) }
 {
     match cause {
-        FrameCause::Odd => {
-            push_board(lines, board_answer(alloc, inputs)?);
-            Ok(())
-        }
-        FrameCause::NoEntry { to, .. } => {
-            push_keys_at(lines, cert.entries(), to);
-            Ok(())
-        }
-        _ => Ok(()),
+        FrameCause::Odd => push_board(lines, board_answer(alloc, inputs)?),
+        FrameCause::NoEntry { to, .. } => push_keys_at(lines, cert.entries(), to),
+        _ => {}
     }
+    Ok(())
 }
 
 /// Adds the line of the keys of the entries at a word address, in their order.
@@ -164,15 +159,10 @@ fn push_beside_shape(
     ensures { OnOk result (Tells lines.old lines.new (TellsBesideShape inputs.now why)) }
 {
     match why {
-        ShapeWhy::Odd => {
-            push_board(lines, board_answer(alloc, inputs)?);
-            Ok(())
-        }
-        _ => {
-            push_other_machine(lines, inputs.machine, why);
-            Ok(())
-        }
+        ShapeWhy::Odd => push_board(lines, board_answer(alloc, inputs)?),
+        _ => push_other_machine(lines, inputs.machine, why),
     }
+    Ok(())
 }
 
 /// The lines of the first fault of the shapes of these inputs, with a frame, if there is one.
