@@ -306,31 +306,21 @@ fn push_below(
 }
 
 /// The calls that go deepest below a shape, by the certificate of that shape alone.
+#[tactic(auto, using(dvg_items::proofs::Listed::listed_at))]
 fn calls_below(
     alloc: Global,
     rom: &RomImage,
     addr: u16,
     scale: Key,
 ) -> Result<Vec<Call>, AllocError> {
-    match make(alloc, rom, slice::from_ref(&(addr, scale))) {
-        Ok(cert) => calls_below_entry(alloc, rom, &cert, addr, scale),
-        Err(MakeFault::Memory) => Err(AllocError),
-        Err(_) => Ok(Vec::new(alloc)),
-    }
-}
-
-/// The calls that go deepest below the entry at this address and scale.
-#[tactic(auto, using(dvg_items::proofs::Listed::listed_at))]
-fn calls_below_entry(
-    alloc: Global,
-    rom: &RomImage,
-    cert: &Cert,
-    addr: u16,
-    scale: Key,
-) -> Result<Vec<Call>, AllocError> {
-    let entries = ListIndex::new(cert);
+    let cert = match make(alloc, rom, slice::from_ref(&(addr, scale))) {
+        Ok(cert) => cert,
+        Err(MakeFault::Memory) => return Err(AllocError),
+        Err(_) => return Ok(Vec::new(alloc)),
+    };
+    let entries = ListIndex::new(&cert);
     match entries.find(addr, scale) {
-        Some(entry) => deepest_calls(alloc, rom, cert, &entries, &entry),
+        Some(entry) => deepest_calls(alloc, rom, &cert, &entries, &entry),
         None => Ok(Vec::new(alloc)),
     }
 }
