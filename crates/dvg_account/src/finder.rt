@@ -11,7 +11,7 @@ use crate::inputs::Inputs;
 use crate::item::instruction_at;
 use crate::labs_watch::LabsWatch;
 use crate::remarked::{FrameRemark, in_order};
-use crate::shape_items::{ShapeItem, ShapeItems, from_address};
+use crate::shape_items::{ShapeItems, from_address};
 use crate::shape_walk::{ShapeWalk, has_length};
 use dvg_cert::{Cert, End, Entry, HashIndex, LitBox, MOST_ENTRIES};
 use dvg_labels::Labels;
@@ -92,27 +92,16 @@ impl<'a> Finder<'a> {
             if let Some(remark) = watch.pass(&next.item) {
                 self.remarks.push(remark)?;
             }
-            self.reach_from(&next)?;
+            if let Some(called) = next.called {
+                self.reach(&called)?;
+            }
+            if let Some(entry) = next.goes_on {
+                self.reach_once(&entry)?;
+            }
         }
-        self.note_walk(entry, &walk)
-    }
-
-    /// Notes what a walk over the shape of an entry found.
-    fn note_walk(&mut self, entry: &Entry, walk: &ShapeWalk) -> Result<(), AllocError> {
         self.note_some(RemarkKind::ScaleOver9, walk.first_shrunk)?;
         if lights_nothing(entry) && walk.moves >= FIGURE_DRAWS {
             self.note(RemarkKind::NothingLit, entry.addr)?;
-        }
-        Ok(())
-    }
-
-    /// Comes to the entries to which an item of a shape leads.
-    fn reach_from(&mut self, next: &ShapeItem) -> Result<(), AllocError> {
-        if let Some(called) = next.called {
-            self.reach(&called)?;
-        }
-        if let Some(entry) = next.goes_on {
-            self.reach_once(&entry)?;
         }
         Ok(())
     }
