@@ -5,7 +5,7 @@ use Rattle.dvg_words.specs.Decoding.{opcode, is_long_opcode, cell_at}
 use Rattle.dvg_words.specs.declared.instruction.Cell.{Cell}
 use Rattle.dvg_words.specs.declared.instruction.Cell.TheVariants as cell
 use Rattle.dvg_cert.specs.declared.entry.Entry.{Entry as Called}
-use Rattle.dvg_items.specs.declared.item.Item.{Item as Before}
+use Rattle.dvg_items.specs.declared.item.Item.{Item as There}
 use Rattle.dvg_items.specs.declared.item.Kind.{Kind}
 use Rattle.dvg_items.specs.declared.item.Kind.TheVariants.{Shape, Frame}
 use Rattle.dvg_items.specs.declared.known.Known.{Known}
@@ -16,7 +16,6 @@ use Rattle.dvg_account.specs.declared.zeros.Zeros.{Zeros}
 pub use Rattle.dvg_account.specs.declared.item.RefusedItem.{RefusedItem}
 pub use Rattle.dvg_account.specs.declared.item.ItemWords.{ItemWords}
 use Rattle.dvg_account.specs.declared.item.ItemWords.TheVariants as held
-pub use Rattle.dvg_account.specs.declared.piece.Instruction.{Instruction as There}
 use Rattle.dvg_account.specs.declared.piece.Piece.TheVariants.{At, Number, Address, Word, Instruction, Item, Entry, Place, Scale}
 use Rattle.dvg_account.specs.Told.{Told, Piece, Role, line, of, one}
 use Rattle.dvg_account.specs.declared.piece.Role.TheVariants as role
@@ -36,13 +35,13 @@ abbrev pub words_at : Source → ℕ → ItemWords
 words_at source at = words_from (source.word at) (source.word (at + 1))
 
 -- the instruction at a word address, if one stands there
-abbrev pub instruction_of : Cell → Option There
-instruction_of (cell.Holds format instr) = Some (record { format = format; instr = instr })
-instruction_of c = None
+abbrev pub instruction_of : ℕ → Cell → Option There
+instruction_of at (cell.Holds format instr) = Some (record { at = at; format = format; instr = instr })
+instruction_of at c = None
 
 -- the instruction at a word address of a source
 abbrev pub instruction_at : Source → ℕ → Option There
-instruction_at source at = instruction_of (cell_at source at)
+instruction_at source at = instruction_of at (cell_at source at)
 
 -- the entry that an item names
 abbrev pub callee_of : Found → Option Called
@@ -77,17 +76,17 @@ words_of (held.One first) = Word first ∷ []
 words_of (held.Two first second) = Word first ∷ Word second ∷ []
 
 -- another item under this key, if there is one
-abbrev pub item_line : Role → List ℕ → Option Before → List Told
+abbrev pub item_line : Role → List ℕ → Option There → List Told
 item_line r key other = one (λ i. of r key (Item i ∷ [])) other
 
 -- an item of a frame is told with the item that goes on to it, unless zeros lead there; one of a shape only where it is missing
-abbrev pub comes_from : Kind → ItemWords → Option Zeros → Option Before → Option Before
+abbrev pub comes_from : Kind → ItemWords → Option Zeros → Option There → Option There
 comes_from Frame words None before = before
 comes_from Shape held.Nothing None before = before
 comes_from kind words zeros before = None
 
 -- what was lost by an item
-abbrev pub lost_by : (Losses → Option Before) → Option Losses → Option Before
+abbrev pub lost_by : (Losses → Option There) → Option Losses → Option There
 lost_by what None = None
 lost_by what (Some l) = what l
 

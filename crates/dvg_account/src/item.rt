@@ -3,13 +3,13 @@
 ghost use Rattle.std.specs.Prelude.{◌≡◌, ◌∷◌, [], codes, None, Some, option_map, option_to_list};
 ghost use Rattle.dvg_account.specs.declared.piece.Piece.TheVariants as pieces;
 ghost use Rattle.dvg_account.specs.Told.{of, one};
-ghost use Rattle.dvg_account.specs.Items.{words_at, instruction_at, callee_of, IsItem, IsItemWith, lines_as, stands, words_of, known_lines, item_line, zeros_lines, comes_from, lost_by};
+ghost use Rattle.dvg_account.specs.Items.{words_at, instruction_at, callee_of, IsItemWith, lines_as, stands, words_of, known_lines, item_line, zeros_lines, comes_from, lost_by};
 ghost use Rattle.dvg_account.specs.Building.{Adds};
 ghost use Rattle.dvg_items.specs.declared.item.Kind.TheVariants.{Frame};
 
 use crate::lines::Lines;
 use crate::piece::Piece::{self, Address, At, Line, Number, Place, Scale, Text, Word};
-use crate::piece::{Instruction, Role};
+use crate::piece::Role;
 use crate::zeros::{Way, Zeros};
 use dvg_cert::Entry;
 use dvg_check::Found;
@@ -31,7 +31,7 @@ pub struct RefusedItem {
     pub kind: Kind,
     pub at: u16,
     pub words: ItemWords,
-    pub instruction: Option<Instruction>,
+    pub instruction: Option<Item>,
     pub callee: Option<Entry>,
     pub before: Option<Known>,
     pub losses: Option<Losses>,
@@ -39,28 +39,9 @@ pub struct RefusedItem {
 }
 
 impl RefusedItem {
-    /// The item at a word address, among the items that begin at another; what is known before it, and the entry that it names.
+    /// The item at a word address, among the items that begin at another; what is known before it, if that is told, and the entry that it
+    /// names.
     pub fn new<F: Fetch>(
-        memory: &F,
-        kind: Kind,
-        first: u16,
-        at: u16,
-        before: Known,
-        callee: Option<Entry>,
-    ) -> RefusedItem
-        ensures { IsItem kind (F.words memory.now) at before callee result }
-    {
-        RefusedItem::with(memory, kind, first, at, Some(before), callee)
-    }
-
-    /// The call of a frame at a word address. The account says nothing else of it.
-    pub fn call<F: Fetch>(memory: &F, at: u16) -> RefusedItem
-        ensures { IsItemWith Frame (F.words memory.now) at None None result }
-    {
-        RefusedItem::with(memory, Kind::Frame, 0, at, None, None)
-    }
-
-    fn with<F: Fetch>(
         memory: &F,
         kind: Kind,
         first: u16,
@@ -80,6 +61,13 @@ impl RefusedItem {
             losses: None,
             way: Way::to(memory, kind, first, at),
         }
+    }
+
+    /// The call of a frame at a word address. The account says nothing else of it.
+    pub fn call<F: Fetch>(memory: &F, at: u16) -> RefusedItem
+        ensures { IsItemWith Frame (F.words memory.now) at None None result }
+    {
+        RefusedItem::new(memory, Kind::Frame, 0, at, None, None)
     }
 
     /// The lines of the item, in this role.
@@ -146,7 +134,7 @@ fn push_words(lines: &mut Lines, role: Role, words: ItemWords)
 }
 
 /// Adds the line of an item's instruction, or that its words are none.
-fn push_instruction(lines: &mut Lines, role: Role, instruction: Option<Instruction>)
+fn push_instruction(lines: &mut Lines, role: Role, instruction: Option<Item>)
     ensures { Adds lines.old lines.new (of role (codes "instruction") (option_to_list (option_map pieces.Instruction instruction))) }
 {
     match instruction {
@@ -216,11 +204,11 @@ pub fn callee_of(found: &Found) -> Option<Entry>
 }
 
 /// The instruction at a word address, if there is one.
-pub fn instruction_at<F: Fetch>(memory: &F, at: u16) -> Option<Instruction>
+pub fn instruction_at<F: Fetch>(memory: &F, at: u16) -> Option<Item>
     ensures { result ≡ instruction_at (F.words memory.now) at }
 {
     match read_cell(memory, at) {
-        Cell::Holds { format, instr } => Some(Instruction { format, instr }),
+        Cell::Holds { format, instr } => Some(Item { at, format, instr }),
         _ => None,
     }
 }

@@ -48,7 +48,7 @@ pub use dumps::dump_text;
 pub use inputs::{Inputs, PlainWhy, certificate_lines, plain_lines};
 pub use leaving::leaving_lines;
 pub use making::{made_lines, unmade_lines};
-pub use piece::{Bounds, Instruction, Piece};
+pub use piece::{Bounds, Piece};
 pub use recipes::{KnownBefore, RecipeLine, recipe_text};
 pub use remarked::{FrameRemark, frame_remarks, remarks_text};
 pub use starts::ShapeStarts;

@@ -127,9 +127,9 @@ fn item_of(rom: &RomImage, frame: Option<&FrameImage>, account: &MakeAccount) ->
     match frame {
         Some(frame) if at < RAM_WORDS => {
             let ram = FrameOn::new(rom.machine(), frame);
-            Some(RefusedItem::new(&ram, Kind::Shape, shape.addr, at, before, None))
+            Some(RefusedItem::new(&ram, Kind::Shape, shape.addr, at, Some(before), None))
         }
-        _ => Some(RefusedItem::new(rom, Kind::Shape, shape.addr, at, before, None)),
+        _ => Some(RefusedItem::new(rom, Kind::Shape, shape.addr, at, Some(before), None)),
     }
 }
 

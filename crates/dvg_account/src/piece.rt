@@ -7,7 +7,7 @@ use dvg_cert::{End, Entry, Key, LitBox};
 use dvg_check::{Leaving, Yes};
 use dvg_items::Item;
 use dvg_make::FrameRefusal;
-use dvg_words::{Format, Instr, Point, RomMap};
+use dvg_words::{Point, RomMap};
 
 /// A piece of an account. A key begins a line, and what follows it up to the next key is the line's value.
 #[derive(Clone, Copy)]
@@ -31,7 +31,8 @@ pub enum Piece {
     At(u16),
     /// What a word holds.
     Word(u16),
-    Instruction(Instruction),
+    /// The instruction of an item.
+    Instruction(Item),
     /// The word address of an item, and its instruction.
     Item(Item),
     /// The name of an entry: its address and its key.
@@ -89,11 +90,4 @@ impl Role {
 pub enum Bounds {
     Window,
     ClaimedBox,
-}
-
-/// An instruction, and whether it has one word or two.
-#[derive(Clone, Copy)]
-pub struct Instruction {
-    pub format: Format,
-    pub instr: Instr,
 }

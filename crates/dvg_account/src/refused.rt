@@ -70,11 +70,12 @@ fn frame_lines(
     let machine = inputs.machine;
     let at = finding.fault.word;
     let number = finding.fault.number();
+    let before = Some(finding.before);
     let callee = callee_of(&finding.found);
     let framed = FrameOn::new(machine, frame);
     let item = RefusedItem {
         losses: frame_losses(machine, cert, &ListIndex::new(cert), frame, at),
-        ..RefusedItem::new(&framed, Kind::Frame, 0, at, finding.before, callee)
+        ..RefusedItem::new(&framed, Kind::Frame, 0, at, before, callee)
     };
     let stroke = furthest(rom, cert, finding);
     let mut lines = Lines::new(alloc);
@@ -180,10 +181,11 @@ fn shape_lines(
     let entry = finding.entry;
     let at = finding.fault.word;
     let number = finding.fault.number();
+    let before = Some(finding.before);
     let callee = callee_of(&finding.found);
     let item = RefusedItem {
         losses: losses_in_shape(rom, cert, &entry, at),
-        ..RefusedItem::new(rom, Kind::Shape, entry.addr, at, finding.before, callee)
+        ..RefusedItem::new(rom, Kind::Shape, entry.addr, at, before, callee)
     };
     let mut lines = Lines::new(alloc);
     lines.push_machine(rom.machine());

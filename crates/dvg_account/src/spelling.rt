@@ -3,7 +3,7 @@
 ghost use Rattle.std.specs.Prelude.{◌≡◌};
 ghost use Rattle.dvg_words.specs.Beam.{signed_field};
 
-use crate::piece::{Bounds, Instruction, Piece};
+use crate::piece::{Bounds, Piece};
 use crate::swapped::Swapped;
 use crate::text::Text;
 use dvg_check::{Edge, Leaving, Yes};
@@ -103,7 +103,7 @@ fn push_piece(text: &mut Text, telling: Telling, piece: &Piece) {
         Piece::BareAddress(addr) => text.push_hex_address(*addr),
         Piece::At(addr) => push_at(text, *addr),
         Piece::Word(word) => text.push_word(*word),
-        Piece::Instruction(there) => push_instruction(text, there),
+        Piece::Instruction(item) => push_instruction(text, item),
         Piece::Item(item) => push_item(text, item),
         Piece::Name(addr, key) => text.push_entry_name(*addr, *key),
         Piece::Entry(entry) => text.push_entry(entry),
@@ -216,16 +216,15 @@ fn push_at(text: &mut Text, at: u16) {
 
 /// An item: its word address and its instruction.
 fn push_item(text: &mut Text, item: &Item) {
-    let Item { at, format, instr } = *item;
-    text.push_address(at);
+    text.push_address(item.at);
     text.push(" ");
-    push_instruction(text, &Instruction { format, instr });
+    push_instruction(text, item);
 }
 
-/// An instruction by its fields.
-fn push_instruction(text: &mut Text, there: &Instruction) {
-    match there.instr {
-        Instr::Draw(draw) => push_draw(text, there.format, &draw),
+/// The instruction of an item by its fields.
+fn push_instruction(text: &mut Text, item: &Item) {
+    match item.instr {
+        Instr::Draw(draw) => push_draw(text, item.format, &draw),
         Instr::Labs { x, y, gscale } => {
             text.push_number("LABS Y ", signed_field(y));
             text.push_number(", global scale ", gscale);
