@@ -16,7 +16,6 @@ mod cure;
 mod dumps;
 mod finder;
 mod frame_list;
-mod furthest;
 mod inputs;
 mod item;
 mod labs_watch;

@@ -9,12 +9,13 @@ ghost use Rattle.dvg_survey.specs.Losses.{AreLosses, NoneLead};
 ghost use Rattle.dvg_make.specs.Made.{HasEntry};
 ghost use Rattle.dvg_account.specs.Told.{told, Line};
 ghost use Rattle.dvg_account.specs.Refused.{FrameLines, ShapeLines, TellsChain, TellsBesideFrame, TellsBesideShape, frame_cure, key_at, keys_at};
+ghost use Rattle.dvg_account.specs.Furthest.{IsFurthest};
+ghost use Rattle.dvg_account.specs.Items.{callee_of};
 ghost use Rattle.dvg_account.specs.Machines.{other_machine_lines};
 ghost use Rattle.dvg_account.specs.Building.{Adds, Tells};
 
 use crate::accepted::{board_answer, push_board};
 use crate::chains::push_steps;
-use crate::furthest::furthest;
 use crate::inputs::{Inputs, plain_lines};
 use crate::item::{RefusedItem, callee_of, push_item};
 use crate::lines::Lines;
@@ -23,8 +24,8 @@ use crate::piece::Role;
 use crate::why::{push_frame_why, push_shape_why};
 use dvg_cert::{Cert, Entries, Entry, HashIndex, ListIndex};
 use dvg_check::{Finding, FrameCause, FrameFinding, Refusal, ShapeFinding, ShapeWhy};
-use dvg_items::Kind;
-use dvg_survey::{Losses, find_chain, frame_losses, shape_losses};
+use dvg_items::{Item, Kind};
+use dvg_survey::{Losses, find_chain, frame_losses, furthest_stroke, shape_losses};
 use dvg_words::{FrameImage, FrameOn, Machine, RomImage};
 use std::alloc::{AllocError, Global};
 
@@ -88,6 +89,23 @@ fn frame_lines(
     push_beside_frame(alloc, inputs, cert, finding.cause, &mut lines)?;
     push_frame_cure(&mut lines, finding, frame);
     lines.finish()
+}
+
+/// The stroke by which a called shape reaches furthest past the edge that its box leaves, where a frame is refused because of that box.
+#[tactic(auto, using(dvg_items::proofs::Listed::listed_at))]
+pub fn furthest(rom: Option<&RomImage>, cert: &Cert, finding: &FrameFinding) -> Option<Item>
+    ensures { IsFurthest (option_copied rom.entry) cert.now.entries finding.now.cause (callee_of finding.now.found) result }
+{
+    let (Some(rom), FrameCause::OffScreen(leaving), Some(called)) = (
+        rom,
+        finding.cause,
+        callee_of(&finding.found),
+    ) else {
+        return None;
+    };
+    let entries = ListIndex::new(cert);
+    let entry = entries.find(called.addr, called.key)?;
+    furthest_stroke(rom, cert, &entries, &entry, leaving.edge)
 }
 
 /// Adds what to do about the first fault of a frame. A jump back that is its last word may be meant as its end.
