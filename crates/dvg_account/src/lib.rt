@@ -37,7 +37,6 @@ mod swapped;
 mod text;
 mod texts;
 mod time;
-mod unseen;
 mod verdicts;
 mod why;
 mod zeros;
