@@ -5,7 +5,6 @@ pub mod Items
 pub mod Leaving
 pub mod Why
 pub mod Plain
-pub mod Furthest
 pub mod Chains
 pub mod Refused
 pub mod Accepted

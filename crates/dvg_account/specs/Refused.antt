@@ -2,12 +2,14 @@
 use Rattle.std.specs.Prelude.{◌≡◌, ℕ, ◌-◌, List, [], ◌∷◌, ◌++◌, codes, flat_map, length, Option, Some, None, IfSome, IfNone, Result, nat_eq, if◌then◌else◌, ◌⊎◌}
 use Rattle.dvg_words.specs.Memory.{Rom, rom_word, frame_word}
 use Rattle.dvg_cert.specs.declared.entry.Entry.{Entry}
+use Rattle.dvg_cert.specs.Lookup.{entry_at}
 use Rattle.dvg_items.specs.Known.{frame_context, shape_context}
 use Rattle.dvg_items.specs.declared.item.Item.{Item as Stroke}
 use Rattle.dvg_items.specs.declared.item.Kind.TheVariants.{Frame, Shape}
 use Rattle.dvg_check.specs.FirstFault.{frame_number, shape_number}
 use Rattle.dvg_survey.specs.declared.calls.Call.{Call}
 use Rattle.dvg_survey.specs.Chains.{IsChain}
+use Rattle.dvg_survey.specs.Furthest.{FindsStroke}
 use Rattle.dvg_survey.specs.Losses.{AreLosses, NoneLead}
 use Rattle.dvg_check.specs.declared.fault.ShapeWhy.{ShapeWhy}
 use Rattle.dvg_check.specs.declared.fault.ShapeWhy.TheVariants as shape
@@ -20,7 +22,6 @@ use Rattle.dvg_make.specs.declared.judging.FrameRefusal.{FrameRefusal}
 use Rattle.dvg_make.specs.Made.{HasEntry}
 use Rattle.dvg_account.specs.Items.{RefusedItem, IsItem, callee_of, item_line, lines_as}
 use Rattle.dvg_account.specs.Chains.{name_of, call_steps}
-use Rattle.dvg_account.specs.Furthest.{IsFurthest}
 use Rattle.dvg_account.specs.Machines.{machine_lines, other_machine_lines, IsZone}
 use Rattle.dvg_account.specs.Why.{frame_why, shape_why}
 use Rattle.dvg_account.specs.Accepted.{IsBoard, board_line}
@@ -62,6 +63,13 @@ abbrev pub frame_cure : List ℕ → FrameFinding → FrameCause → List Told
 frame_cure words f (frame.BackJump to) = cure_line (frame_number f.fault.why)
     ++ (if nat_eq f.fault.word (length words - 1) then values (piece.OrHalt ∷ []) else [])
 frame_cure words f cause = cure_line (frame_number f.fault.why)
+
+-- of a call whose box leaves the window, the stroke by which the called entry reaches as far as its box towards the edge that is left
+abbrev pub IsFurthest : Option Rom → List Entry → FrameCause → Option Entry → Option Stroke → Type 0
+IsFurthest (Some rom) list (frame.OffScreen leaving) (Some called) found =
+    IfSome (entry_at list called.addr called.key) (λ e. FindsStroke (length list) rom list leaving.edge e found)
+    × IfNone (entry_at list called.addr called.key) (found ≡ None)
+IsFurthest rom list cause called found = found ≡ None
 
 -- the lines of the first fault of a frame: its rule, its cause, the stroke of what it calls, its item, what else is told, and what to
 -- do. No losses are told where no items lead there
