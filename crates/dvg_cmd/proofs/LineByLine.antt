@@ -1,6 +1,7 @@
 -- Lines that are sent one after another, over plain values.
-use Rattle.dvg_cmd.proofs.Common.{take, length-append, take-append-le, Appends-trans, TakeOneWriteEach, take-append-add, ◌≡◌, ℕ, ◌+◌, ◌<◌, List, [], ◌∷◌, ◌++◌, length, drop, get_or, Option, refl, sym, ap, ◌∙◌, subst, arith, append-nil, append_assoc, Result, OnErr, Appends, AppendsPrefix, TakesOneWrite, of_each, joined, rules, common_steps, drop-cons}
-use Rattle.dvg_cmd.specs.Sent.{Sent}
+use Rattle.dvg_cmd.proofs.Common.{take, length-append, take-append-le, Appends-trans, TakeOneWriteEach, take-append-add, ◌≡◌, ℕ, ◌+◌, ◌<◌, List, [], ◌∷◌, ◌++◌, length, drop, get_or, Option, refl, sym, ap, ◌∙◌, subst, arith, append-nil, append_assoc, Result, Ok, Err, OnErr, OnOk, true, count_after, Appends, AppendsPrefix, TakesOneWrite, of_each, joined, rules, common_steps, drop-cons}
+use Rattle.std.specs.Result.{IsErr, is_err}
+use Rattle.dvg_cmd.specs.Sent.{Sent, Writes}
 
 pub on_err : {A E P : Type 0} (r : Result A E) → P → OnErr r P
 on_err r p = grind (arith)
@@ -47,70 +48,60 @@ pub first_cut : (lines more : List (List ℕ)) (old new : Option (List ℕ)) →
     → AppendsPrefix old new (joined (lines ++ more))
 first_cut lines more old new h = subst (AppendsPrefix old new) (sym (joined_on lines more)) (grind (arith, length-append, take-append-le))
 
-module _ (all : List (List ℕ)) (old : Option (List ℕ)) (writes : ℕ) where
-  -- of all lines these are left, and those before them were sent
-  pub record SentTo (left : List (List ℕ)) (mid : Option (List ℕ)) (writes_mid : ℕ) : Type 0 where
+module _ {W : Type 0} {contents : W → Option (List ℕ)} {whole_writes failures : W → ℕ} {A E B F : Type 0} where
+  -- lines were written, and then more, or a prefix of these
+  pub then : {old mid new : W} {lines more : List (List ℕ)} {a : A}
+      → Writes {E = E} contents whole_writes failures old mid (Ok a) lines
+      → {r : Result B F} → Writes contents whole_writes failures mid new r more
+      → Writes contents whole_writes failures old new r (lines ++ more)
+  then {lines = lines} {more = more} h {r = Ok b} k =
+      record { sent = both_sent lines more _ _ _ _ _ _ h.sent k.sent; prefix = tt; count = k.count ∙ h.count }
+  then {mid = mid} {lines = lines} {more = more} h {r = Err e} k =
+      record { sent = tt; prefix = both_cut lines more _ _ _ _ _ (whole_writes mid) h.sent k.prefix; count = k.count ∙ ap (count_after true) h.count }
+
+  -- no more was written than a prefix of these lines
+  pub cut_in : {old new : W} {lines : List (List ℕ)} {e : E} → Writes {A = A} contents whole_writes failures old new (Err e) lines
+      → (more : List (List ℕ)) {r : Result B F} → IsErr r → Writes contents whole_writes failures old new r (lines ++ more)
+  cut_in h more {r = Ok b} is = grind (arith, is)
+  cut_in {lines = lines} h more {r = Err e} is = record { sent = tt; prefix = first_cut lines more _ _ h.prefix; count = h.count }
+
+-- one line was written by one write, or a prefix of it
+module _ {W A E : Type 0} {contents : W → Option (List ℕ)} {whole_writes failures : W → ℕ} {old new : W} {text line : List ℕ} where
+  pub one_line : (r : Result A E) → text ≡ line → 0 < length line → OnOk r (Appends (contents old) (contents new) text)
+      → OnErr r (AppendsPrefix (contents old) (contents new) text)
+      → (0 < length text → OnOk r (TakesOneWrite text (whole_writes old) (whole_writes new)))
+      → failures new ≡ count_after (is_err r) (failures old) → Writes contents whole_writes failures old new r (line ∷ [])
+  one_line r is some written prefix one count = grind (arith, rules, append-nil, joined)
+
+module _ {W : Type 0} (contents : W → Option (List ℕ)) (whole_writes failures : W → ℕ) (all : List (List ℕ)) (old : W) where
+  -- of all lines these are left, and those before them were written
+  pub record WritesTo (E : Type 0) (left : List (List ℕ)) (mid : W) : Type 0 where
     pub done : List (List ℕ)
-    pub sent : Sent done old mid writes writes_mid
+    pub written : Writes {A = Unit {0}} {E = E} contents whole_writes failures old mid (Ok tt) done
     pub whole : done ++ left ≡ all
 
-  pub all_sent : (left : List (List ℕ)) → left ≡ [] → (mid : Option (List ℕ)) (writes_mid : ℕ) → SentTo left mid writes_mid
-      → Sent all old mid writes writes_mid
-  all_sent left none mid writes_mid h =
-      subst (λ ls. Sent ls old mid writes writes_mid) (sym (append-nil h.done) ∙ ap (λ ls. h.done ++ ls) (sym none) ∙ h.whole) h.sent
+module _ {W E : Type 0} {contents : W → Option (List ℕ)} {whole_writes failures : W → ℕ} {all : List (List ℕ)} {old mid : W}
+    {left : List (List ℕ)} (h : WritesTo contents whole_writes failures all old E left mid) where
+  -- none is left
+  pub all_written : left ≡ [] → Writes {A = Unit {0}} {E = E} contents whole_writes failures old mid (Ok tt) all
+  all_written none =
+      subst (λ ls. Writes {A = Unit {0}} {E = E} contents whole_writes failures old mid (Ok tt) ls)
+      (sym (append-nil h.done) ∙ ap (λ ls. h.done ++ ls) (sym none) ∙ h.whole) h.written
 
-  module _ (left : List (List ℕ)) (line : List ℕ) (rest : List (List ℕ)) (next : left ≡ line ∷ rest) (mid new : Option (List ℕ))
-      (writes_mid : ℕ) (h : SentTo left mid writes_mid) (piece : List ℕ) (is : piece ≡ line) where
-    first : joined (line ∷ []) ≡ piece
-    first = append-nil line ∙ sym is
-
-    pub one_sent : 0 < length line → (writes_after : ℕ) → Appends mid new piece
-        → (0 < length piece → TakesOneWrite piece writes_mid writes_after) → SentTo rest new writes_after
-    one_sent some writes_after written one =
-        let sent : Sent (line ∷ []) mid new writes_mid writes_after =
-        search (
-          subst (Appends mid new) (sym first) written,
-          subst (λ t. TakesOneWrite t writes_mid writes_after) is (one (subst (λ t. 0 < length t) (sym is) some)),
-        ) in
-        search (
-          both_sent h.done (line ∷ []) old mid new writes writes_mid writes_after h.sent sent,
-          append_assoc h.done (line ∷ []) rest ∙ ap (λ ls. h.done ++ ls) (sym next) ∙ h.whole,
-        )
-
-    pub one_cut : AppendsPrefix mid new piece → AppendsPrefix old new (joined all)
-    one_cut written =
-        grind (
-          arith,
-          rules,
-          common_steps,
-          joined,
-          (first_cut (h.done ++ line ∷ []) rest old new
-              (both_cut h.done (line ∷ []) old mid new writes writes_mid writes_mid h.sent
-              (subst (AppendsPrefix mid new) (sym first) written))),
-          (both_cut h.done (line ∷ []) old mid new writes writes_mid writes_mid h.sent
-              (subst (AppendsPrefix mid new) (sym first) written)),
-          first_cut,
-          both_cut,
-        )
-
-  -- the next of them was sent, or a prefix of it
-  module _ (left : List (List ℕ)) (line : List ℕ) (rest : List (List ℕ)) (next : left ≡ line ∷ rest) (mid new : Option (List ℕ))
-      (writes_mid : ℕ) (h : SentTo left mid writes_mid) where
+  module _ {line : List ℕ} {rest : List (List ℕ)} (next : left ≡ line ∷ rest) where
     whole_then : (h.done ++ line ∷ []) ++ rest ≡ all
     whole_then = append_assoc h.done (line ∷ []) rest ∙ ap (λ ls. h.done ++ ls) (sym next) ∙ h.whole
 
-    pub line_sent : (writes_after : ℕ) → Sent (line ∷ []) mid new writes_mid writes_after → SentTo rest new writes_after
-    line_sent writes_after sent =
-        record {
-          done = h.done ++ line ∷ [];
-          sent = both_sent h.done (line ∷ []) old mid new writes writes_mid writes_after h.sent sent;
-          whole = whole_then;
-        }
+    -- the next was written
+    pub line_written : {new : W} → Writes {A = Unit {0}} {E = E} contents whole_writes failures mid new (Ok tt) (line ∷ [])
+        → WritesTo contents whole_writes failures all old E rest new
+    line_written k = record { done = h.done ++ line ∷ []; written = then h.written k; whole = whole_then }
 
-    pub cut_line : AppendsPrefix mid new (joined (line ∷ [])) → AppendsPrefix old new (joined all)
-    cut_line cut =
-        subst (λ ls. AppendsPrefix old new (joined ls)) whole_then
-        (first_cut (h.done ++ line ∷ []) rest old new (both_cut h.done (line ∷ []) old mid new writes writes_mid writes_mid h.sent cut))
+    -- a prefix of it
+    pub line_cut : {A F : Type 0} {e : F} {new : W} → Writes {A = A} contents whole_writes failures mid new (Err e) (line ∷ [])
+        → {r : Result (Unit {0}) E} → IsErr r → Writes contents whole_writes failures old new r all
+    line_cut {new = new} k {r = r} is =
+        subst (λ ls. Writes contents whole_writes failures old new r ls) whole_then (cut_in (then h.written k) rest is)
 
 -- ---- the lines of things, each by one of these texts
 

@@ -1,10 +1,8 @@
 -- Lines that are written one after another, where each write may fail.
-use Rattle.dvg_cmd.proofs.Common.{◌≡◌, ◌∙◌, sym, subst, append-nil, ℕ, List, [], ◌∷◌, ◌++◌, Option, Result, OnErr, OnOk, Ok, Err, Appends, AppendsPrefix, TakesOneWrite, joined, refl, true, Outcome, Sent}
+use Rattle.dvg_cmd.proofs.Common.{◌≡◌, ◌∙◌, sym, ap, subst, append-nil, ℕ, List, [], ◌∷◌, ◌++◌, Option, Result, OnErr, OnOk, Ok, Err, Appends, AppendsPrefix, TakesOneWrite, joined, refl, true, Bool}
 use Rattle.std.specs.Prelude.{if◌then◌else◌}
 use Rattle.std.proofs.KnownBytes.{Appends-nil}
-use Rattle.dvg_cmd.specs.Telling.{blank_line, is_written, told, summary_of}
-use Rattle.dvg_cmd.specs.declared.progress.Progress.{Progress}
-use Rattle.dvg_cmd.proofs.LineByLine.{both_cut}
+use Rattle.dvg_cmd.specs.Sent.{Sent, Writes}
 
 pub on_ok : {A E P Q : Type 0} (r : Result A E) → OnOk r P → (P → Q) → OnOk r Q
 on_ok (Ok a) h step = step h
@@ -39,19 +37,13 @@ pub none_sent : (texts : List (List ℕ)) → texts ≡ [] → (old : Option (Li
 none_sent texts none old writes =
     subst (λ ts. Sent ts old old writes writes) (sym none) (record { written = Appends-nil old; one_write = refl })
 
--- ---- what is written of a line, and behind all lines
+module _ {W A E : Type 0} {contents : W → Option (List ℕ)} {whole_writes failures : W → ℕ} {old new : W} {r : Result A E} where
+  -- the same texts
+  pub same_texts : {texts lines : List (List ℕ)} → texts ≡ lines → Writes contents whole_writes failures old new r texts
+      → Writes contents whole_writes failures old new r lines
+  same_texts is h = subst (λ ts. Writes contents whole_writes failures old new r ts) is h
 
-module _ {T : Type 0} (p : Progress T) (old mid new : Option (List ℕ)) (writes writes_mid : ℕ)
-    (apart : Sent (blank_line p.layout.apart p.written) old mid writes writes_mid) where
-  pub told_cut : (end : Outcome) (line : List ℕ) → is_written p.layout.lines end ≡ true → AppendsPrefix mid new line
-      → AppendsPrefix old new (joined (told p end line))
-  told_cut end line shown cut =
-      subst (λ b. AppendsPrefix old new (joined (if b then blank_line p.layout.apart p.written ++ line ∷ [] else []))) (sym shown)
-      (both_cut (blank_line p.layout.apart p.written) (line ∷ []) old mid new writes writes_mid writes_mid apart
-      (subst (AppendsPrefix mid new) (sym (append-nil line)) cut))
-
-  pub summary_cut : (last : T → List (List ℕ)) → p.layout.summary ≡ true → AppendsPrefix mid new (joined (last p.tally))
-      → AppendsPrefix old new (joined (summary_of last p))
-  summary_cut last shown cut =
-      subst (λ b. AppendsPrefix old new (joined (if b then blank_line p.layout.apart p.written ++ last p.tally else []))) (sym shown)
-      (both_cut (blank_line p.layout.apart p.written) (last p.tally) old mid new writes writes_mid writes_mid apart cut)
+  -- those that are written where this is so, and none else
+  pub if_shown : {texts : List (List ℕ)} {b : Bool} → b ≡ true → Writes contents whole_writes failures old new r texts
+      → Writes contents whole_writes failures old new r (if b then texts else [])
+  if_shown {texts = texts} is h = same_texts (ap (λ b. if b then texts else []) (sym is)) h

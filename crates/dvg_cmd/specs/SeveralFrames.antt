@@ -43,7 +43,7 @@ summed_with s line =
 -- the texts that tell it: the frames that take most, how many remarks there are, which shapes refused frames call, and how many lines
 -- say what
 abbrev pub summary_texts : FramesSummary → List (List ℕ)
-summary_texts s = most_texts s.most ++ remarks_texts s.remarks ++ called_texts s.called ++ summary_text s.tally ∷ []
+summary_texts s = most_texts s.most ++ (remarks_texts s.remarks ++ (called_texts s.called ++ summary_text s.tally ∷ []))
 
 -- how it is told of frames
 abbrev pub of_frames : Listing FrameDetail → Telling (FrameAnswer × BehindFrame) FramesSummary

@@ -1,11 +1,11 @@
 //! Counts the shapes that refused frames call at the item that is refused, and writes a line for each.
 
-ghost use Rattle.std.specs.Prelude.{◌≡◌, ◌≤◌, ◌∷◌, [], None, Some, IfNone, IfSome, OnErr, OnOk, is_err, length};
+ghost use Rattle.std.specs.Prelude.{◌≡◌, ◌≤◌, [], None, Some, IfNone, IfSome, length};
 ghost use Rattle.dvg_words.specs.Memory.{IsFrameLength, words_of};
-ghost use Rattle.dvg_text.specs.Devices.{AppendsPrefix, count_after};
 ghost use Rattle.dvg_cmd.specs.Called.{again_at, called_by, called_text, called_texts, is_before, is_counted, place_in, refused_at, with_called};
-ghost use Rattle.dvg_cmd.specs.Sent.{joined, Sent};
+ghost use Rattle.dvg_cmd.specs.Sent.{Writes};
 
+use crate::entry_lines::{HasLine, write_each};
 use arrayvec::ArrayVec;
 use dvg_check::Refusal;
 use dvg_make::FrameRefusal;
@@ -142,33 +142,16 @@ fn count_called(counts: &mut ArrayVec<CalledCount, 64>, called: Called)
     }
 }
 
-impl CalledCount {
-    /// Writes its line.
-    fn write<W: CountedWrite>(&self, out: &mut W) -> Result<(), WriteFault>
-        ensures sent { OnOk result (Sent (called_text self.now ∷ []) (W.contents out.old) (W.contents out.new) (W.whole_writes out.old)
-            (W.whole_writes out.new)) }
-        ensures prefix { OnErr result (AppendsPrefix (W.contents out.old) (W.contents out.new) (joined (called_text self.now ∷ []))) }
-        ensures count { W.failures out.new ≡ count_after (is_err result) (W.failures out.old) }
-    {
+impl HasLine for CalledCount {
+    ghost text = { called_text };
+
+    fn write<W: CountedWrite>(&self, out: &mut W) -> Result<(), WriteFault> {
         let mut head = Summary::new();
         push_count(&mut head, b"refused-", u32::from(self.called.number));
         push_count(&mut head, b"=", self.count);
         push_bytes(&mut head, b" calling ");
         write_lines(head.as_slice(), self.called.name.as_slice(), b"\n", out)
     }
-}
-
-/// Writes a line for each of these counts.
-fn write_counts<W: CountedWrite>(counts: &[CalledCount], out: &mut W) -> Result<(), WriteFault>
-    ensures sent { OnOk result (Sent (called_texts counts.now) (W.contents out.old) (W.contents out.new) (W.whole_writes out.old)
-        (W.whole_writes out.new)) }
-    ensures prefix { OnErr result (AppendsPrefix (W.contents out.old) (W.contents out.new) (joined (called_texts counts.now))) }
-    ensures count { W.failures out.new ≡ count_after (is_err result) (W.failures out.old) }
-{
-    for count in counts {
-        count.write(out)?;
-    }
-    Ok(())
 }
 
 impl CalledTally {
@@ -190,11 +173,8 @@ impl CalledTally {
 
     /// Writes a line for each count.
     pub fn write<W: CountedWrite>(&self, out: &mut W) -> Result<(), WriteFault>
-        ensures sent { OnOk result (Sent (called_texts self.now) (W.contents out.old) (W.contents out.new) (W.whole_writes out.old)
-            (W.whole_writes out.new)) }
-        ensures prefix { OnErr result (AppendsPrefix (W.contents out.old) (W.contents out.new) (joined (called_texts self.now))) }
-        ensures count { W.failures out.new ≡ count_after (is_err result) (W.failures out.old) }
+        ensures { Writes W.contents W.whole_writes W.failures out.old out.new result (called_texts self.now) }
     {
-        write_counts(self.counts.as_slice(), out)
+        write_each(self.counts.as_slice(), out)
     }
 }

@@ -1,12 +1,13 @@
 //! Running over readers and a writer, to tell what a change of a ROM touches.
 
-ghost use Rattle.std.specs.Prelude.{◌≡◌, ◌≢◌, ◌↔◌, ◌<◌, [], ◌∷◌, Err, IfOk, IfErr, IsTrue, OnOk, OnErr, is_err, length, string_bytes};
+ghost use Rattle.std.specs.Prelude.{◌≡◌, ◌≢◌, ◌↔◌, ◌<◌, [], ◌∷◌, Err, IfOk, IfErr, IsTrue, OnOk, length, string_bytes};
 ghost use Rattle.std.specs.Io.KnownBytes.{Appends};
-ghost use Rattle.dvg_text.specs.Devices.{AppendsPrefix, count_after};
+ghost use Rattle.dvg_text.specs.Devices.{count_after};
 ghost use Rattle.dvg_spelling.specs.Faults.{make_run_number};
+ghost use Rattle.dvg_spelling.specs.Touched.{frame_touched_line};
 ghost use Rattle.dvg_cmd.specs.Comparing.{ComparesFor, ComparisonFaultMeans, comparison_lines, WritesComparison, WritesComparisonPrefix};
 ghost use Rattle.dvg_cmd.specs.MakingFrames.{blames_frames_rom, blames_a_frame, blames_frames_writer, of_each, FailedAfter, EachRead};
-ghost use Rattle.dvg_cmd.specs.Sent.{joined, Sent};
+ghost use Rattle.dvg_cmd.specs.Sent.{Writes};
 ghost use Rattle.dvg_cmd.specs.Runs.{MOST_ROM_READ, IsReadTo};
 
 use crate::entry_lines::write_each;
@@ -19,23 +20,27 @@ use dvg_text::{CountedRead, CountedWrite, WriteFault, write_lines};
 use dvg_words::{Machine, RomMap};
 use std::alloc::Global;
 
+/// Writes that the frame of this name reaches a touched entry.
+fn write_touched<W: CountedWrite>(name: &str, out: &mut W) -> Result<(), WriteFault>
+    ensures { Writes W.contents W.whole_writes W.failures out.old out.new result (frame_touched_line name.now ∷ []) }
+{
+    write_lines(name.as_bytes(), b": touched\n", &[], out)
+}
+
 /// Writes the lines of what a change touches: of the entries, and of the frames that reach one, by their names.
 fn write_comparison<W: CountedWrite>(
     names: &[String],
     comparison: &Comparison,
     out: &mut W,
 ) -> Result<(), WriteFault>
-    ensures sent { OnOk result (Sent (comparison_lines (of_each (λ name. string_bytes name) names.now) comparison.now)
-        (W.contents out.old) (W.contents out.new) (W.whole_writes out.old) (W.whole_writes out.new)) }
-    ensures prefix { OnErr result (AppendsPrefix (W.contents out.old) (W.contents out.new)
-        (joined (comparison_lines (of_each (λ name. string_bytes name) names.now) comparison.now))) }
-    ensures count { W.failures out.new ≡ count_after (is_err result) (W.failures out.old) }
+    ensures { Writes W.contents W.whole_writes W.failures out.old out.new result
+        (comparison_lines (of_each (λ name. string_bytes name) names.now) comparison.now) }
 {
     write_each(&comparison.entries, out)?;
     let reaching = comparison.reaching.as_slice();
     for i in 0..names.len().min(reaching.len()) {
         if reaching[i] {
-            write_lines(names[i].as_str().as_bytes(), b": touched\n", &[], out)?;
+            write_touched(names[i].as_str(), out)?;
         }
     }
     Ok(())

@@ -1,9 +1,10 @@
 //! Writing messages and texts, each by one write if it fits one.
 
-ghost use Rattle.std.specs.Prelude.{◌≡◌, ◌<◌, ◌++◌, codes, length, Err, IfErr, OnOk, OnErr, is_err};
+ghost use Rattle.std.specs.Prelude.{◌≡◌, ◌<◌, ◌++◌, ◌∷◌, [], codes, length, IfErr, OnOk, OnErr, is_err};
 ghost use Rattle.std.specs.Io.KnownBytes.{Appends};
 ghost use Rattle.dvg_text.specs.Devices.{AppendsPrefix, TakesOneWrite, count_after};
 ghost use Rattle.dvg_spelling.specs.Messages.{make_message};
+ghost use Rattle.dvg_cmd.specs.Sent.{Writes};
 
 use dvg_spelling::{MakeRunFault, RunFault, make_report_of};
 use dvg_text::{CountedWrite, write_lines};
@@ -21,11 +22,8 @@ pub fn write_text<W: CountedWrite>(text: &str, out: &mut W) -> Result<(), RunFau
 
 /// Writes a message and an LF.
 pub fn write_message<W: CountedWrite>(message: &str, out: &mut W) -> Result<(), RunFault>
-    ensures written { OnOk result (Appends (W.contents out.old) (W.contents out.new) (message.now ++ codes "\n")) }
-    ensures prefix { OnErr result (AppendsPrefix (W.contents out.old) (W.contents out.new) (message.now ++ codes "\n")) }
-    ensures one_write { OnOk result (TakesOneWrite (message.now ++ codes "\n") (W.whole_writes out.old) (W.whole_writes out.new)) }
+    ensures written { Writes W.contents W.whole_writes W.failures out.old out.new result ((message.now ++ codes "\n") ∷ []) }
     ensures fault { IfErr result (λ fault. fault ≡ RunFault.Write) }
-    ensures count { W.failures out.new ≡ count_after (is_err result) (W.failures out.old) }
 {
     Ok(write_lines(message.as_bytes(), b"\n", &[], out)?)
 }
@@ -37,14 +35,9 @@ pub fn write_make_fault<W: CountedWrite>(
     fault: &MakeRunFault,
     out: &mut W,
 ) -> Result<(), RunFault>
-    ensures written { OnOk result (Appends (W.contents out.old) (W.contents out.new)
-        (name.now ++ (make_message fault.now ++ codes "\n"))) }
-    ensures prefix { OnErr result (AppendsPrefix (W.contents out.old) (W.contents out.new)
-        (name.now ++ (make_message fault.now ++ codes "\n"))) }
-    ensures one_write { OnOk result (TakesOneWrite (name.now ++ (make_message fault.now ++ codes "\n"))
-        (W.whole_writes out.old) (W.whole_writes out.new)) }
+    ensures written { Writes W.contents W.whole_writes W.failures out.old out.new result
+        ((name.now ++ (make_message fault.now ++ codes "\n")) ∷ []) }
     ensures fault { IfErr result (λ fault. fault ≡ RunFault.Write) }
-    ensures count { W.failures out.new ≡ count_after (is_err result) (W.failures out.old) }
 {
     let report = make_report_of(fault);
     Ok(write_lines(name.as_bytes(), report.as_bytes(), &[], out)?)

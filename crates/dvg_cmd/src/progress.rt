@@ -1,9 +1,8 @@
 //! How far a run over several things has come, and the lines that it writes.
 
-ghost use Rattle.std.specs.Prelude.{◌≡◌, ◌<◌, ◌++◌, length, false, OnOk, OnErr, is_err};
-ghost use Rattle.dvg_text.specs.Devices.{AppendsPrefix, count_after};
+ghost use Rattle.std.specs.Prelude.{◌≡◌, ◌<◌, ◌++◌, length, false};
 ghost use Rattle.dvg_spelling.specs.declared.outcome.Outcome.TheVariants.{Accepted};
-ghost use Rattle.dvg_cmd.specs.Sent.{joined, Sent};
+ghost use Rattle.dvg_cmd.specs.Sent.{Writes};
 ghost use Rattle.dvg_cmd.specs.Telling.{blank_line, gone, told};
 
 use crate::listing::Layout;
@@ -37,11 +36,7 @@ impl<T> Progress<T> {
 
     /// Writes the blank line that sets an account apart from what was written before, if there is one.
     pub fn write_apart<W: CountedWrite>(&self, out: &mut W) -> Result<(), WriteFault>
-        ensures sent { OnOk result (Sent (blank_line self.now.layout.apart self.now.written) (W.contents out.old) (W.contents out.new)
-            (W.whole_writes out.old) (W.whole_writes out.new)) }
-        ensures prefix { OnErr result (AppendsPrefix (W.contents out.old) (W.contents out.new)
-            (joined (blank_line self.now.layout.apart self.now.written))) }
-        ensures count { W.failures out.new ≡ count_after (is_err result) (W.failures out.old) }
+        ensures { Writes W.contents W.whole_writes W.failures out.old out.new result (blank_line self.now.layout.apart self.now.written) }
     {
         if self.layout.apart && self.written {
             write_lines(b"\n", &[], &[], out)
@@ -60,11 +55,8 @@ impl<T> Progress<T> {
         out: &mut W,
     ) -> Result<(), WriteFault>
         requires { 0 < length line.now }
-        ensures sent { OnOk result (Sent (told self.now outcome (name.now ++ line.now ++ text.now)) (W.contents out.old)
-            (W.contents out.new) (W.whole_writes out.old) (W.whole_writes out.new)) }
-        ensures prefix { OnErr result (AppendsPrefix (W.contents out.old) (W.contents out.new)
-            (joined (told self.now outcome (name.now ++ line.now ++ text.now)))) }
-        ensures count { W.failures out.new ≡ count_after (is_err result) (W.failures out.old) }
+        ensures { Writes W.contents W.whole_writes W.failures out.old out.new result
+            (told self.now outcome (name.now ++ line.now ++ text.now)) }
     {
         if !self.layout.lines.has(outcome) {
             return Ok(());

@@ -1,11 +1,10 @@
 //! What the summary of a run over frames tells.
 
-ghost use Rattle.std.specs.Prelude.{◌≡◌, ◌∷◌, [], OnErr, OnOk, is_err, string_bytes};
-ghost use Rattle.dvg_text.specs.Devices.{AppendsPrefix, count_after};
+ghost use Rattle.std.specs.Prelude.{◌≡◌, ◌∷◌, [], string_bytes};
 ghost use Rattle.dvg_spelling.specs.Tally.{summary_text};
 ghost use Rattle.dvg_cmd.specs.Remarking.{called_with, remarked_with, remarks_texts, with_remarks};
 ghost use Rattle.dvg_cmd.specs.Most.{most_texts, with_frame};
-ghost use Rattle.dvg_cmd.specs.Sent.{joined, Sent};
+ghost use Rattle.dvg_cmd.specs.Sent.{Writes};
 ghost use Rattle.dvg_cmd.specs.SeveralFrames.{no_frames, summary_texts, summed_with};
 
 use crate::called::CalledTally;
@@ -79,10 +78,7 @@ fn write_remarks<W: CountedWrite>(
     tally: &Option<RemarkTally>,
     out: &mut W,
 ) -> Result<(), WriteFault>
-    ensures sent { OnOk result (Sent (remarks_texts tally.now) (W.contents out.old) (W.contents out.new) (W.whole_writes out.old)
-        (W.whole_writes out.new)) }
-    ensures prefix { OnErr result (AppendsPrefix (W.contents out.old) (W.contents out.new) (joined (remarks_texts tally.now))) }
-    ensures count { W.failures out.new ≡ count_after (is_err result) (W.failures out.old) }
+    ensures { Writes W.contents W.whole_writes W.failures out.old out.new result (remarks_texts tally.now) }
 {
     match tally {
         Some(tally) => {
@@ -95,10 +91,7 @@ fn write_remarks<W: CountedWrite>(
 
 /// Writes the lines of the frames that take most, each by one write if it fits one.
 fn write_most<W: CountedWrite>(most: &Option<MostTaken>, out: &mut W) -> Result<(), WriteFault>
-    ensures sent { OnOk result (Sent (most_texts most.now) (W.contents out.old) (W.contents out.new) (W.whole_writes out.old)
-        (W.whole_writes out.new)) }
-    ensures prefix { OnErr result (AppendsPrefix (W.contents out.old) (W.contents out.new) (joined (most_texts most.now))) }
-    ensures count { W.failures out.new ≡ count_after (is_err result) (W.failures out.old) }
+    ensures { Writes W.contents W.whole_writes W.failures out.old out.new result (most_texts most.now) }
 {
     match most {
         Some(most) => most.write(out),
@@ -108,10 +101,7 @@ fn write_most<W: CountedWrite>(most: &Option<MostTaken>, out: &mut W) -> Result<
 
 /// Writes the line that tells a tally.
 fn write_tally<W: CountedWrite>(tally: &Tally, out: &mut W) -> Result<(), WriteFault>
-    ensures sent { OnOk result (Sent (summary_text tally.now ∷ []) (W.contents out.old) (W.contents out.new) (W.whole_writes out.old)
-        (W.whole_writes out.new)) }
-    ensures prefix { OnErr result (AppendsPrefix (W.contents out.old) (W.contents out.new) (joined (summary_text tally.now ∷ []))) }
-    ensures count { W.failures out.new ≡ count_after (is_err result) (W.failures out.old) }
+    ensures { Writes W.contents W.whole_writes W.failures out.old out.new result (summary_text tally.now ∷ []) }
 {
     let line = summary_of(tally);
     write_lines(line.as_slice(), &[], &[], out)

@@ -2,8 +2,8 @@
 
 ghost use Rattle.std.specs.Prelude.{◌≡◌, ℕ, List, [], IfOk, OnOk, OnErr, is_err};
 ghost use Rattle.std.specs.Iterator.{IsFinite};
-ghost use Rattle.dvg_text.specs.Devices.{AppendsPrefix, count_after};
-ghost use Rattle.dvg_cmd.specs.Sent.{joined, Sent};
+ghost use Rattle.dvg_text.specs.Devices.{count_after};
+ghost use Rattle.dvg_cmd.specs.Sent.{Writes};
 ghost use Rattle.dvg_cmd.specs.Telling.{Line, Telling, HoldsOfAll, HoldsOfTaken, no_line, summary_of, Reports, ReportsPrefix, TellsAlike, WritesLine, WritesLinePrefix};
 
 use crate::progress::Progress;
@@ -18,10 +18,7 @@ pub trait Summary {
 
     /// Writes them, each by one write if it fits one.
     fn write<W: CountedWrite>(&self, out: &mut W) -> Result<(), WriteFault>
-        ensures sent { OnOk result (Sent (texts self.now) (W.contents out.old) (W.contents out.new) (W.whole_writes out.old)
-            (W.whole_writes out.new)) }
-        ensures prefix { OnErr result (AppendsPrefix (W.contents out.old) (W.contents out.new) (joined (texts self.now))) }
-        ensures count { W.failures out.new ≡ count_after (is_err result) (W.failures out.old) };
+        ensures { Writes W.contents W.whole_writes W.failures out.old out.new result (texts self.now) };
 }
 
 /// Nothing is counted.
@@ -74,10 +71,7 @@ fn write_summary<T: Summary, W: CountedWrite>(
     progress: &Progress<T>,
     out: &mut W,
 ) -> Result<(), WriteFault>
-    ensures sent { OnOk result (Sent (summary_of T.texts progress.now) (W.contents out.old) (W.contents out.new)
-        (W.whole_writes out.old) (W.whole_writes out.new)) }
-    ensures prefix { OnErr result (AppendsPrefix (W.contents out.old) (W.contents out.new) (joined (summary_of T.texts progress.now))) }
-    ensures count { W.failures out.new ≡ count_after (is_err result) (W.failures out.old) }
+    ensures { Writes W.contents W.whole_writes W.failures out.old out.new result (summary_of T.texts progress.now) }
 {
     if !progress.layout.summary {
         return Ok(());
