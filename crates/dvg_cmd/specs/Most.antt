@@ -58,18 +58,12 @@ with_frame most name answer = most
 abbrev pub taken_text : List ℕ → List ℕ → List ℕ
 taken_text taken name = codes "most" ++ taken ++ codes " " ++ name ++ codes "\n"
 
-abbrev pub most_words_text : Most → List ℕ
-most_words_text m = taken_text (codes " words=" ++ decimal m.words.timed.yes.words) m.words.name
-
-abbrev pub most_depth_text : Most → List ℕ
-most_depth_text m = taken_text (codes " depth=" ++ decimal m.depth.timed.yes.depth) m.depth.name
-
-abbrev pub most_clocks_text : Most → List ℕ
-most_clocks_text m = taken_text (clocks_text m.clocks.timed.clocks) m.clocks.name
-
 -- the three lines
 abbrev pub lines_of : Most → List (List ℕ)
-lines_of m = most_words_text m ∷ most_depth_text m ∷ most_clocks_text m ∷ []
+lines_of m =
+    taken_text (codes " words=" ++ decimal m.words.timed.yes.words) m.words.name
+    ∷ taken_text (codes " depth=" ++ decimal m.depth.timed.yes.depth) m.depth.name
+    ∷ taken_text (clocks_text m.clocks.timed.clocks) m.clocks.name ∷ []
 
 -- no line where no line tells clocks
 abbrev pub most_texts : Option Most → List (List ℕ)

@@ -1,11 +1,9 @@
 //! The frames of a run that take most, and the lines that tell them.
 
-ghost use Rattle.std.specs.Prelude.{◌≡◌, ◌≢◌, ◌≤◌, ◌++◌, ◌∷◌, [], codes, decimal, length, string_bytes, IfNone, IfSome, OnErr, OnOk, is_err};
-ghost use Rattle.std.specs.Io.KnownBytes.{Appends};
-ghost use Rattle.dvg_text.specs.Devices.{AppendsPrefix, TakesOneWrite, count_after};
+ghost use Rattle.std.specs.Prelude.{◌≡◌, ◌≢◌, ◌≤◌, ◌++◌, ◌∷◌, [], codes, decimal, length, string_bytes, IfNone, IfSome};
 ghost use Rattle.dvg_spelling.specs.Report.{clocks_text};
-ghost use Rattle.dvg_cmd.specs.Most.{lines_of, most_clocks_text, most_depth_text, most_of, most_words_text, taken_text, with_timed};
-ghost use Rattle.dvg_cmd.specs.Sent.{joined, Sent};
+ghost use Rattle.dvg_cmd.specs.Most.{lines_of, most_of, taken_text, with_timed};
+ghost use Rattle.dvg_cmd.specs.Sent.{Writes};
 ghost use Rattle.dvg_cmd.specs.Private.Leading.{IsFree, OutdoesNone, leads_with, name_at, outdone_by, with_name};
 
 use arrayvec::ArrayVec;
@@ -181,19 +179,11 @@ fn write_taken<W: CountedWrite>(
     out: &mut W,
 ) -> Result<(), WriteFault>
     requires { length label.now ≤ 9 }
-    ensures written { OnOk result (Appends (W.contents out.old) (W.contents out.new) (taken_text (label.now ++ decimal count) name.now)) }
-    ensures one_write { OnOk result (TakesOneWrite (taken_text (label.now ++ decimal count) name.now) (W.whole_writes out.old)
-        (W.whole_writes out.new)) }
-    ensures prefix { OnErr result (AppendsPrefix (W.contents out.old) (W.contents out.new)
-        (taken_text (label.now ++ decimal count) name.now)) }
-    ensures count { W.failures out.new ≡ count_after (is_err result) (W.failures out.old) }
+    ensures { Writes W.contents W.whole_writes W.failures out.old out.new result
+        (taken_text (label.now ++ decimal count) name.now ∷ []) }
 {
-    write_lines(
-        head_of(label, count).as_slice(),
-        name.as_bytes(),
-        b"\n",
-        out,
-    )
+    let head = head_of(label, count);
+    write_lines(head.as_slice(), name.as_bytes(), b"\n", out)
 }
 
 /// The label of clocks: of just so many, or of so many at most.
@@ -246,59 +236,21 @@ impl MostTaken {
         }
     }
 
-    /// Writes how many words the frame takes that takes most of them.
-    fn write_words<W: CountedWrite>(&self, out: &mut W) -> Result<(), WriteFault>
-        ensures sent { OnOk result (Sent (most_words_text self.now ∷ []) (W.contents out.old) (W.contents out.new) (W.whole_writes out.old)
-            (W.whole_writes out.new)) }
-        ensures prefix { OnErr result (AppendsPrefix (W.contents out.old) (W.contents out.new)
-            (joined (most_words_text self.now ∷ []))) }
-        ensures count { W.failures out.new ≡ count_after (is_err result) (W.failures out.old) }
-    {
-        let lead = &self.leads.words;
-        let count = u64::from(lead.timed.yes.words);
-        write_taken(b" words=", count, self.names.at(lead.slot), out)
-    }
-
-    /// Writes how deep the frame goes that goes deepest.
-    fn write_depth<W: CountedWrite>(&self, out: &mut W) -> Result<(), WriteFault>
-        ensures sent { OnOk result (Sent (most_depth_text self.now ∷ []) (W.contents out.old) (W.contents out.new) (W.whole_writes out.old)
-            (W.whole_writes out.new)) }
-        ensures prefix { OnErr result (AppendsPrefix (W.contents out.old) (W.contents out.new)
-            (joined (most_depth_text self.now ∷ []))) }
-        ensures count { W.failures out.new ≡ count_after (is_err result) (W.failures out.old) }
-    {
-        let lead = &self.leads.depth;
-        let count = u64::from(lead.timed.yes.depth);
-        write_taken(b" depth=", count, self.names.at(lead.slot), out)
-    }
-
-    /// Writes how many clocks the frame takes that takes most of them.
-    fn write_clocks<W: CountedWrite>(&self, out: &mut W) -> Result<(), WriteFault>
-        ensures sent { OnOk result (Sent (most_clocks_text self.now ∷ []) (W.contents out.old) (W.contents out.new) (W.whole_writes out.old)
-            (W.whole_writes out.new)) }
-        ensures prefix { OnErr result (AppendsPrefix (W.contents out.old) (W.contents out.new)
-            (joined (most_clocks_text self.now ∷ []))) }
-        ensures count { W.failures out.new ≡ count_after (is_err result) (W.failures out.old) }
-    {
-        let lead = &self.leads.clocks;
-        let clocks = &lead.timed.clocks;
-        write_taken(
-            clocks_label(clocks),
-            clocks.most,
-            self.names.at(lead.slot),
-            out,
-        )
-    }
-
     /// Writes the three lines, each by one write if it fits one.
     pub fn write<W: CountedWrite>(&self, out: &mut W) -> Result<(), WriteFault>
-        ensures sent { OnOk result (Sent (lines_of self.now) (W.contents out.old) (W.contents out.new) (W.whole_writes out.old)
-            (W.whole_writes out.new)) }
-        ensures prefix { OnErr result (AppendsPrefix (W.contents out.old) (W.contents out.new) (joined (lines_of self.now))) }
-        ensures count { W.failures out.new ≡ count_after (is_err result) (W.failures out.old) }
+        ensures { Writes W.contents W.whole_writes W.failures out.old out.new result (lines_of self.now) }
     {
-        self.write_words(out)?;
-        self.write_depth(out)?;
-        self.write_clocks(out)
+        let Leads {
+            words,
+            depth,
+            clocks,
+        } = &self.leads;
+        let most_words = u64::from(words.timed.yes.words);
+        write_taken(b" words=", most_words, self.names.at(words.slot), out)?;
+        let most_depth = u64::from(depth.timed.yes.depth);
+        write_taken(b" depth=", most_depth, self.names.at(depth.slot), out)?;
+        let range = &clocks.timed.clocks;
+        let name = self.names.at(clocks.slot);
+        write_taken(clocks_label(range), range.most, name, out)
     }
 }

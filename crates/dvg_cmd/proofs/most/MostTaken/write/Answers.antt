@@ -1,35 +1,24 @@
-use Rattle.dvg_cmd.proofs.Common.{[], ◌∷◌}
-use Rattle.dvg_cmd.proofs.LineByLine.{both_cut, both_sent, first_cut, on_err}
-use Rattle.dvg_cmd.proofs.Writing.{on_fail, on_ok}
-use Rattle.dvg_cmd.specs.Most.{most_clocks_text, most_depth_text, most_words_text}
+use Rattle.dvg_cmd.proofs.Common.{ap}
+use Rattle.dvg_cmd.proofs.LineByLine.{cut_in, then}
+use Rattle.dvg_cmd.proofs.Writing.{same_texts}
+use Rattle.dvg_cmd.specs.Most.{lines_of}
 use Rattle.dvg_cmd.proofs.most.MostTaken.write.Goals as goal
 
-pub returns-in_err-write_words-clause-prefix : goal.returns-in_err-write_words-clause-prefix
-returns-in_err-write_words-clause-prefix g c =
-    let m = c.args.self.now in
-    on_err c.from_residual.result (first_cut (most_words_text m ∷ []) (most_depth_text m ∷ most_clocks_text m ∷ []) _ _
-    c.in_err-write_words.ensures.prefix)
+pub returns-in_err-write_taken : goal.returns-in_err-write_taken
+returns-in_err-write_taken g c =
+    same_texts (ap lines_of c.self.view_is)
+    (cut_in (rw (c.from-most_words.ensures, c.at.ensures) at c.in_err-write_taken.ensures) _ c.from_residual.ensures.0)
 
-pub returns-in_err-write_depth-clause-prefix : goal.returns-in_err-write_depth-clause-prefix
-returns-in_err-write_depth-clause-prefix g c =
-    let m = c.args.self.now in
-    on_err c.from_residual-in_err-write_depth.result
-    (both_cut (most_words_text m ∷ []) (most_depth_text m ∷ most_clocks_text m ∷ []) _ _ _ _ _
-    (g.W.CountedWrite.whole_writes c.write_words.new.out) c.in_ok-write_words.ensures.sent
-    (first_cut (most_depth_text m ∷ []) (most_clocks_text m ∷ []) _ _ c.in_err-write_depth.ensures.prefix))
+pub returns-in_err-write_taken-2 : goal.returns-in_err-write_taken-2
+returns-in_err-write_taken-2 g c =
+    same_texts (ap lines_of c.self.view_is)
+    (then (rw (c.from-most_words.ensures, c.at.ensures) at c.in_ok-write_taken.ensures)
+    (cut_in (rw (c.from-most_depth.ensures, c.at-2.ensures) at c.in_err-write_taken-2.ensures) _
+    c.from_residual-in_err-write_taken-2.ensures.0))
 
-pub returns-clause-sent : goal.returns-clause-sent
-returns-clause-sent g c =
-    let m = c.args.self.now in
-    on_ok c.write_clocks.result c.write_clocks.ensures.sent
-    (λ last. both_sent (most_words_text m ∷ []) (most_depth_text m ∷ most_clocks_text m ∷ []) _ _ _ _ _ _ c.in_ok-write_words.ensures.sent
-    (both_sent (most_depth_text m ∷ []) (most_clocks_text m ∷ []) _ _ _ _ _ _ c.in_ok-write_depth.ensures.sent last))
-
-pub returns-clause-prefix : goal.returns-clause-prefix
-returns-clause-prefix g c =
-    let m = c.args.self.now in
-    on_fail c.write_clocks.result c.write_clocks.ensures.prefix
-    (λ last. both_cut (most_words_text m ∷ []) (most_depth_text m ∷ most_clocks_text m ∷ []) _ _ _ _ _
-    (g.W.CountedWrite.whole_writes c.write_words.new.out) c.in_ok-write_words.ensures.sent
-    (both_cut (most_depth_text m ∷ []) (most_clocks_text m ∷ []) _ _ _ _ _ (g.W.CountedWrite.whole_writes c.write_depth.new.out)
-    c.in_ok-write_depth.ensures.sent last))
+pub returns : goal.returns
+returns g c =
+    same_texts (ap lines_of c.self.view_is)
+    (then (rw (c.from-most_words.ensures, c.at.ensures) at c.in_ok-write_taken.ensures)
+    (then (rw (c.from-most_depth.ensures, c.at-2.ensures) at c.in_ok-write_taken-2.ensures)
+    (rw (c.clocks_label.ensures.text, c.at-name.ensures) at c.write_taken-3.ensures)))
