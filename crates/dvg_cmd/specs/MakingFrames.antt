@@ -1,5 +1,5 @@
 -- What a run of the maker for frames says of the bytes that its readers held, and what it writes. All of it is this project's own.
-use Rattle.std.specs.Prelude.{◌≡◌, ℕ, zero, suc, Bool, true, false, List, [], ◌∷◌, ◌++◌, length, Option, None, Some}
+use Rattle.std.specs.Prelude.{◌≡◌, ℕ, zero, suc, Bool, true, false, List, [], ◌∷◌, ◌++◌, length, Option, None, Some, ◌≢◌, Result, Err, IfErr, OnOk}
 use Rattle.dvg_words.specs.declared.machine.Machine.{Machine}
 use Rattle.dvg_words.specs.Values.{MemoryMap}
 use Rattle.dvg_words.specs.Memory.{words_of, rom_on, IsRomLength, IsFrameLength}
@@ -15,8 +15,9 @@ use Rattle.dvg_make.specs.Frames.{FramesMade}
 use Rattle.dvg_make.specs.Refusals.{FramesRefuse, make_fault_of}
 use Rattle.dvg_make.specs.Accounts.{HasCause}
 pub use Rattle.dvg_cmd.specs.Making.{Held, MakeRunFault, blames_frames_rom, blames_a_frame, blames_frames_writer}
-use Rattle.dvg_cmd.specs.Runs.{MOST_FRAME_READ, IsReadTo}
+use Rattle.dvg_cmd.specs.Runs.{MOST_FRAME_READ, MOST_ROM_READ, IsReadTo}
 pub use Rattle.dvg_spelling.specs.Each.{of_each}
+use Rattle.dvg_spelling.specs.Faults.{make_run_number}
 use Rattle.dvg_spelling.specs.declared.fault.MakeRunFault.TheVariants as fault
 
 -- ---- several readers
@@ -39,6 +40,22 @@ abbrev pub EachRead : List (Option (List ℕ)) → List (Option (List ℕ)) → 
 EachRead [] [] = Unit {0}
 EachRead (old ∷ olds) (new ∷ news) = IsReadTo MOST_FRAME_READ old new × EachRead olds news
 EachRead olds news = ⊥
+
+-- what a run that ended so read of a ROM and then of frames: `remaining` is what a reader still holds, `failures` its count of failed reads
+pub record ReadsInputs
+    {R F A : Type 0} (remaining : R → Option (List ℕ)) (failures : R → ℕ) (frame_remaining : F → Option (List ℕ)) (frame_failures : F → ℕ)
+    (rom rom_after : R) (frames frames_after : List F) (result : Result A MakeRunFault) : Type 0 where
+  -- 70 and 71 come exactly where their device failed in this call, and the device's count then rises by one
+  pub rom_count : failures rom_after ≡ count_after (blames_frames_rom result) (failures rom)
+  pub frame_counts : FailedAfter (blames_a_frame result) (of_each frame_failures frames) (of_each frame_failures frames_after)
+  -- unless its reader failed, the ROM was read to its end or to one byte past its limit, and no further
+  pub rom_read : result ≢ Err fault.ReadRom → IsReadTo MOST_ROM_READ (remaining rom) (remaining rom_after)
+  -- so were the frames, but where a reader failed or memory was out
+  pub frames_read : OnOk result (EachRead (of_each frame_remaining frames) (of_each frame_remaining frames_after))
+  pub frames_read_too : IfErr result (λ f. f ≢ fault.ReadRom → f ≢ fault.ReadFrame → make_run_number f ≢ 63
+      → EachRead (of_each frame_remaining frames) (of_each frame_remaining frames_after))
+  -- where the ROM's reader failed, no frame was read
+  pub frames_unread : result ≡ Err fault.ReadRom → frames_after ≡ frames
 
 -- these are all bytes that each reader held, in the order of the readers
 abbrev pub EachHeld : List (Option (List ℕ)) → List (List ℕ) → Type 0

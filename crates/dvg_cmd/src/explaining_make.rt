@@ -1,14 +1,13 @@
 //! Running the maker over readers, with an account of its answer.
 
-ghost use Rattle.std.specs.Prelude.{◌≡◌, ◌≢◌, ◌⊎◌, Option, None, List, ℕ, Err, false, IfOk, IfErr, OnOk, OnErr, is_err};
+ghost use Rattle.std.specs.Prelude.{◌≡◌, ◌≢◌, ◌⊎◌, Option, None, List, ℕ, Err, false, IfOk, IfErr, OnErr, is_err};
 ghost use Rattle.dvg_text.specs.Devices.{AppendsPrefix, count_after};
 ghost use Rattle.dvg_cmd.specs.Explaining.{MakesEntries, MakeExplained, frame_to_blame, make_text};
 ghost use Rattle.dvg_cmd.specs.Detail.{IsBehind};
 ghost use Rattle.dvg_cmd.specs.declared.detail.Detail.TheVariants as details;
-ghost use Rattle.dvg_cmd.specs.MakingFrames.{blames_frames_rom, blames_a_frame, blames_frames_writer, of_each, FailedAfter, EachRead, FramesFaultMeans};
+ghost use Rattle.dvg_cmd.specs.MakingFrames.{blames_frames_rom, blames_a_frame, blames_frames_writer, of_each, FramesFaultMeans, ReadsInputs};
 ghost use Rattle.dvg_spelling.specs.Faults.{make_run_number};
 ghost use Rattle.dvg_cmd.specs.Private.Inputs.{AreRead};
-ghost use Rattle.dvg_cmd.specs.Runs.{MOST_ROM_READ, IsReadTo};
 
 use crate::detail::Behind;
 use crate::inputs::InputBytes;
@@ -125,19 +124,11 @@ pub fn run_explain_make<R1: CountedRead, R2: CountedRead>(
     frames: &mut [R2],
     labels: Option<&Labels>,
 ) -> Result<MakeAnswer, MakeRunFault>
-    // 70 and 71 come exactly where their device failed in this call, and the device's count then rises by one; else it is 63.
-    ensures rom_count { R1.failures rom.new ≡ count_after (blames_frames_rom result) (R1.failures rom.old) }
-    ensures frame_counts { FailedAfter (blames_a_frame result) (of_each (λ frame. R2.failures frame) frames.old)
-        (of_each (λ frame. R2.failures frame) frames.new) }
+    // 70 and 71 come exactly where their device failed in this call, and the device's count then rises by one; else it is 63. With an
+    // answer, ROM and frames were read to their end or to one byte past their limit, and no further.
+    ensures read { ReadsInputs R1.remaining R1.failures R2.remaining R2.failures rom.old rom.new frames.old frames.new result }
     ensures fault { IfErr result (λ fault. (fault ≡ MakeRunFault.ReadRom) ⊎ (fault ≡ MakeRunFault.ReadFrame)
         ⊎ (make_run_number fault ≡ 63)) }
-
-    // With an answer, ROM and frames were read to their end or to one byte past their limit, and no further. Where the ROM's reader
-    // failed, no frame was read.
-    ensures rom_read { OnOk result (IsReadTo MOST_ROM_READ (R1.remaining rom.old) (R1.remaining rom.new)) }
-    ensures frames_read { OnOk result (EachRead (of_each (λ frame. R2.remaining frame) frames.old)
-        (of_each (λ frame. R2.remaining frame) frames.new)) }
-    ensures frames_unread { result ≡ Err MakeRunFault.ReadRom → frames.new ≡ frames.old }
 
     // So many entries has the list that is made for all bytes that the readers held; 1 and 2 come for a wrong length alone, and 60
     // to 62 as the maker refuses. Nothing else is an answer: no fault of a device, and not that memory was out.

@@ -5,7 +5,7 @@ ghost use Rattle.dvg_words.specs.Values.{IsMap, MemoryMap};
 ghost use Rattle.dvg_words.specs.Memory.{IsRomLength, rom_on, words_of};
 ghost use Rattle.dvg_text.specs.Devices.{count_after};
 ghost use Rattle.dvg_cert.specs.declared.entry.Key.{Key};
-ghost use Rattle.dvg_cmd.specs.MakingFrames.{blames_frames_rom, blames_a_frame, of_each, FailedAfter, EachRead, AreFrames, FramesFaultMeans};
+ghost use Rattle.dvg_cmd.specs.MakingFrames.{blames_a_frame, of_each, FailedAfter, EachRead, AreFrames, FramesFaultMeans, ReadsInputs};
 ghost use Rattle.dvg_cmd.specs.Private.Inputs.{AreRead, AreInputImages};
 ghost use Rattle.dvg_cmd.specs.Private.Reading.{IsPrefix, ArePrefixes, RefusesLengths};
 ghost use Rattle.dvg_cmd.specs.Runs.{MOST_ROM_READ, IsReadTo};
@@ -119,14 +119,7 @@ impl InputBytes {
     ) -> Result<InputBytes, MakeRunFault>
         ensures bytes { IfOk result (λ read. AreRead (R1.remaining rom.old) (of_each (λ frame. R2.remaining frame) frames.old)
             read.rom.items (of_each (λ bytes. bytes.items) read.frames.items)) }
-        ensures rom_count { R1.failures rom.new ≡ count_after (blames_frames_rom result) (R1.failures rom.old) }
-        ensures frame_counts { FailedAfter (blames_a_frame result) (of_each (λ frame. R2.failures frame) frames.old)
-            (of_each (λ frame. R2.failures frame) frames.new) }
-        ensures rom_read { result ≢ Err MakeRunFault.ReadRom
-            → IsReadTo MOST_ROM_READ (R1.remaining rom.old) (R1.remaining rom.new) }
-        ensures frames_read { OnOk result (EachRead (of_each (λ frame. R2.remaining frame) frames.old)
-            (of_each (λ frame. R2.remaining frame) frames.new)) }
-        ensures frames_unread { result ≡ Err MakeRunFault.ReadRom → frames.new ≡ frames.old }
+        ensures read { ReadsInputs R1.remaining R1.failures R2.remaining R2.failures rom.old rom.new frames.old frames.new result }
         ensures fault { IfErr result (λ fault. (fault ≡ MakeRunFault.ReadRom) ⊎ (fault ≡ MakeRunFault.ReadFrame)
             ⊎ (fault ≡ MakeRunFault.Make making.Memory)) }
         ensures refused { (machine : Machine) (map : MemoryMap) (roots : List (ℕ × Key))

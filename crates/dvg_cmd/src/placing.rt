@@ -4,9 +4,8 @@ ghost use Rattle.std.specs.Prelude.{◌≡◌, ◌≢◌, [], Err, IfErr, OnOk};
 ghost use Rattle.std.specs.Io.KnownBytes.{Appends};
 ghost use Rattle.dvg_text.specs.Devices.{count_after};
 ghost use Rattle.dvg_spelling.specs.Faults.{make_run_number};
-ghost use Rattle.dvg_cmd.specs.MakingFrames.{blames_frames_rom, blames_a_frame, blames_frames_writer, of_each, FailedAfter, EachRead, FramesFaultMeans};
+ghost use Rattle.dvg_cmd.specs.MakingFrames.{blames_frames_writer, of_each, FramesFaultMeans, ReadsInputs};
 ghost use Rattle.dvg_cmd.specs.Placing.{PlacesFor, WritesPlaces, WritesPlacesPrefix};
-ghost use Rattle.dvg_cmd.specs.Runs.{MOST_ROM_READ, IsReadTo};
 
 use crate::entry_lines::write_each;
 use crate::inputs::InputBytes;
@@ -34,22 +33,10 @@ pub fn run_places<R1: CountedRead, R2: CountedRead, W: CountedWrite>(
     window: Window,
     out: &mut W,
 ) -> Result<(), MakeRunFault>
-    // 70, 71 and 73 come exactly where their device failed in this call, and the device's count then rises by one.
-    ensures rom_count { R1.failures rom.new ≡ count_after (blames_frames_rom result) (R1.failures rom.old) }
-    ensures frame_counts { FailedAfter (blames_a_frame result) (of_each (λ frame. R2.failures frame) frames.old)
-        (of_each (λ frame. R2.failures frame) frames.new) }
+    // 70, 71 and 73 come exactly where their device failed in this call, and the device's count then rises by one. Unless a reader failed
+    // or memory was out, all was read to its end or to one byte past its limit, and no further.
+    ensures read { ReadsInputs R1.remaining R1.failures R2.remaining R2.failures rom.old rom.new frames.old frames.new result }
     ensures out_count { W.failures out.new ≡ count_after (blames_frames_writer result) (W.failures out.old) }
-
-    // Unless its reader failed, the ROM was read to its end or to one byte past its limit, and no further; so were the frames, but
-    // where a reader failed or memory was out. Where the ROM's reader failed, no frame was read.
-    ensures rom_read { result ≢ Err MakeRunFault.ReadRom
-        → IsReadTo MOST_ROM_READ (R1.remaining rom.old) (R1.remaining rom.new) }
-    ensures frames_read { OnOk result (EachRead (of_each (λ frame. R2.remaining frame) frames.old)
-        (of_each (λ frame. R2.remaining frame) frames.new)) }
-    ensures frames_read_too { IfErr result (λ fault. fault ≢ MakeRunFault.ReadRom → fault ≢ MakeRunFault.ReadFrame
-        → make_run_number fault ≢ 63 → EachRead (of_each (λ frame. R2.remaining frame) frames.old)
-        (of_each (λ frame. R2.remaining frame) frames.new)) }
-    ensures frames_unread { result ≡ Err MakeRunFault.ReadRom → frames.new ≡ frames.old }
 
     // What is written are the lines of the entries that are made for all bytes that the readers held, or a prefix of them, or nothing.
     ensures text { OnOk result (WritesPlaces (PlacesFor machine window (R1.remaining rom.old) map roots.now

@@ -1,4 +1,4 @@
-use Rattle.dvg_cmd.proofs.Common.{make_run_number, of_each, joined, arith}
+use Rattle.dvg_cmd.proofs.Common.{make_run_number, of_each, joined, arith, rules}
 use Rattle.dvg_cmd.proofs.FramesRuns.{told_err, frames_refused, places_made}
 use Rattle.dvg_cmd.proofs.placing.run_places.Goals as goal
 
@@ -39,3 +39,14 @@ returns-clause-text g c =
       joined,
       of_each,
     )
+
+pub returns-in_err-write_each-clause-read : goal.returns-in_err-write_each-clause-read
+returns-in_err-write_each-clause-read g c =
+    record {
+      rom_count = search rules;
+      frame_counts = search rules;
+      rom_read = search rules;
+      frames_read = search rules;
+      frames_read_too = search rules;
+      frames_unread = search rules;
+    }
