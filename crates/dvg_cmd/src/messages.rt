@@ -7,7 +7,7 @@ ghost use Rattle.dvg_spelling.specs.Messages.{make_message};
 ghost use Rattle.dvg_cmd.specs.Sent.{Writes};
 
 use dvg_spelling::{MakeRunFault, RunFault, make_report_of};
-use dvg_text::{CountedWrite, write_lines};
+use dvg_text::{CountedWrite, WriteFault, write_lines};
 
 /// Writes a text of lines, or a prefix of it if the writer fails, which is 73.
 pub fn write_text<W: CountedWrite>(text: &str, out: &mut W) -> Result<(), RunFault>
@@ -21,11 +21,10 @@ pub fn write_text<W: CountedWrite>(text: &str, out: &mut W) -> Result<(), RunFau
 }
 
 /// Writes a message and an LF.
-pub fn write_message<W: CountedWrite>(message: &str, out: &mut W) -> Result<(), RunFault>
-    ensures written { Writes W.contents W.whole_writes W.failures out.old out.new result ((message.now ++ codes "\n") ∷ []) }
-    ensures fault { IfErr result (λ fault. fault ≡ RunFault.Write) }
+pub fn write_message<W: CountedWrite>(message: &str, out: &mut W) -> Result<(), WriteFault>
+    ensures { Writes W.contents W.whole_writes W.failures out.old out.new result ((message.now ++ codes "\n") ∷ []) }
 {
-    Ok(write_lines(message.as_bytes(), b"\n", &[], out)?)
+    write_lines(message.as_bytes(), b"\n", &[], out)
 }
 
 /// Writes the line of a maker's run that made no certificate. The name before it names the frame to blame, and has no control
@@ -34,11 +33,10 @@ pub fn write_make_fault<W: CountedWrite>(
     name: &str,
     fault: &MakeRunFault,
     out: &mut W,
-) -> Result<(), RunFault>
-    ensures written { Writes W.contents W.whole_writes W.failures out.old out.new result
+) -> Result<(), WriteFault>
+    ensures { Writes W.contents W.whole_writes W.failures out.old out.new result
         ((name.now ++ (make_message fault.now ++ codes "\n")) ∷ []) }
-    ensures fault { IfErr result (λ fault. fault ≡ RunFault.Write) }
 {
     let report = make_report_of(fault);
-    Ok(write_lines(name.as_bytes(), report.as_bytes(), &[], out)?)
+    write_lines(name.as_bytes(), report.as_bytes(), &[], out)
 }
