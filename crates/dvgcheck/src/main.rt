@@ -42,7 +42,7 @@ use std::alloc::AllocError;
 use std::io;
 use std::process::ExitCode;
 use subcommand::{Task, Verb};
-use together::{ReadFrame, read_frames, starts_of};
+use together::read_frames;
 
 fn open<F: Drop>(rt: &HostRuntime, input: Input, fault: F) -> Result<Source, F> {
     input.open(rt).map_err(|_| fault)
@@ -75,10 +75,9 @@ fn explain_together(
     named: Vec<Named>,
 ) -> Result<Outcome, RunFault> {
     let rom = load_rom(&mut Counted::new(open(rt, asked.rom, RunFault::ReadRom)?))?;
-    let frames = read_frames(rt, named, asked.options.start)?;
     let alone = own_certificates(asked, rom.as_slice(), map, None);
-    let starts = starts_of(rt.alloc(), &alone, frames.as_slice())?;
-    let frames = frames.into_iter().map(ReadFrame::reopened);
+    let mut starts = ShapeStarts::new(rt.alloc())?;
+    let frames = read_frames(rt, named, asked.options.start, &alone, &mut starts)?;
     judge_by_own(
         rt,
         asked,
@@ -86,7 +85,7 @@ fn explain_together(
         map,
         Some(&starts),
         clocks,
-        frames,
+        frames.into_iter(),
     )
 }
 
