@@ -4,7 +4,7 @@ use crate::escaping::{escaped, marked, shown};
 use crate::form::Form;
 use crate::input::Input;
 use crate::labels::{LabelsFault, load_labels};
-use crate::subcommand::{Task, Verb, command, task_named};
+use crate::subcommand::{Task, Verb, command, syntax_named};
 use clap::ArgMatches;
 use clap::error::ErrorKind;
 use dvg_cmd::{
@@ -245,16 +245,13 @@ pub struct Arguments<'a> {
 impl<'a> Arguments<'a> {
     /// What `clap` makes of the words.
     pub fn parsed(alloc: Global, words: &'a [String]) -> Result<Arguments<'a>, Usage<'a>> {
-        let Some((verb, task, rest)) = task_named(words) else {
+        let Some((verb, syntax, rest)) = syntax_named(words) else {
             return Err(refused(alloc, words)?);
         };
-        match task
-            .command_for(alloc, verb, rest)?
-            .try_get_matches_from(rest)
-        {
+        match syntax.command_for(alloc, rest)?.try_get_matches_from(rest) {
             Ok(matches) => Ok(Arguments {
                 verb,
-                task,
+                task: syntax.task,
                 matches,
                 labels: None,
             }),

@@ -52,108 +52,114 @@ enum Argument {
     Number,
 }
 
-/// What the help says of a subcommand, and what it takes.
+/// What the help says of a task, printed or explained, and what it takes.
 #[derive(Clone, Copy)]
-struct Syntax<'a> {
+pub struct Syntax<'a> {
+    pub task: Task,
     about: &'a str,
     arguments: &'a [Argument],
     options: &'a [CommandOption],
 }
 
-const FRAMES: Syntax<'static> = Syntax {
-    about: "Judges frames over a vector ROM, each by a certificate made for it, and prints a line for each",
-    arguments: &[Argument::Rom, Argument::Frames],
-    options: &[
-        Board, Map, Cert, Budget, Window, Clip, Start, Labels, Clocks, Within, Remarks, Records,
-        List, Null, OnlyBad, Summary,
-    ],
-};
+/// The tasks in the order of the help.
+const PRINTED: [Syntax<'static>; 8] = [
+    Syntax {
+        task: Task::Frames,
+        about: "Judges frames over a vector ROM, each by a certificate made for it, and prints a line for each",
+        arguments: &[Argument::Rom, Argument::Frames],
+        options: &[
+            Board, Map, Cert, Budget, Window, Clip, Start, Labels, Clocks, Within, Remarks,
+            Records, List, Null, OnlyBad, Summary,
+        ],
+    },
+    Syntax {
+        task: Task::Check,
+        about: "Judges a frame over a vector ROM and its certificate, and prints the report",
+        arguments: &[Argument::Rom, Argument::Certificate, Argument::OneFrame],
+        options: &[Board, Budget, Window, Clip, Exact],
+    },
+    Syntax {
+        task: Task::Make,
+        about: "Prints the certificate of shapes of a vector ROM, and of all that they call",
+        arguments: &[Argument::Rom, Argument::Roots],
+        options: &[Board, Frame, Map, Labels, Output],
+    },
+    Syntax {
+        task: Task::Places,
+        about: "Prints where calls of shapes of a vector ROM, and of all that they call, stay within the window",
+        arguments: &[Argument::Rom, Argument::Roots],
+        options: &[Board, Frame, Map, Labels, Window, Clip],
+    },
+    Syntax {
+        task: Task::Diff,
+        about: "Prints which shapes of a vector ROM, and which frames, read words that differ in another ROM",
+        arguments: &[Argument::Rom, Argument::OtherRom, Argument::Roots],
+        options: &[Board, Frame, Map, Labels],
+    },
+    Syntax {
+        task: Task::Recipe,
+        about: "Judges all frames that recipes allow over a vector ROM on a board, and prints a line for each recipe",
+        arguments: &[Argument::RomOfRecipes, Argument::Recipes],
+        options: &[
+            Board, Map, Budget, Window, Clip, Labels, Clocks, Within, Output, Print,
+        ],
+    },
+    Syntax {
+        task: Task::Belongs,
+        about: "Tells which frames are among those that a recipe allows, and prints a line for each",
+        arguments: &[Argument::Rom, Argument::OneRecipe, Argument::Frames],
+        options: &[Board, Map, Labels, Records, List, Null, OnlyBad, Summary],
+    },
+    Syntax {
+        task: Task::Rules,
+        about: "Prints what each number in an answer means",
+        arguments: &[Argument::Number],
+        options: &[],
+    },
+];
 
-const EXPLAIN_FRAMES: Syntax<'static> = Syntax {
-    about: "Judges frames over a vector ROM, by certificates made for them, and explains each answer",
-    arguments: &[Argument::Rom, Argument::Frames],
-    options: &[
-        Board, Map, Cert, Budget, Window, Clip, Start, Labels, Clocks, Within, Records, List, Null,
-        OnlyBad, Summary,
-    ],
-};
-
-const CHECK_ABOUT: &str =
-    "Judges a frame over a vector ROM and its certificate, and prints the report";
-
-const CHECK: Syntax<'static> = Syntax {
-    about: CHECK_ABOUT,
-    arguments: &[Argument::Rom, Argument::Certificate, Argument::OneFrame],
-    options: &[Board, Budget, Window, Clip, Exact],
-};
-
-const EXPLAIN_CHECK: Syntax<'static> = Syntax {
-    about: CHECK_ABOUT,
-    arguments: &[Argument::Rom, Argument::Certificate, Argument::OneFrame],
-    options: &[Board, Budget, Window, Clip, Exact, Labels],
-};
-
-const MAKE: Syntax<'static> = Syntax {
-    about: "Prints the certificate of shapes of a vector ROM, and of all that they call",
-    arguments: &[Argument::Rom, Argument::Roots],
-    options: &[Board, Frame, Map, Labels, Output],
-};
-
-const EXPLAIN_MAKE: Syntax<'static> = Syntax {
-    about: "Explains what certificate is made of shapes of a vector ROM, or why none, and writes none",
-    arguments: &[Argument::Rom, Argument::Roots],
-    options: &[Board, Frame, Map, Labels],
-};
-
-const PLACES: Syntax<'static> = Syntax {
-    about: "Prints where calls of shapes of a vector ROM, and of all that they call, stay within the window",
-    arguments: &[Argument::Rom, Argument::Roots],
-    options: &[Board, Frame, Map, Labels, Window, Clip],
-};
-
-const DIFF: Syntax<'static> = Syntax {
-    about: "Prints which shapes of a vector ROM, and which frames, read words that differ in another ROM",
-    arguments: &[Argument::Rom, Argument::OtherRom, Argument::Roots],
-    options: &[Board, Frame, Map, Labels],
-};
-
-const EXPLAIN_DIFF: Syntax<'static> = Syntax {
-    about: "Tells how another dump differs from a vector ROM, and which single faults would turn the ROM into it",
-    arguments: &[Argument::Rom, Argument::Dump],
-    options: &[Map, Labels],
-};
-
-const RECIPE: Syntax<'static> = Syntax {
-    about: "Judges all frames that recipes allow over a vector ROM on a board, and prints a line for each recipe",
-    arguments: &[Argument::RomOfRecipes, Argument::Recipes],
-    options: &[
-        Board, Map, Budget, Window, Clip, Labels, Clocks, Within, Output, Print,
-    ],
-};
-
-const EXPLAIN_RECIPE: Syntax<'static> = Syntax {
-    about: "Judges all frames that recipes allow, and tells the room in the lists and what is known before each line, or of a frame that is refused",
-    arguments: &[Argument::Rom, Argument::ManyRecipes],
-    options: &[Board, Map, Budget, Window, Clip, Labels],
-};
-
-const BELONGS: Syntax<'static> = Syntax {
-    about: "Tells which frames are among those that a recipe allows, and prints a line for each",
-    arguments: &[Argument::Rom, Argument::OneRecipe, Argument::Frames],
-    options: &[Board, Map, Labels, Records, List, Null, OnlyBad, Summary],
-};
-
-const EXPLAIN_BELONGS: Syntax<'static> = Syntax {
-    about: "Tells which frames are among those that a recipe allows, and of another where it leaves the recipe, and which lines could stand there",
-    arguments: &[Argument::Rom, Argument::OneRecipe, Argument::ManyFrames],
-    options: &[Board, Map, Labels, Records],
-};
-
-const RULES: Syntax<'static> = Syntax {
-    about: "Prints what each number in an answer means",
-    arguments: &[Argument::Number],
-    options: &[],
-};
+/// The tasks that can be explained, in the order of the help.
+const EXPLAINED: [Syntax<'static>; 6] = [
+    Syntax {
+        task: Task::Frames,
+        about: "Judges frames over a vector ROM, by certificates made for them, and explains each answer",
+        arguments: &[Argument::Rom, Argument::Frames],
+        options: &[
+            Board, Map, Cert, Budget, Window, Clip, Start, Labels, Clocks, Within, Records, List,
+            Null, OnlyBad, Summary,
+        ],
+    },
+    Syntax {
+        task: Task::Check,
+        about: "Judges a frame over a vector ROM and its certificate, and prints the report",
+        arguments: &[Argument::Rom, Argument::Certificate, Argument::OneFrame],
+        options: &[Board, Budget, Window, Clip, Exact, Labels],
+    },
+    Syntax {
+        task: Task::Make,
+        about: "Explains what certificate is made of shapes of a vector ROM, or why none, and writes none",
+        arguments: &[Argument::Rom, Argument::Roots],
+        options: &[Board, Frame, Map, Labels],
+    },
+    Syntax {
+        task: Task::Diff,
+        about: "Tells how another dump differs from a vector ROM, and which single faults would turn the ROM into it",
+        arguments: &[Argument::Rom, Argument::Dump],
+        options: &[Map, Labels],
+    },
+    Syntax {
+        task: Task::Belongs,
+        about: "Tells which frames are among those that a recipe allows, and of another where it leaves the recipe, and which lines could stand there",
+        arguments: &[Argument::Rom, Argument::OneRecipe, Argument::ManyFrames],
+        options: &[Board, Map, Labels, Records],
+    },
+    Syntax {
+        task: Task::Recipe,
+        about: "Judges all frames that recipes allow, and tells the room in the lists and what is known before each line, or of a frame that is refused",
+        arguments: &[Argument::Rom, Argument::ManyRecipes],
+        options: &[Board, Map, Budget, Window, Clip, Labels],
+    },
+];
 
 /// What the help of a task says of files.
 const INPUT_HELP: &str = "One of the files that are read may be -, which is standard input";
@@ -168,41 +174,11 @@ frame is the word `B000`; words of a ROM stand from 800 on, with zeros around th
 const EXPLAIN_HELP: &str =
     "The first line and the exit status are those of the command; of diff the line counts what differs, and the status is 1 if anything does";
 
-/// A command with these arguments.
-fn with_arguments<'a>(
-    alloc: Global,
-    command: Command<'a>,
-    arguments: &[Argument],
-) -> Result<Command<'a>, AllocError> {
-    let mut command = command;
-    for argument in arguments {
-        command = command.arg(argument.arg(alloc)?)?;
-    }
-    Ok(command)
-}
-
-/// An argument of this name, with what the help says of it.
-fn argument_named<'a>(alloc: Global, name: &'a str, help: &'a str) -> Arg<'a> {
-    Arg::new(alloc, name).help(help)
-}
-
-/// A command of this name, with what the help says before and after its arguments.
-fn command_named<'a>(
-    alloc: Global,
-    name: &'a str,
-    about: &'a str,
-    after_help: &'a str,
-) -> Command<'a> {
-    Command::new(alloc, name)
-        .about(about)
-        .after_help(after_help)
-}
-
 impl Argument {
     /// The argument as `clap` takes it.
     fn arg<'a>(self, alloc: Global) -> Result<Arg<'a>, AllocError> {
         let (name, help) = self.text();
-        self.bounded(argument_named(alloc, name, help))
+        self.bounded(Arg::new(alloc, name).help(help))
     }
 
     /// With how many values it has, and when it is required.
@@ -259,28 +235,6 @@ impl Argument {
 }
 
 impl Task {
-    /// The tasks in the order of the help.
-    const PRINTED: [Task; 8] = [
-        Task::Frames,
-        Task::Check,
-        Task::Make,
-        Task::Places,
-        Task::Diff,
-        Task::Recipe,
-        Task::Belongs,
-        Task::Rules,
-    ];
-
-    /// The tasks that can be explained, in the order of the help.
-    const EXPLAINED: [Task; 6] = [
-        Task::Frames,
-        Task::Check,
-        Task::Make,
-        Task::Diff,
-        Task::Belongs,
-        Task::Recipe,
-    ];
-
     fn name<'a>(self) -> &'a str {
         match self {
             Task::Frames => "frames",
@@ -309,50 +263,25 @@ impl Task {
             _ => INPUT_HELP,
         }
     }
+}
 
-    /// What it takes; `explain` changes nothing of the tasks that can't be explained.
-    fn syntax<'a>(self, verb: Verb) -> Syntax<'a> {
-        match (self, verb) {
-            (Task::Frames, Verb::Print) => FRAMES,
-            (Task::Frames, Verb::Explain) => EXPLAIN_FRAMES,
-            (Task::Check, Verb::Print) => CHECK,
-            (Task::Check, Verb::Explain) => EXPLAIN_CHECK,
-            (Task::Make, Verb::Print) => MAKE,
-            (Task::Make, Verb::Explain) => EXPLAIN_MAKE,
-            (Task::Places, _) => PLACES,
-            (Task::Diff, Verb::Print) => DIFF,
-            (Task::Diff, Verb::Explain) => EXPLAIN_DIFF,
-            (Task::Recipe, Verb::Print) => RECIPE,
-            (Task::Recipe, Verb::Explain) => EXPLAIN_RECIPE,
-            (Task::Belongs, Verb::Print) => BELONGS,
-            (Task::Belongs, Verb::Explain) => EXPLAIN_BELONGS,
-            (Task::Rules, _) => RULES,
-        }
-    }
-
+impl<'a> Syntax<'a> {
     /// Its command, with these of its options.
-    fn command<'a>(
-        self,
-        alloc: Global,
-        verb: Verb,
-        known: Known,
-    ) -> Result<Command<'a>, AllocError> {
-        let syntax = self.syntax(verb);
-        let command = command_named(alloc, self.name(), syntax.about, self.after_help());
-        let command = with_arguments(alloc, command, syntax.arguments)?;
-        known.with(alloc, self.subject(), command, syntax.options)
+    fn command(&self, alloc: Global, known: Known) -> Result<Command<'a>, AllocError> {
+        let mut command = Command::new(alloc, self.task.name())
+            .about(self.about)
+            .after_help(self.task.after_help());
+        for argument in self.arguments {
+            command = command.arg(argument.arg(alloc)?)?;
+        }
+        known.with(alloc, self.task.subject(), command, self.options)
     }
 
     /// Its command as it is parsed alone, where these words stand behind its name: without its help, and without the options that none of
     /// them may name, since the rest of the program's command would only cost time.
-    pub fn command_for<'a>(
-        self,
-        alloc: Global,
-        verb: Verb,
-        words: &[String],
-    ) -> Result<Command<'a>, AllocError> {
+    pub fn command_for(&self, alloc: Global, words: &[String]) -> Result<Command<'a>, AllocError> {
         Ok(
-            self.command(alloc, verb, Known::NamedBy(words))?
+            self.command(alloc, Known::NamedBy(words))?
                 .no_binary_name(true)
                 .disable_help_flag(true)
                 .disable_help_subcommand(true),
@@ -360,24 +289,23 @@ impl Task {
     }
 }
 
-/// The task that these words name, with `explain` before it or without, and the words behind its name. The first word is the program's
-/// name.
-pub fn task_named(words: &[String]) -> Option<(Verb, Task, &[String])> {
+/// What these words name, with `explain` before the task or without, and the words behind its name. The first word is the program's name.
+pub fn syntax_named(words: &[String]) -> Option<(Verb, Syntax<'static>, &[String])> {
     let (_, words) = words.split_first()?;
     let (name, rest) = words.split_first()?;
     if name.as_str() != "explain" {
-        return Some((Verb::Print, named(&Task::PRINTED, name)?, rest));
+        return Some((Verb::Print, named(&PRINTED, name)?, rest));
     }
     let (name, rest) = rest.split_first()?;
-    Some((Verb::Explain, named(&Task::EXPLAINED, name)?, rest))
+    Some((Verb::Explain, named(&EXPLAINED, name)?, rest))
 }
 
-/// The one of these tasks that has this name.
-fn named(tasks: &[Task], name: &String) -> Option<Task> {
-    tasks
+/// The one of these whose task has this name.
+fn named<'a>(syntaxes: &[Syntax<'a>], name: &String) -> Option<Syntax<'a>> {
+    syntaxes
         .iter()
         .copied()
-        .find(|task| task.name() == name.as_str())
+        .find(|syntax| syntax.task.name() == name.as_str())
 }
 
 /// The program's command.
@@ -387,11 +315,11 @@ pub fn command<'a>(alloc: Global) -> Result<Command<'a>, AllocError> {
         .version(VERSION)
         .subcommand_required(true)
         .arg_required_else_help(true);
-    for task in Task::PRINTED {
-        if let Task::Rules = task {
+    for syntax in PRINTED {
+        if let Task::Rules = syntax.task {
             command = command.subcommand(explain_command(alloc)?)?;
         }
-        command = command.subcommand(task.command(alloc, Verb::Print, Known::All)?)?;
+        command = command.subcommand(syntax.command(alloc, Known::All)?)?;
     }
     Ok(command)
 }
@@ -405,8 +333,8 @@ fn explain_command<'a>(alloc: Global) -> Result<Command<'a>, AllocError> {
         .after_help(EXPLAIN_HELP)
         .subcommand_required(true)
         .arg_required_else_help(true);
-    for task in Task::EXPLAINED {
-        command = command.subcommand(task.command(alloc, Verb::Explain, Known::All)?)?;
+    for syntax in EXPLAINED {
+        command = command.subcommand(syntax.command(alloc, Known::All)?)?;
     }
     Ok(command)
 }
