@@ -1,7 +1,7 @@
 //! The options of the subcommands.
 
 use crate::form::Form;
-use clap::{Arg, Command, arg, value_parser};
+use clap::{Arg, arg, value_parser};
 use dvg_cmd::MOST_WORDS;
 use std::alloc::{AllocError, Global};
 
@@ -47,30 +47,14 @@ pub enum Subject {
 impl CommandOption {
     /// The option of a subcommand about this, as `clap` takes it.
     pub fn arg<'a>(self, alloc: Global, subject: Subject) -> Result<Arg<'a>, AllocError> {
-        let text = match subject {
+        let arg = match subject {
             Subject::Frames => self.text(alloc),
             Subject::Recipes => self.text_of_recipes(alloc),
-        };
-        let arg = match self.form() {
-            Some(form) => text.value_name(form.pattern()),
-            None => text,
         };
         self.bounded(subject, arg)
     }
 
-    /// The form of its value, by which the help names it, if it has one.
-    fn form(self) -> Option<Form> {
-        match self {
-            Map => Some(Form::Map),
-            Records => Some(Form::Records),
-            Start => Some(Form::Start),
-            Window => Some(Form::Window),
-            Within => Some(Form::Within),
-            _ => None,
-        }
-    }
-
-    /// Its names, how the help names a value without a form, and what it says of the option.
+    /// Its names, how the help names its value, and what it says of the option.
     fn text<'a>(self, alloc: Global) -> Arg<'a> {
         match self {
             Board => arg!(in alloc; --board
@@ -91,25 +75,30 @@ impl CommandOption {
             List =>
                 arg!(in alloc; --list <FILE> "Judges the frames that this file names, one a line, in place of FRAME"),
             Map => arg!(in alloc; --rom <MAP>
-                "The word addresses of the ROM's first and last word, within 400 to BFF [default: 800/BFF]"),
+                "The word addresses of the ROM's first and last word, within 400 to BFF [default: 800/BFF]")
+            .value_name(Form::Map.pattern()),
             Null => arg!(in alloc; --null "Names in the list end with NUL, not LF"),
             Output => arg!(in alloc; -o --output <FILE>
                 "Writes the certificate to this file, which keeps what it holds until the new one is whole"),
             Print =>
                 arg!(in alloc; --print <RECIPE> "Prints the one spelling of this recipe, in place of judging any"),
             Records => arg!(in alloc; --records <LENGTH>
-                "Takes each FRAME as records of so many bytes, one behind another, each of which is a frame"),
+                "Takes each FRAME as records of so many bytes, one behind another, each of which is a frame")
+            .value_name(Form::Records.pattern()),
             OnlyBad => arg!(in alloc; --"only-refused" "Leaves out the lines of accepted frames"),
             Remarks =>
                 arg!(in alloc; --remarks "Writes remarks on accepted frames, each as a line"),
             Start => arg!(in alloc; --start <START>
-                "Judges each frame as though its word 000 were the jump to this word address, or to this label of --labels"),
+                "Judges each frame as though its word 000 were the jump to this word address, or to this label of --labels")
+            .value_name(Form::Start.pattern()),
             Summary =>
                 arg!(in alloc; --summary "Ends with a line that counts the frames by what is said of them"),
             Window => arg!(in alloc; --window <WINDOW>
-                "Where the screen may be lit: from X0 to X1 across, from Y0 to Y1 up [default: 0,1023,0,1023]"),
+                "Where the screen may be lit: from X0 to X1 across, from Y0 to Y1 up [default: 0,1023,0,1023]")
+            .value_name(Form::Window.pattern()),
             Within => arg!(in alloc; --within <LIMIT>
-                "Refuses frames that may take the board more than so many milliseconds to draw"),
+                "Refuses frames that may take the board more than so many milliseconds to draw")
+            .value_name(Form::Within.pattern()),
         }
     }
 
@@ -127,7 +116,8 @@ impl CommandOption {
             Output => arg!(in alloc; -o --output <FRAME>
                 "Writes a frame that shows why the recipe is refused to this file, which keeps what it holds if there is none"),
             Within => arg!(in alloc; --within <LIMIT>
-                "Refuses recipes of which some frame may take the board more than so many milliseconds to draw"),
+                "Refuses recipes of which some frame may take the board more than so many milliseconds to draw")
+            .value_name(Form::Within.pattern()),
             _ => self.text(alloc),
         }
     }
@@ -151,74 +141,5 @@ impl CommandOption {
             (Records, _) => arg.conflicts_with("list"),
             _ => Ok(arg),
         }
-    }
-}
-
-/// Which options of a subcommand `clap` knows.
-#[derive(Clone, Copy)]
-pub enum Known<'w> {
-    All,
-    /// Those that a word of these may name, and those that such an option requires, since `clap` would not miss them otherwise.
-    NamedBy(&'w [String]),
-}
-
-impl<'w> Known<'w> {
-    /// The command with those of these options of a subcommand about this that `clap` knows.
-    pub fn with<'a>(
-        self,
-        alloc: Global,
-        subject: Subject,
-        command: Command<'a>,
-        options: &[CommandOption],
-    ) -> Result<Command<'a>, AllocError> {
-        if self.has_none() {
-            return Ok(command);
-        }
-        let mut command = command;
-        for option in options {
-            let arg = option.arg(alloc, subject)?;
-            if self.includes(&arg) {
-                command = command.arg(arg)?;
-            }
-        }
-        Ok(command)
-    }
-
-    /// Whether it is none, whatever the options are.
-    fn has_none(self) -> bool {
-        match self {
-            Known::All => false,
-            Known::NamedBy(words) => !words.iter().any(|word| word.as_str().starts_with('-')),
-        }
-    }
-
-    fn includes<'a>(self, option: &Arg<'a>) -> bool {
-        match (self, option.get_long()) {
-            (Known::NamedBy(words), Some(name)) => {
-                let others = requiring(name);
-                words.iter().any(|word| {
-                    may_name(word.as_str(), name)
-                        || others.iter().any(|other| may_name(word.as_str(), other))
-                })
-            }
-            _ => true,
-        }
-    }
-}
-
-/// The options that require this one.
-fn requiring(name: &str) -> &'static [&'static str] {
-    match name {
-        "board" => &["clip", "clocks", "within"],
-        "list" => &["null"],
-        _ => &[],
-    }
-}
-
-/// Whether this word may name this option, with or without its value.
-fn may_name(word: &str, name: &str) -> bool {
-    match word.strip_prefix("--") {
-        Some(rest) => rest.starts_with(name),
-        None => name == "output" && word.starts_with("-o"),
     }
 }

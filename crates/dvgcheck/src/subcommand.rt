@@ -4,7 +4,7 @@ use crate::options::CommandOption::{
     Board, Budget, Cert, Clip, Clocks, Exact, Frame, Labels, List, Map, Null, OnlyBad, Output,
     Print, Records, Remarks, Start, Summary, Window, Within,
 };
-use crate::options::{CommandOption, Known, Subject};
+use crate::options::{CommandOption, Subject};
 use clap::{Arg, Command, value_parser};
 use std::alloc::{AllocError, Global};
 
@@ -266,22 +266,31 @@ impl Task {
 }
 
 impl<'a> Syntax<'a> {
-    /// Its command, with these of its options.
-    fn command(&self, alloc: Global, known: Known) -> Result<Command<'a>, AllocError> {
+    /// Its command, with its arguments and these of its options.
+    fn command(&self, alloc: Global, options: &[CommandOption]) -> Result<Command<'a>, AllocError> {
+        let subject = self.task.subject();
         let mut command = Command::new(alloc, self.task.name())
             .about(self.about)
             .after_help(self.task.after_help());
         for argument in self.arguments {
             command = command.arg(argument.arg(alloc)?)?;
         }
-        known.with(alloc, self.task.subject(), command, self.options)
+        for option in options {
+            command = command.arg(option.arg(alloc, subject)?)?;
+        }
+        Ok(command)
     }
 
-    /// Its command as it is parsed alone, where these words stand behind its name: without its help, and without the options that none of
-    /// them may name, since the rest of the program's command would only cost time.
+    /// Its command as it is parsed alone, where these words stand behind its name: without its help, and without its options where no word
+    /// may name one, since the rest of the program's command would only cost time.
     pub fn command_for(&self, alloc: Global, words: &[String]) -> Result<Command<'a>, AllocError> {
+        let options = if words.iter().any(|word| word.as_str().starts_with('-')) {
+            self.options
+        } else {
+            &[]
+        };
         Ok(
-            self.command(alloc, Known::NamedBy(words))?
+            self.command(alloc, options)?
                 .no_binary_name(true)
                 .disable_help_flag(true)
                 .disable_help_subcommand(true),
@@ -319,7 +328,7 @@ pub fn command<'a>(alloc: Global) -> Result<Command<'a>, AllocError> {
         if let Task::Rules = syntax.task {
             command = command.subcommand(explain_command(alloc)?)?;
         }
-        command = command.subcommand(syntax.command(alloc, Known::All)?)?;
+        command = command.subcommand(syntax.command(alloc, syntax.options)?)?;
     }
     Ok(command)
 }
@@ -334,7 +343,7 @@ fn explain_command<'a>(alloc: Global) -> Result<Command<'a>, AllocError> {
         .subcommand_required(true)
         .arg_required_else_help(true);
     for syntax in EXPLAINED {
-        command = command.subcommand(syntax.command(alloc, Known::All)?)?;
+        command = command.subcommand(syntax.command(alloc, syntax.options)?)?;
     }
     Ok(command)
 }
