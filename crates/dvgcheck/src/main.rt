@@ -19,50 +19,61 @@ mod output;
 mod over;
 mod recipes;
 mod records;
+mod stop;
 mod subcommand;
 mod together;
 
-use command::{
-    Arguments, Asked, Certificates, CheckArgs, DumpArgs, MakeArgs, Named, Usage, listing_by,
-};
+use command::{Arguments, Asked, Certificates, MakeArgs, Named};
 use dvg_cmd::{
-    ASTEROIDS, ClockOptions, Counted, CountedRead, CountedWrite, Detail, KeptCertificates, Labels,
-    Listing, MakeAnswer, MakeFault, MakeRunFault, NamedReader, Outcome, OwnCertificates, Remarking,
-    RomMap, Rule, RunFault, ShapeStarts, TimedCertificates, Window, all_rules, load_cert, load_rom,
+    ASTEROIDS, ClockOptions, Counted, CountedRead, CountedWrite, KeptCertificates, Labels,
+    MakeAnswer, MakeRunFault, NamedReader, Outcome, OwnCertificates, Remarking, RomMap, Rule,
+    RunFault, ShapeStarts, TimedCertificates, Window, all_rules, load_cert, load_rom,
     make_status_of, message_of, run_check_in, run_comparison, run_explain_diff, run_explain_make,
     run_frames, run_frames_given, run_make_frames, run_places, run_rule, run_rules, status_of,
     write_make_answer, write_make_fault, write_message, write_text,
 };
-use frames_fault::FramesFault;
-use input::{Input, Source, is_no_memory};
-use output::Output;
+use input::{Input, Source};
+use output::{Output, unwritten};
 use over::{AskedOfFrames, opened, run_over};
-use recipes::{run_print_of, run_recipe};
-use std::alloc::AllocError;
+use recipes::{judge_recipes, print};
 use std::io;
+use std::io::Printer;
 use std::process::ExitCode;
+use stop::Stop;
 use subcommand::{Task, Verb};
 use together::read_frames;
 
-fn open<F: Drop>(rt: &HostRuntime, input: Input, fault: F) -> Result<Source, F> {
-    input.open(rt).map_err(|_| fault)
+fn open<F: Drop>(rt: &HostRuntime, input: Input, fault: F) -> Result<Counted<Source>, F> {
+    match input.open(rt) {
+        Ok(file) => Ok(Counted::new(file)),
+        Err(_) => Err(fault),
+    }
+}
+
+/// Standard output.
+fn standard_output(rt: &HostRuntime) -> Counted<Printer<'_, HostRuntime>> {
+    Counted::new(io::writer(rt))
 }
 
 /// Opens the files in the order ROM, frame, certificate, before any is read, and runs the check.
 #[inline(never)]
-fn check(rt: &HostRuntime, args: &CheckArgs, detail: Detail) -> Result<Outcome, RunFault> {
-    let rom = open(rt, args.rom, RunFault::ReadRom)?;
-    let frame = open(rt, args.frame, RunFault::ReadFrame)?;
-    let cert = open(rt, args.cert, RunFault::ReadCert)?;
-    run_check_in(
+fn check(rt: &HostRuntime, arguments: &Arguments) -> Result<Outcome, Stop> {
+    let options = arguments.check_options()?;
+    let rom = arguments.file("ROM");
+    let frame = arguments.file("FRAME");
+    let cert = arguments.file("CERT");
+    let mut rom = open(rt, rom, RunFault::ReadRom)?;
+    let mut frame = open(rt, frame, RunFault::ReadFrame)?;
+    let mut cert = open(rt, cert, RunFault::ReadCert)?;
+    Ok(run_check_in(
         rt.alloc(),
-        &mut Counted::new(rom),
-        &mut Counted::new(cert),
-        &mut Counted::new(frame),
-        &args.options,
-        detail,
-        &mut Counted::new(io::writer(rt)),
-    )
+        &mut rom,
+        &mut cert,
+        &mut frame,
+        &options,
+        arguments.detail(),
+        &mut standard_output(rt),
+    )?)
 }
 
 /// Reads the ROM and then all frames, and judges these with accounts, each of which knows where the shapes of the other frames begin.
@@ -74,51 +85,40 @@ fn explain_together(
     clocks: Option<ClockOptions>,
     named: Vec<Named>,
 ) -> Result<Outcome, RunFault> {
-    let rom = load_rom(&mut Counted::new(open(rt, asked.rom, RunFault::ReadRom)?))?;
+    let rom = load_rom(&mut open(rt, asked.rom, RunFault::ReadRom)?)?;
     let alone = own_certificates(asked, rom.as_slice(), map, None);
     let mut starts = ShapeStarts::new(rt.alloc())?;
     let frames = read_frames(rt, named, asked.options.start, &alone, &mut starts)?;
-    judge_by_own(
-        rt,
-        asked,
-        rom.as_slice(),
-        map,
-        Some(&starts),
-        clocks,
-        frames.into_iter(),
-    )
+    let own = own_certificates(asked, rom.as_slice(), map, Some(&starts));
+    judge_by_own(rt, asked, own, clocks, frames.into_iter())
 }
 
-/// Judges frames by certificates of their own over this ROM, with their clocks, if these are asked for.
+/// Judges frames by certificates of their own, with their clocks, if these are asked for.
 #[inline(never)]
 fn judge_by_own<'a, R: CountedRead + Drop, I: Iterator<Item = NamedReader<R>> + Drop>(
     rt: &HostRuntime,
     asked: &Asked<'a>,
-    rom: &'a [u8],
-    map: RomMap,
-    others: Option<&'a ShapeStarts>,
+    own: OwnCertificates<'a>,
     clocks: Option<ClockOptions>,
     frames: I,
 ) -> Result<Outcome, RunFault>
     requires can { I.can_next frames }
     requires ends { IsFinite (I.remaining frames) }
 {
-    let mut out = Counted::new(io::writer(rt));
+    let mut out = standard_output(rt);
     let start = asked.options.start;
     let remarking = Remarking {
-        own: own_certificates(asked, rom, map, others),
-        labels: asked.remark_labels(),
+        own,
+        labels: asked.labels,
     };
-    let listing = listing_by(asked.listing, &remarking);
+    let listing = asked.listing_by(&remarking);
     let detail = listing.detail.of_answer();
     match clocks {
         Some(clocks) => {
-            let own = own_certificates(asked, rom, map, others);
             let mut judge = TimedCertificates::new(rt.alloc(), own, clocks, detail);
             run_frames(rt.alloc(), &mut judge, start, frames, listing, &mut out)
         }
         None => {
-            let own = own_certificates(asked, rom, map, others);
             let mut judge = KeptCertificates::new(rt.alloc(), own, detail);
             run_frames(rt.alloc(), &mut judge, start, frames, listing, &mut out)
         }
@@ -156,21 +156,21 @@ impl<'a> AskedOfFrames for Asked<'a> {
         rt: &HostRuntime,
         frames: I,
     ) -> Result<Outcome, RunFault> {
-        let rom = load_rom(&mut Counted::new(open(rt, self.rom, RunFault::ReadRom)?))?;
+        let rom = load_rom(&mut open(rt, self.rom, RunFault::ReadRom)?)?;
         match self.certificates {
             Certificates::Made(map, clocks) => {
-                judge_by_own(rt, self, rom.as_slice(), map, None, clocks, frames)
+                let own = own_certificates(self, rom.as_slice(), map, None);
+                judge_by_own(rt, self, own, clocks, frames)
             }
             Certificates::Given(cert) => {
-                let file = open(rt, cert, RunFault::ReadCert)?;
-                let cert = load_cert(rt.alloc(), &mut Counted::new(file))?;
+                let cert = load_cert(rt.alloc(), &mut open(rt, cert, RunFault::ReadCert)?)?;
                 let map = match &cert {
                     Ok(cert) => cert.map(),
                     Err(_) => ASTEROIDS,
                 };
                 let remarking = Remarking {
                     own: own_certificates(self, rom.as_slice(), map, None),
-                    labels: self.remark_labels(),
+                    labels: self.labels,
                 };
                 run_frames_given(
                     rt.alloc(),
@@ -178,8 +178,8 @@ impl<'a> AskedOfFrames for Asked<'a> {
                     &cert,
                     &self.options,
                     frames,
-                    listing_by(self.listing, &remarking),
-                    &mut Counted::new(io::writer(rt)),
+                    self.listing_by(&remarking),
+                    &mut standard_output(rt),
                 )
             }
         }
@@ -204,126 +204,24 @@ fn open_all(
     let rom = open(rt, args.rom, MakeRunFault::ReadRom)?;
     let mut frames = Vec::new(rt.alloc());
     for frame in &args.frames {
-        let file = open(rt, frame.input, MakeRunFault::ReadFrame)?;
-        frames.push(Counted::new(file))?;
+        frames.push(open(rt, frame.input, MakeRunFault::ReadFrame)?)?;
     }
-    Ok((Counted::new(rom), frames))
+    Ok((rom, frames))
 }
 
 /// Opens the ROM and the frames, and then the file for the certificate, if one was named, and runs the maker. The file has the certificate
 /// in the end, or, on any fault, what was there.
 #[inline(never)]
-fn make(rt: &HostRuntime, args: &MakeArgs) -> Result<(), MakeRunFault> {
+fn make(rt: &HostRuntime, args: &MakeArgs, path: Option<&str>) -> Result<(), MakeRunFault> {
     let (mut rom, mut frames) = open_all(rt, args)?;
-    let Some(path) = args.output else {
-        let mut out = Counted::new(io::writer(rt));
-        return run_maker(rt, args, &mut rom, &mut frames, &mut out);
+    let Some(path) = path else {
+        return run_maker(rt, args, &mut rom, &mut frames, &mut standard_output(rt));
     };
-    let output = Output::open(rt, path).map_err(|error| unwritten(&error))?;
-    let mut file = Counted::new(output.file());
-    let made = run_maker(rt, args, &mut rom, &mut frames, &mut file);
-    match made {
-        Ok(()) => output.keep(rt).map_err(|error| unwritten(&error)),
-        Err(fault) => {
-            output.discard(rt);
-            Err(fault)
-        }
-    }
-}
-
-/// Opens the ROM and the frames, and tells at which places calls of the shapes break no rule on this window.
-#[inline(never)]
-fn places(rt: &HostRuntime, args: &MakeArgs, window: Window) -> Result<(), MakeRunFault> {
-    let (mut rom, mut frames) = open_all(rt, args)?;
-    run_places(
-        args.machine,
-        rt.alloc(),
-        &mut rom,
-        args.map,
-        &args.roots,
-        &mut frames,
-        window,
-        &mut Counted::new(io::writer(rt)),
-    )
-}
-
-/// The names of frames, as lines show them.
-fn names_of(rt: &HostRuntime, frames: &[Named]) -> Result<Vec<String>, MakeRunFault> {
-    let mut names = Vec::new(rt.alloc());
-    for frame in frames {
-        names.push(String::from_str(rt.alloc(), frame.name.as_str())?)?;
-    }
-    Ok(names)
-}
-
-/// Opens both ROMs and the frames, and tells what the change from the one ROM to the other touches.
-#[inline(never)]
-fn diff(rt: &HostRuntime, args: &MakeArgs, other: Input) -> Result<bool, MakeRunFault> {
-    let (mut rom, mut frames) = open_all(rt, args)?;
-    let other = open(rt, other, MakeRunFault::ReadRom)?;
-    let names = names_of(rt, &args.frames)?;
-    run_comparison(
-        args.machine,
-        rt.alloc(),
-        &mut rom,
-        &mut Counted::new(other),
-        args.map,
-        &args.roots,
-        &mut frames,
-        &names,
-        &mut Counted::new(io::writer(rt)),
-    )
-}
-
-/// Opens both dumps, the good one first, and tells how they differ.
-#[inline(never)]
-fn explain_diff(rt: &HostRuntime, args: &DumpArgs) -> Result<bool, MakeRunFault> {
-    let rom = open(rt, args.rom, MakeRunFault::ReadRom)?;
-    let other = open(rt, args.other, MakeRunFault::ReadRom)?;
-    run_explain_diff(
-        rt.alloc(),
-        &mut Counted::new(rom),
-        &mut Counted::new(other),
-        args.map,
-        args.labels,
-        &mut Counted::new(io::writer(rt)),
-    )
-}
-
-/// Opens the files as [`make`] does, and answers the maker's answer with its account.
-fn make_answer(rt: &HostRuntime, args: &MakeArgs) -> Result<MakeAnswer, MakeRunFault> {
-    let (mut rom, mut frames) = open_all(rt, args)?;
-    run_explain_make(
-        args.machine,
-        rt.alloc(),
-        &mut rom,
-        args.map,
-        &args.roots,
-        &mut frames,
-        args.labels,
-    )
-}
-
-/// Writes the maker's answer with its account, and answers the exit status.
-#[inline(never)]
-fn explain_make(rt: &HostRuntime, args: &MakeArgs) -> u8 {
-    match make_answer(rt, args) {
-        Ok(answer) => {
-            let name = name_of(&args.frames, answer.frame());
-            let mut out = Counted::new(io::writer(rt));
-            tell_end(rt, &write_make_answer(name, &answer, &mut out))
-        }
-        Err(fault) => tell_make(rt, &args.frames, &Err(fault)),
-    }
-}
-
-/// The fault of a file that could not be written.
-fn unwritten(error: &io::Error) -> MakeRunFault {
-    if is_no_memory(error) {
-        MakeRunFault::Make(MakeFault::Memory)
-    } else {
-        MakeRunFault::Write
-    }
+    let file = Output::open(rt, path).map_err(|error| unwritten::<MakeRunFault>(&error))?;
+    let made = run_maker(rt, args, &mut rom, &mut frames, &mut file.counted());
+    file.end(rt, made.is_ok())
+        .map_err(|error| unwritten::<MakeRunFault>(&error))?;
+    made
 }
 
 /// Runs the maker over open files.
@@ -345,10 +243,88 @@ fn run_maker<W: CountedWrite>(
     )
 }
 
+/// Opens the ROM and the frames, and tells at which places calls of the shapes break no rule on this window.
+#[inline(never)]
+fn places(rt: &HostRuntime, args: &MakeArgs, window: Window) -> Result<(), MakeRunFault> {
+    let (mut rom, mut frames) = open_all(rt, args)?;
+    run_places(
+        args.machine,
+        rt.alloc(),
+        &mut rom,
+        args.map,
+        &args.roots,
+        &mut frames,
+        window,
+        &mut standard_output(rt),
+    )
+}
+
+/// Opens both ROMs and the frames, and tells what the change from the one ROM to the other touches.
+#[inline(never)]
+fn diff(rt: &HostRuntime, args: &MakeArgs, other: Input) -> Result<bool, MakeRunFault> {
+    let (mut rom, mut frames) = open_all(rt, args)?;
+    let mut other = open(rt, other, MakeRunFault::ReadRom)?;
+    let mut names = Vec::new(rt.alloc());
+    for frame in &args.frames {
+        names.push(String::from_str(rt.alloc(), frame.name.as_str())?)?;
+    }
+    run_comparison(
+        args.machine,
+        rt.alloc(),
+        &mut rom,
+        &mut other,
+        args.map,
+        &args.roots,
+        &mut frames,
+        &names,
+        &mut standard_output(rt),
+    )
+}
+
+/// Opens both dumps, the good one first, and tells how they differ.
+#[inline(never)]
+fn explain_diff(
+    rt: &HostRuntime,
+    arguments: &Arguments,
+    map: RomMap,
+) -> Result<bool, MakeRunFault> {
+    let rom = arguments.file("ROM");
+    let other = arguments.file("OTHER");
+    let mut rom = open(rt, rom, MakeRunFault::ReadRom)?;
+    let mut other = open(rt, other, MakeRunFault::ReadRom)?;
+    run_explain_diff(
+        rt.alloc(),
+        &mut rom,
+        &mut other,
+        map,
+        arguments.labels,
+        &mut standard_output(rt),
+    )
+}
+
+/// Opens the files as [`make`] does, and answers the maker's answer with its account.
+#[inline(never)]
+fn explain_make(
+    rt: &HostRuntime,
+    args: &MakeArgs,
+    labels: Option<&Labels>,
+) -> Result<MakeAnswer, MakeRunFault> {
+    let (mut rom, mut frames) = open_all(rt, args)?;
+    run_explain_make(
+        args.machine,
+        rt.alloc(),
+        &mut rom,
+        args.map,
+        &args.roots,
+        &mut frames,
+        labels,
+    )
+}
+
 /// Writes the text of this rule, or without one the table of all rules.
 #[inline(never)]
 fn rules(rt: &HostRuntime, rule: Option<Rule>) -> Result<(), RunFault> {
-    let mut out = Counted::new(io::writer(rt));
+    let mut out = standard_output(rt);
     match rule {
         Some(rule) => run_rule(rt.alloc(), &rule, &mut out),
         None => {
@@ -358,173 +334,117 @@ fn rules(rt: &HostRuntime, rule: Option<Rule>) -> Result<(), RunFault> {
     }
 }
 
-/// Says a message on standard error, by one write with its LF. Where that can't be written either, the exit status alone tells.
-fn say(rt: &HostRuntime, message: &str) {
+/// Says a message on standard error, by one write with its LF, and answers this exit status. Where it can't be written either, the status
+/// alone tells.
+fn say(rt: &HostRuntime, message: &str, status: u8) -> u8 {
     let _ = write_message(message, &mut Counted::new(rt.stderr()));
+    status
 }
 
-/// Tells how a run ended, by a fault's message and the exit status.
-fn tell_end(rt: &HostRuntime, end: &Result<Outcome, RunFault>) -> u8 {
-    if let Err(fault) = end {
-        say(rt, message_of(fault));
+/// Tells why a run ended, and answers the exit status.
+#[inline(never)]
+fn tell(rt: &HostRuntime, stop: &Stop) -> u8 {
+    match stop {
+        Stop::Help(text) => match write_text(text.as_str(), &mut standard_output(rt)) {
+            Ok(()) => 0,
+            Err(fault) => tell_fault(rt, &fault),
+        },
+        Stop::Usage(text) => {
+            let _ = write_text(text.as_str(), &mut Counted::new(rt.stderr()));
+            2
+        }
+        Stop::Line(line) => say(rt, line.as_str(), 2),
+        Stop::UnreadLabels => say(rt, "dvgcheck: cannot read the labels", 3),
+        Stop::Frames(fault, frames) => say(rt, fault.message(), fault.status(*frames)),
+        Stop::Run(fault) => tell_fault(rt, fault),
     }
-    status_of(end)
 }
 
-/// Tells why there are no frames, or none any more behind frames that came to this, and answers the exit status.
-fn tell_fault(rt: &HostRuntime, fault: FramesFault, frames: Outcome) -> u8 {
-    say(rt, fault.message());
-    fault.status(frames)
-}
-
-/// Tells how a run over frames ended, which met this fault.
-fn tell_end_until(
-    rt: &HostRuntime,
-    end: Result<Outcome, RunFault>,
-    fault: Option<FramesFault>,
-) -> u8 {
-    match (end, fault) {
-        (Ok(outcome), Some(fault)) => tell_fault(rt, fault, outcome),
-        (end, _) => tell_end(rt, &end),
-    }
+fn tell_fault(rt: &HostRuntime, fault: &RunFault) -> u8 {
+    say(rt, message_of(fault), status_of(&Err(*fault)))
 }
 
 /// The name of a frame, or none where no frame is meant.
 fn name_of<'a>(frames: &'a [Named], frame: Option<usize>) -> &'a str {
-    let Some(frame) = frame else {
-        return "";
-    };
-    match frames.get(frame) {
+    match frame.and_then(|frame| frames.get(frame)) {
         Some(frame) => frame.name.as_str(),
         None => "",
     }
 }
 
-/// Tells how a run of the maker ended, by a fault's line, which begins with the name of its frame if it is one's, and the exit
-/// status.
-fn tell_make(rt: &HostRuntime, frames: &[Named], end: &Result<(), MakeRunFault>) -> u8 {
-    if let Err(fault) = end {
-        let name = name_of(frames, fault.frame());
-        let _ = write_make_fault(name, fault, &mut Counted::new(rt.stderr()));
-    }
-    make_status_of(end)
-}
-
-/// Tells how a comparison ended: 1 if something is touched, or differs, and as [`tell_make`] does.
-fn tell_diff(rt: &HostRuntime, frames: &[Named], end: &Result<bool, MakeRunFault>) -> u8 {
+/// Tells how a run of the maker ended, by a fault's line, which begins with the name of its frame if it is one's, and the exit status: 1 if
+/// something is touched, or differs.
+fn tell_make(rt: &HostRuntime, frames: &[Named], end: Result<bool, MakeRunFault>) -> u8 {
     match end {
-        Ok(touched) => u8::from(*touched),
-        Err(fault) => tell_make(rt, frames, &Err(*fault)),
-    }
-}
-
-/// Tells how the writing of rules or of help ended, by a fault's message and the exit status.
-fn tell_text(rt: &HostRuntime, end: &Result<(), RunFault>) -> u8 {
-    match end {
-        Ok(()) => 0,
-        Err(fault) => tell_end(rt, &Err(*fault)),
-    }
-}
-
-/// Says why there was no run, and answers this exit status, or that memory was out for the message.
-fn tell_message(rt: &HostRuntime, message: Result<String, AllocError>, status: u8) -> u8 {
-    match message {
-        Ok(message) => {
-            say(rt, message.as_str());
-            status
-        }
-        Err(_) => tell_end(rt, &Err(RunFault::Memory)),
-    }
-}
-
-/// Tells why no run was asked for, and answers the exit status.
-#[inline(never)]
-fn tell_usage(rt: &HostRuntime, usage: &Usage) -> u8 {
-    match usage {
-        Usage::Argument(fault) => tell_message(rt, fault.message(rt.alloc()), 2),
-        Usage::OutOfMemory => tell_end(rt, &Err(RunFault::Memory)),
-        Usage::Fault(text) => {
-            let _ = write_text(text.as_str(), &mut Counted::new(rt.stderr()));
-            2
-        }
-        Usage::Help(text) => {
-            let written = write_text(text.as_str(), &mut Counted::new(io::writer(rt)));
-            tell_text(rt, &written)
+        Ok(differs) => u8::from(differs),
+        Err(fault) => {
+            let name = name_of(frames, fault.frame());
+            let _ = write_make_fault(name, &fault, &mut Counted::new(rt.stderr()));
+            make_status_of(&Err(fault))
         }
     }
-}
-
-fn run(rt: &HostRuntime) -> u8 {
-    let words = match command::words(rt) {
-        Ok(words) => words,
-        Err(usage) => return tell_usage(rt, &usage),
-    };
-    let arguments = match Arguments::parsed(rt.alloc(), &words) {
-        Ok(arguments) => arguments,
-        Err(usage) => return tell_usage(rt, &usage),
-    };
-    let labels = match arguments.load_labels(rt) {
-        Ok(labels) => labels,
-        Err(fault) => return tell_message(rt, fault.message(rt.alloc()), fault.status()),
-    };
-    run_by(rt, arguments, &labels)
-}
-
-/// Runs what the arguments ask for, by these labels, and answers the exit status.
-fn run_by<'a>(rt: &HostRuntime, arguments: Arguments<'a>, labels: &'a Option<Labels>) -> u8 {
-    match run_task(rt, &arguments.with_labels(labels.as_ref())) {
-        Ok(status) => status,
-        Err(usage) => tell_usage(rt, &usage),
-    }
-}
-
-/// Runs a task. All arguments are read before any file but the labels is opened.
-fn run_task<'a>(rt: &HostRuntime, arguments: &Arguments<'a>) -> Result<u8, Usage<'a>> {
-    Ok(match arguments.task {
-        Task::Frames => {
-            let (names, asked) = arguments.frames(rt)?;
-            run_over(rt, names, &asked)
-        }
-        Task::Check => {
-            let (args, detail) = arguments.check(rt)?;
-            tell_end(rt, &check(rt, &args, detail))
-        }
-        Task::Make | Task::Places | Task::Diff => run_maker_task(rt, arguments)?,
-        Task::Recipe => match arguments.printed(rt)? {
-            Some((recipe, labels)) => run_print_of(rt, &recipe, labels),
-            None => {
-                let (recipes, args) = arguments.recipes(rt)?;
-                run_recipe(rt, recipes, &args)
-            }
-        },
-        Task::Belongs => {
-            let (names, asked) = arguments.belongs(rt)?;
-            run_over(rt, names, &asked)
-        }
-        Task::Rules => tell_text(rt, &rules(rt, arguments.rule()?)),
-    })
 }
 
 /// Runs a task that certificates are made for, or that compares two dumps.
-fn run_maker_task<'a>(rt: &HostRuntime, arguments: &Arguments<'a>) -> Result<u8, Usage<'a>> {
+fn run_maker_task(rt: &HostRuntime, arguments: &Arguments) -> Result<u8, Stop> {
     if let (Task::Diff, Verb::Explain) = (arguments.task, arguments.verb) {
-        return Ok(tell_diff(rt, &[], &explain_diff(rt, &arguments.dumps(rt)?)));
+        arguments.one_standard_input()?;
+        let map = arguments.map()?;
+        return Ok(tell_make(rt, &[], explain_diff(rt, arguments, map)));
     }
-    let args = arguments.make(rt)?;
-    Ok(match (arguments.task, arguments.verb) {
-        (Task::Places, _) => {
-            let window = arguments.window()?;
-            tell_make(rt, &args.frames, &places(rt, &args, window))
+    let args = arguments.make()?;
+    let end = match (arguments.task, arguments.verb) {
+        (Task::Places, _) => places(rt, &args, arguments.window()?).map(|()| false),
+        (Task::Diff, _) => diff(rt, &args, arguments.file("OTHER")),
+        (_, Verb::Print) => make(rt, &args, arguments.output()).map(|()| false),
+        (_, Verb::Explain) => match explain_make(rt, &args, arguments.labels) {
+            Ok(answer) => {
+                let name = name_of(&args.frames, answer.frame());
+                let outcome = write_make_answer(name, &answer, &mut standard_output(rt))?;
+                return Ok(status_of(&Ok(outcome)));
+            }
+            Err(fault) => Err(fault),
+        },
+    };
+    Ok(tell_make(rt, &args.frames, end))
+}
+
+/// Runs a task, and answers the exit status. All arguments are read before any file but the labels is opened.
+fn run_task(rt: &HostRuntime, arguments: &Arguments) -> Result<u8, Stop> {
+    let outcome = match arguments.task {
+        Task::Frames => {
+            let (names, asked) = arguments.frames()?;
+            run_over(rt, names, &asked)?
         }
-        (Task::Diff, _) => {
-            let other = arguments.file(rt, "OTHER");
-            tell_diff(rt, &args.frames, &diff(rt, &args, other))
+        Task::Check => check(rt, arguments)?,
+        Task::Make | Task::Places | Task::Diff => return run_maker_task(rt, arguments),
+        Task::Recipe => match arguments.printed()? {
+            Some(recipe) => print(rt, arguments, &recipe)?,
+            None => judge_recipes(rt, arguments)?,
+        },
+        Task::Belongs => {
+            let (names, asked) = arguments.belongs()?;
+            run_over(rt, names, &asked)?
         }
-        (_, Verb::Print) => tell_make(rt, &args.frames, &make(rt, &args)),
-        (_, Verb::Explain) => explain_make(rt, &args),
-    })
+        Task::Rules => {
+            rules(rt, arguments.rule()?)?;
+            Outcome::Accepted
+        }
+    };
+    Ok(status_of(&Ok(outcome)))
+}
+
+fn run(rt: &HostRuntime) -> Result<u8, Stop> {
+    let words = command::words(rt)?;
+    let arguments = Arguments::parsed(rt, &words)?;
+    let labels = arguments.load_labels()?;
+    let arguments = arguments.with_labels(labels.as_ref());
+    run_task(rt, &arguments)
 }
 
 fn main(rt: HostRuntime) -> ExitCode {
-    ExitCode::from(run(&rt))
+    ExitCode::from(match run(&rt) {
+        Ok(status) => status,
+        Err(stop) => tell(&rt, &stop),
+    })
 }

@@ -1,5 +1,8 @@
 //! The file that a certificate is written to.
 
+use crate::input::is_no_memory;
+use dvg_cmd::{Counted, WriteFault};
+use std::alloc::AllocError;
 use std::fs::File;
 use std::io::ErrorKind;
 use std::path::{Path, PathBuf};
@@ -69,14 +72,19 @@ impl Output {
     }
 
     /// The file, to be written.
-    pub fn file(&self) -> &File {
-        &self.file
+    pub fn counted(&self) -> Counted<&File> {
+        Counted::new(&self.file)
     }
 
-    /// Ends the writing of a whole file: a draft is brought to the disk and takes its place. Where that fails, it is removed.
-    pub fn keep(self, rt: &HostRuntime) -> io::Result<()> {
-        let kept = self.put_in_place(rt);
-        if kept.is_err() {
+    /// Ends the writing. A draft of a whole file is brought to the disk and takes its place; where that fails, or the file is not whole, the
+    /// draft is removed.
+    pub fn end(self, rt: &HostRuntime, is_whole: bool) -> io::Result<()> {
+        let kept = if is_whole {
+            self.put_in_place(rt)
+        } else {
+            Ok(())
+        };
+        if !is_whole || kept.is_err() {
             self.discard(rt);
         }
         kept
@@ -90,10 +98,19 @@ impl Output {
         fs::rename(rt, draft.path.as_str(), draft.place.as_str())
     }
 
-    /// Ends the writing of a file that did not become whole: a draft is removed.
-    pub fn discard(self, rt: &HostRuntime) {
+    /// Removes a draft.
+    fn discard(self, rt: &HostRuntime) {
         if let Some(draft) = &self.draft {
             let _ = fs::remove_file(rt, draft.path.as_str());
         }
+    }
+}
+
+/// The fault of a file that could not be written.
+pub fn unwritten<F: From<AllocError> + From<WriteFault>>(error: &io::Error) -> F {
+    if is_no_memory(error) {
+        F::from(AllocError)
+    } else {
+        F::from(WriteFault::Device)
     }
 }

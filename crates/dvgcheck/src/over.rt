@@ -6,7 +6,7 @@ use crate::command::{FrameNames, Named};
 use crate::input::Source;
 use crate::list::List;
 use crate::records::Records;
-use crate::{tell_end, tell_end_until, tell_fault};
+use crate::stop::Stop;
 use dvg_cmd::{Counted, CountedRead, NamedReader, Outcome, RunFault};
 
 /// What is asked of frames.
@@ -35,26 +35,32 @@ pub fn opened(rt: &HostRuntime, named: Named) -> NamedReader<Counted<Source>> {
     }
 }
 
-/// Answers frames, and tells how that ended. A list is read name by name, beginning before any other file is opened, and a record is
-/// answered as soon as it is read.
-pub fn run_over<A: AskedOfFrames>(rt: &HostRuntime, names: FrameNames, asked: &A) -> u8 {
-    match names {
-        FrameNames::Given(named) => tell_end(rt, &asked.run_named(rt, named)),
-        FrameNames::Listed(input, end) => match List::open(rt, input, end) {
-            Ok(mut list) => {
-                // No list has so many names.
-                let frames = (0..u64::MAX).map_while(|_| list.next_frame(rt));
-                let end = asked.run(rt, frames);
-                tell_end_until(rt, end, list.fault())
-            }
-            Err(fault) => tell_fault(rt, fault, Outcome::Accepted),
-        },
+/// Answers frames. A list is read name by name, beginning before any other file is opened, and a record is answered as soon as it is read.
+pub fn run_over<A: AskedOfFrames>(
+    rt: &HostRuntime,
+    names: FrameNames,
+    asked: &A,
+) -> Result<Outcome, Stop> {
+    let (end, fault) = match names {
+        FrameNames::Given(named) => (asked.run_named(rt, named), None),
+        FrameNames::Listed(input, end) => {
+            let mut list = List::open(rt, input, end)?;
+            // No list has so many names.
+            let frames = (0..u64::MAX).map_while(|_| list.next_frame(rt));
+            let end = asked.run(rt, frames);
+            (end, list.fault())
+        }
         FrameNames::Records(files, length) => {
             let mut records = Records::new(files, length);
             // No files have so many records.
             let frames = (0..u64::MAX).map_while(|_| records.step(rt)).flatten();
             let end = asked.run(rt, frames);
-            tell_end_until(rt, end, records.fault())
+            (end, records.fault())
         }
+    };
+    let outcome = end?;
+    match fault {
+        Some(fault) => Err(Stop::Frames(fault, outcome)),
+        None => Ok(outcome),
     }
 }

@@ -1,37 +1,34 @@
 //! The runs of `recipe` and of `belongs`.
 
-use crate::command::{BelongsAsked, Named, RecipeArgs};
-use crate::input::is_no_memory;
-use crate::output::Output;
+use crate::command::{Arguments, BelongsAsked, Named};
+use crate::output::{Output, unwritten};
 use crate::over::{AskedOfFrames, opened};
-use crate::{open, tell_end};
-use dvg_cmd::{Counted, CountedRead, Labels, NamedReader, Outcome, RunFault, load_rom};
+use crate::stop::Stop;
+use crate::{open, standard_output};
+use dvg_cmd::{Counted, CountedRead, NamedReader, Outcome, RunFault, load_rom};
 use dvg_recipe_cmd::{
-    Recorded, WitnessEnd, load_recipe, run_belongs, run_print, run_recipe_for_witness, run_recipes,
+    RecipeAsked, Recorded, load_recipe, run_belongs, run_print, run_recipe_for_witness, run_recipes,
 };
-use std::io;
-
-/// Judges recipes, and tells how that ended.
-pub fn run_recipe(rt: &HostRuntime, recipes: Vec<Named>, args: &RecipeArgs) -> u8 {
-    tell_end(rt, &judge(rt, recipes, args))
-}
 
 /// Reads the ROM, and then judges recipe after recipe: each file is opened when the one before it is closed.
 #[inline(never)]
-fn judge(rt: &HostRuntime, recipes: Vec<Named>, args: &RecipeArgs) -> Result<Outcome, RunFault> {
-    let rom = load_rom(&mut Counted::new(open(rt, args.rom, RunFault::ReadRom)?))?;
-    match args.output {
-        Some(path) => judge_for_witness(rt, rom.as_slice(), args, recipes, path),
+pub fn judge_recipes(rt: &HostRuntime, arguments: &Arguments) -> Result<Outcome, Stop> {
+    let asked = arguments.recipe_asked()?;
+    let recipes = arguments.files("RECIPE")?;
+    let witness = arguments.witness(recipes.len())?;
+    let rom = load_rom(&mut open(rt, arguments.file("ROM"), RunFault::ReadRom)?)?;
+    Ok(match witness {
+        Some(path) => judge_for_witness(rt, rom.as_slice(), arguments, &asked, recipes, path)?,
         None => run_recipes(
             rt.alloc(),
             rom.as_slice(),
-            &args.asked,
-            args.labels,
-            args.detail,
+            &asked,
+            arguments.labels,
+            arguments.detail(),
             recipes.into_iter().map(|recipe| opened(rt, recipe)),
-            &mut Counted::new(io::writer(rt)),
-        ),
-    }
+            &mut standard_output(rt),
+        )?,
+    })
 }
 
 /// Judges the one recipe, and has the frame that shows why it is refused at this path in the end, or, if there is none, what was there.
@@ -39,7 +36,8 @@ fn judge(rt: &HostRuntime, recipes: Vec<Named>, args: &RecipeArgs) -> Result<Out
 fn judge_for_witness(
     rt: &HostRuntime,
     rom: &[u8],
-    args: &RecipeArgs,
+    arguments: &Arguments,
+    asked: &RecipeAsked,
     recipes: Vec<Named>,
     path: &str,
 ) -> Result<Outcome, RunFault> {
@@ -47,51 +45,31 @@ fn judge_for_witness(
     let Some(recipe) = recipes.pop() else {
         return Ok(Outcome::Accepted);
     };
-    let output = Output::open(rt, path).map_err(|error| unwritten(&error))?;
+    let file = Output::open(rt, path).map_err(|error| unwritten::<RunFault>(&error))?;
     let judged = run_recipe_for_witness(
         rt.alloc(),
         rom,
-        &args.asked,
-        args.labels,
+        asked,
+        arguments.labels,
         opened(rt, recipe),
-        &mut Counted::new(io::writer(rt)),
-        &mut Counted::new(output.file()),
+        &mut standard_output(rt),
+        &mut file.counted(),
     );
-    match judged {
-        Ok(
-            WitnessEnd {
-                is_written: true,
-                ..
-            },
-        ) => output.keep(rt).map_err(|error| unwritten(&error))?,
-        _ => output.discard(rt),
-    }
+    let is_written = matches!(&judged, Ok(end) if end.is_written);
+    file.end(rt, is_written)
+        .map_err(|error| unwritten::<RunFault>(&error))?;
     Ok(judged?.outcome)
 }
 
-/// The fault of a file that could not be written.
-fn unwritten(error: &io::Error) -> RunFault {
-    if is_no_memory(error) {
-        RunFault::Memory
-    } else {
-        RunFault::Write
-    }
-}
-
-/// Prints a recipe, and tells how that ended.
-pub fn run_print_of(rt: &HostRuntime, recipe: &Named, labels: Option<&Labels>) -> u8 {
-    tell_end(rt, &print(rt, recipe, labels))
-}
-
+/// Prints a recipe.
 #[inline(never)]
-fn print(rt: &HostRuntime, recipe: &Named, labels: Option<&Labels>) -> Result<Outcome, RunFault> {
-    let file = open(rt, recipe.input, RunFault::ReadRecipe)?;
+pub fn print(rt: &HostRuntime, arguments: &Arguments, recipe: &Named) -> Result<Outcome, RunFault> {
     run_print(
         rt.alloc(),
         recipe.name.as_str(),
-        &mut Counted::new(file),
-        labels,
-        &mut Counted::new(io::writer(rt)),
+        &mut open(rt, recipe.input, RunFault::ReadRecipe)?,
+        arguments.labels,
+        &mut standard_output(rt),
         &mut Counted::new(rt.stderr()),
     )
 }
@@ -104,15 +82,20 @@ impl<'a> AskedOfFrames for BelongsAsked<'a> {
         rt: &HostRuntime,
         frames: I,
     ) -> Result<Outcome, RunFault> {
-        let rom = load_rom(&mut Counted::new(open(rt, self.rom, RunFault::ReadRom)?))?;
-        let file = open(rt, self.recipe, RunFault::ReadRecipe)?;
-        let recipe = load_recipe(rt.alloc(), &mut Counted::new(file), self.labels)?;
+        let rom = load_rom(&mut open(rt, self.rom, RunFault::ReadRom)?)?;
+        let mut file = open(rt, self.recipe, RunFault::ReadRecipe)?;
+        let recipe = load_recipe(rt.alloc(), &mut file, self.labels)?;
         let given = Recorded {
             rom: rom.as_slice(),
             map: self.map,
             recipe: &recipe,
         };
-        let mut out = Counted::new(io::writer(rt));
-        run_belongs(rt.alloc(), &given, frames, self.listing, &mut out)
+        run_belongs(
+            rt.alloc(),
+            &given,
+            frames,
+            self.listing,
+            &mut standard_output(rt),
+        )
     }
 }
