@@ -29,17 +29,13 @@ pub fn put_text(text: &[u8], answer: Answer, buffer: &mut [u8]) -> TextAnswer
     if buffer.len() < length {
         return TextAnswer {
             length,
-            frame: 0,
-            answer,
-            number: SHORT_BUFFER,
+            ..no_text(SHORT_BUFFER, answer)
         };
     }
     buffer[..length].copy_from_slice(text);
     TextAnswer {
         length,
-        frame: 0,
-        answer,
-        number: 0,
+        ..no_text(0, answer)
     }
 }
 
