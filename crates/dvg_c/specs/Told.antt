@@ -71,13 +71,11 @@ yes_of a = record { shapes = a.shapes; words = a.words; depth = a.depth }
 
 -- a refusal, with its number and its place
 abbrev pub told_refusal : Refusal → Answer
-told_refusal (refusal.Image f) = numbered (refusal_number (refusal.Image f))
-told_refusal refusal.BudgetRange = numbered (refusal_number refusal.BudgetRange)
 told_refusal (refusal.Cert f) = record (numbered (refusal_number (refusal.Cert f))) { line = f.line }
-told_refusal refusal.IndexMemory = numbered (refusal_number refusal.IndexMemory)
 told_refusal (refusal.Shape f) =
     record (numbered (refusal_number (refusal.Shape f))) { shape = f.addr; scale = told_key f.key; word = f.word }
 told_refusal (refusal.Frame f) = record (numbered (refusal_number (refusal.Frame f))) { word = f.word }
+told_refusal r = numbered (refusal_number r)
 
 -- a verdict in plain numbers
 abbrev pub told : Result Yes Refusal → Answer

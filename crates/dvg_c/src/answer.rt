@@ -197,14 +197,11 @@ pub fn timed_answer(verdict: &Result<Yes, FrameRefusal>, clocks: &Option<ClockRa
     ensures value { result ≡ told_timed verdict.now clocks.now }
     ensures accepted { result.number ≡ 0 → verdict.now ≡ Ok (yes_of result) }
 {
-    match verdict {
-        Ok(yes) => match clocks {
-            Some(clocks) => Answer {
-                clocks: clocks.most,
-                ..accepted(yes)
-            },
-            None => accepted(yes),
+    match (verdict, clocks) {
+        (Ok(yes), Some(clocks)) => Answer {
+            clocks: clocks.most,
+            ..accepted(yes)
         },
-        Err(_) => own_answer(verdict),
+        _ => own_answer(verdict),
     }
 }
