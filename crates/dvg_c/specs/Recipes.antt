@@ -104,17 +104,13 @@ MemberVerdict rom map frame (Ok membership) =
     × IsMembership (rom_on Board map rom) read.recipe frame membership
 MemberVerdict rom map frame (Err n) = (given : Result ReadRecipe RecipeTextFault) × RefusesRecipe rom map given n
 
--- what is said of a frame; none is read, so no reading fails
-abbrev pub told_membership : Membership → RecipeAnswer
-told_membership member.Belongs = recipe_numbered 0
-told_membership (member.Outside at) = record (recipe_numbered OUTSIDE) { word = at }
-told_membership member.WrongLength = recipe_numbered 2
-told_membership member.NoMemory = recipe_numbered 63
-told_membership member.Unread = recipe_numbered 63
-
--- the answer in plain numbers
+-- what is said of a frame, of which none is read, so that no reading fails; or why the recipe is refused
 abbrev pub told_member : Result Membership RecipeNo → RecipeAnswer
-told_member (Ok membership) = told_membership membership
+told_member (Ok member.Belongs) = recipe_numbered 0
+told_member (Ok (member.Outside at)) = record (recipe_numbered OUTSIDE) { word = at }
+told_member (Ok member.WrongLength) = recipe_numbered 2
+told_member (Ok member.NoMemory) = recipe_numbered 63
+told_member (Ok member.Unread) = recipe_numbered 63
 told_member (Err n) = told_recipe_no n
 
 -- the answer is 83 for no map, else it tells what is said of the frame

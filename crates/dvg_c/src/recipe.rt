@@ -5,7 +5,7 @@ ghost use Rattle.std.specs.Prelude.{◌≡◌, Ok, IfOk, IfErr};
 ghost use Rattle.dvg_c.specs.declared.machine.TheConstants.{BOARD};
 ghost use Rattle.dvg_c.specs.Told.{map_of, window_of};
 ghost use Rattle.dvg_c.specs.Alone.{AreTaken, IsBad};
-ghost use Rattle.dvg_c.specs.Recipes.{MemberVerdict, TellsWitness, at_line, options_of, recipe_numbered, recipe_yes_of, told_member, told_membership, told_recipe, told_recipe_no, told_unmade_for};
+ghost use Rattle.dvg_c.specs.Recipes.{MemberVerdict, TellsWitness, at_line, options_of, recipe_numbered, recipe_yes_of, told_member, told_recipe, told_recipe_no, told_unmade_for};
 
 use crate::answer::{NO_TEXT_MEMORY, OutOfRange, numbered, scale_of, unmade};
 use crate::map::{MapEnds, map_between};
@@ -195,27 +195,18 @@ pub fn membership_in(
     Ok(membership)
 }
 
-/// What is said of a frame, in plain numbers.
-fn membership_answer(membership: Membership) -> RecipeAnswer
-    ensures { result ≡ told_membership membership }
-{
-    match membership {
-        Membership::Belongs => recipe_numbered(0),
-        Membership::Outside { at } => RecipeAnswer {
-            word: at,
-            ..recipe_numbered(OUTSIDE)
-        },
-        Membership::WrongLength => recipe_numbered(2),
-        Membership::NoMemory | Membership::Unread => recipe_numbered(63),
-    }
-}
-
 /// What is said of a frame, or why the recipe is refused, in plain numbers.
 pub fn member_answer_of(verdict: &Result<Membership, RecipeNo>) -> RecipeAnswer
     ensures { result ≡ told_member verdict.now }
 {
     match verdict {
-        Ok(membership) => membership_answer(*membership),
+        Ok(Membership::Belongs) => recipe_numbered(0),
+        Ok(Membership::Outside { at }) => RecipeAnswer {
+            word: *at,
+            ..recipe_numbered(OUTSIDE)
+        },
+        Ok(Membership::WrongLength) => recipe_numbered(2),
+        Ok(Membership::NoMemory | Membership::Unread) => recipe_numbered(63),
         Err(no) => refused_recipe(no),
     }
 }
