@@ -12,7 +12,7 @@ use Rattle.dvg_clocks.specs.declared.clocks.ClockRange.{ClockRange}
 use Rattle.dvg_cmd.specs.declared.frame_judge.OwnCertificates.{OwnCertificates}
 use Rattle.dvg_cmd.specs.Frames.{VerdictOnBytes}
 use Rattle.dvg_c.specs.declared.answer.Answer.{Answer}
-use Rattle.dvg_c.specs.declared.machine.TheConstants.{BOARD}
+use Rattle.dvg_c.specs.declared.passed.TheConstants.{BOARD}
 use Rattle.dvg_c.specs.declared.answer.OutOfRange.{OutOfRange}
 use Rattle.dvg_c.specs.declared.answer.OutOfRange.TheVariants as bad
 use Rattle.dvg_c.specs.Told.{bad_number, machine_of, numbered, told_own, told_timed}

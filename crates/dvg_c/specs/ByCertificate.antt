@@ -4,8 +4,7 @@ use Rattle.dvg_words.specs.Values.{Window, IsFor}
 use Rattle.dvg_verdict.specs.Verdict.{VerdictOn}
 use Rattle.dvg_c.specs.declared.answer.Answer.{Answer}
 use Rattle.dvg_c.specs.declared.answer.TheConstants.{BAD_MACHINE, BAD_MODE, BAD_WINDOW}
-use Rattle.dvg_c.specs.declared.machine.TheConstants.{BOARD}
-use Rattle.dvg_c.specs.declared.mode.TheConstants.{EXACT}
+use Rattle.dvg_c.specs.declared.passed.TheConstants.{BOARD, EXACT}
 use Rattle.dvg_c.specs.Told.{Tells, machine_of, mode_of, numbered}
 
 -- the answer is 82 for a number that stands for no machine, else 87 for one that stands for no mode, else 80 for no window of the

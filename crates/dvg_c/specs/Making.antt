@@ -14,7 +14,7 @@ use Rattle.dvg_cmd.specs.Making.{WritesMade}
 use Rattle.dvg_cmd.specs.MakingFrames.{MakesForFrames, FramesFaultMeans}
 use Rattle.dvg_c.specs.declared.answer.Answer.{Answer}
 use Rattle.dvg_c.specs.declared.answer.TheConstants.{ANY_SCALE, BAD_MACHINE, BAD_MAP, BAD_LENGTHS, NO_CALL}
-use Rattle.dvg_c.specs.declared.machine.TheConstants.{BOARD}
+use Rattle.dvg_c.specs.declared.passed.TheConstants.{BOARD}
 use Rattle.dvg_c.specs.declared.make.Root.{Root}
 use Rattle.dvg_c.specs.declared.make.Unmade.{Unmade}
 use Rattle.dvg_c.specs.declared.make.Unmade.TheVariants as unmade

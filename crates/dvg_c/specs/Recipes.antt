@@ -23,7 +23,7 @@ use Rattle.dvg_recipe_cmd.specs.Meanings.{IsMembership}
 use Rattle.dvg_recipe_cmd.specs.Recipes.{IsVerdict}
 use Rattle.dvg_c.specs.declared.answer.OutOfRange.{OutOfRange}
 use Rattle.dvg_c.specs.declared.answer.TheConstants.{BAD_MAP, NO_TEXT_MEMORY}
-use Rattle.dvg_c.specs.declared.machine.TheConstants.{BOARD}
+use Rattle.dvg_c.specs.declared.passed.TheConstants.{BOARD}
 use Rattle.dvg_c.specs.declared.recipe.RecipeAnswer.{RecipeAnswer}
 use Rattle.dvg_c.specs.declared.recipe.TheConstants.{OUTSIDE}
 use Rattle.dvg_c.specs.declared.text.TextAnswer.{TextAnswer}

@@ -16,14 +16,13 @@ use Rattle.dvg_make.specs.declared.fault.EntryFault.{EntryFault}
 use Rattle.dvg_make.specs.declared.fault.EntryFault.TheVariants as fault
 use Rattle.dvg_make.specs.declared.judging.FrameRefusal.{FrameRefusal}
 use Rattle.dvg_make.specs.declared.judging.FrameRefusal.TheVariants.{Make, NoMemory, Check}
-use Rattle.dvg_c.specs.declared.window.WindowEnds.{WindowEnds}
-use Rattle.dvg_c.specs.declared.map.MapEnds.{MapEnds}
+use Rattle.dvg_c.specs.declared.passed.WindowEnds.{WindowEnds}
+use Rattle.dvg_c.specs.declared.passed.MapEnds.{MapEnds}
 use Rattle.dvg_c.specs.declared.answer.Answer.{Answer}
 use Rattle.dvg_c.specs.declared.answer.OutOfRange.{OutOfRange}
 use Rattle.dvg_c.specs.declared.answer.OutOfRange.TheVariants as bad
 use Rattle.dvg_c.specs.declared.answer.TheConstants.{ANY_SCALE, BAD_MACHINE, BAD_MAP, BAD_WINDOW}
-use Rattle.dvg_c.specs.declared.machine.TheConstants.{BOARD}
-use Rattle.dvg_c.specs.declared.mode.TheConstants.{EXACT}
+use Rattle.dvg_c.specs.declared.passed.TheConstants.{BOARD, EXACT}
 
 -- the machine that a number stands for: 1 for the board
 abbrev pub machine_of : ℕ → Machine

@@ -5,9 +5,7 @@ ghost use Rattle.dvg_c.specs.Told.{machine_of, map_of, window_of};
 ghost use Rattle.dvg_c.specs.Alone.{IsBad, JudgesAlone};
 
 use crate::answer::OutOfRange;
-use crate::machine::machine_numbered;
-use crate::map::{MapEnds, map_between};
-use crate::window::{WindowEnds, window_for};
+use crate::passed::{MapEnds, WindowEnds, machine_numbered, map_between, window_for};
 use dvg_cmd::OwnCertificates;
 
 /// The judge of frames, each by its own certificate, over a ROM at a map, or the first of the machine, the map and the window that is

@@ -22,16 +22,15 @@ use crate::answer::{
     own_answer, timed_answer,
 };
 use crate::explain::account_of;
-use crate::machine::machine_numbered;
 use crate::make::{Root, Unmade, made_text, no_certificate};
-use crate::map::{MapEnds, map_between};
-use crate::mode::mode_numbered;
+use crate::passed::{
+    MapEnds, WindowEnds, machine_numbered, map_between, mode_numbered, window_for,
+};
 use crate::recipe::{
     RecipeAnswer, member_answer_of, membership_in, put_witness, recipe_answer_of, recipe_numbered,
     recipe_options,
 };
 use crate::text::{TextAnswer, no_text, put_text};
-use crate::window::{WindowEnds, window_for};
 use dvg_cmd::Detail;
 use dvg_recipe_cmd::{Explained, Wanted, judge_text};
 use dvg_verdict::check_on;

@@ -8,13 +8,10 @@ mod alone;
 mod answer;
 mod explain;
 mod exports;
-mod machine;
 mod make;
-mod map;
-mod mode;
+mod passed;
 mod recipe;
 mod text;
-mod window;
 
 pub use answer::Answer;
 pub use exports::{
@@ -22,7 +19,6 @@ pub use exports::{
     dvgcheck_make, dvgcheck_recipe, dvgcheck_version,
 };
 pub use make::Root;
-pub use map::MapEnds;
+pub use passed::{MapEnds, WindowEnds};
 pub use recipe::RecipeAnswer;
 pub use text::TextAnswer;
-pub use window::WindowEnds;

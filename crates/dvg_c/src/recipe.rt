@@ -2,15 +2,14 @@
 //! buffer.
 
 ghost use Rattle.std.specs.Prelude.{◌≡◌, Ok, IfOk, IfErr};
-ghost use Rattle.dvg_c.specs.declared.machine.TheConstants.{BOARD};
+ghost use Rattle.dvg_c.specs.declared.passed.TheConstants.{BOARD};
 ghost use Rattle.dvg_c.specs.Told.{map_of, window_of};
 ghost use Rattle.dvg_c.specs.Alone.{AreTaken, IsBad};
 ghost use Rattle.dvg_c.specs.Recipes.{MemberVerdict, TellsWitness, at_line, options_of, recipe_numbered, recipe_yes_of, told_member, told_recipe, told_recipe_no, told_unmade_for};
 
 use crate::answer::{NO_TEXT_MEMORY, OutOfRange, numbered, scale_of, unmade};
-use crate::map::{MapEnds, map_between};
+use crate::passed::{MapEnds, WindowEnds, map_between, window_for};
 use crate::text::put_text;
-use crate::window::{WindowEnds, window_for};
 use dvg_check::Yes;
 use dvg_cmd::{Detail, EntryFault};
 use dvg_recipe_cmd::{
