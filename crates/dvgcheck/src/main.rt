@@ -283,7 +283,7 @@ fn diff(rt: &HostRuntime, args: &MakeArgs, other: Input) -> Result<bool, MakeRun
 
 /// Opens both dumps, the good one first, and tells how they differ.
 #[inline(never)]
-fn explain_diff(
+fn compare_dumps(
     rt: &HostRuntime,
     arguments: &Arguments,
     map: RomMap,
@@ -303,8 +303,7 @@ fn explain_diff(
 }
 
 /// Opens the files as [`make`] does, and answers the maker's answer with its account.
-#[inline(never)]
-fn explain_make(
+fn make_answer(
     rt: &HostRuntime,
     args: &MakeArgs,
     labels: Option<&Labels>,
@@ -319,6 +318,19 @@ fn explain_make(
         &mut frames,
         labels,
     )
+}
+
+/// Writes the maker's answer with its account, and answers the exit status.
+#[inline(never)]
+fn explain_make(
+    rt: &HostRuntime,
+    args: &MakeArgs,
+    labels: Option<&Labels>,
+) -> Result<u8, MakeRunFault> {
+    let answer = make_answer(rt, args, labels)?;
+    let name = name_of(&args.frames, answer.frame());
+    let end = write_make_answer(name, &answer, &mut standard_output(rt));
+    Ok(tell_end(rt, &end))
 }
 
 /// Writes the text of this rule, or without one the table of all rules.
@@ -345,10 +357,10 @@ fn say(rt: &HostRuntime, message: &str, status: u8) -> u8 {
 #[inline(never)]
 fn tell(rt: &HostRuntime, stop: &Stop) -> u8 {
     match stop {
-        Stop::Help(text) => match write_text(text.as_str(), &mut standard_output(rt)) {
-            Ok(()) => 0,
-            Err(fault) => tell_fault(rt, &fault),
-        },
+        Stop::Help(text) => {
+            let written = write_text(text.as_str(), &mut standard_output(rt));
+            tell_end(rt, &written.map(|()| Outcome::Accepted))
+        }
         Stop::Usage(text) => {
             let _ = write_text(text.as_str(), &mut Counted::new(rt.stderr()));
             2
@@ -356,12 +368,16 @@ fn tell(rt: &HostRuntime, stop: &Stop) -> u8 {
         Stop::Line(line) => say(rt, line.as_str(), 2),
         Stop::UnreadLabels => say(rt, "dvgcheck: cannot read the labels", 3),
         Stop::Frames(fault, frames) => say(rt, fault.message(), fault.status(*frames)),
-        Stop::Run(fault) => tell_fault(rt, fault),
+        Stop::Run(fault) => tell_end(rt, &Err(*fault)),
     }
 }
 
-fn tell_fault(rt: &HostRuntime, fault: &RunFault) -> u8 {
-    say(rt, message_of(fault), status_of(&Err(*fault)))
+/// Tells how a run ended, by a fault's message and the exit status.
+fn tell_end(rt: &HostRuntime, end: &Result<Outcome, RunFault>) -> u8 {
+    if let Err(fault) = end {
+        return say(rt, message_of(fault), status_of(end));
+    }
+    status_of(end)
 }
 
 /// The name of a frame, or none where no frame is meant.
@@ -372,11 +388,10 @@ fn name_of<'a>(frames: &'a [Named], frame: Option<usize>) -> &'a str {
     }
 }
 
-/// Tells how a run of the maker ended, by a fault's line, which begins with the name of its frame if it is one's, and the exit status: 1 if
-/// something is touched, or differs.
-fn tell_make(rt: &HostRuntime, frames: &[Named], end: Result<bool, MakeRunFault>) -> u8 {
+/// Tells how a run of the maker ended, by a fault's line, which begins with the name of its frame if it is one's, and the exit status.
+fn tell_make(rt: &HostRuntime, frames: &[Named], end: Result<u8, MakeRunFault>) -> u8 {
     match end {
-        Ok(differs) => u8::from(differs),
+        Ok(status) => status,
         Err(fault) => {
             let name = name_of(frames, fault.frame());
             let _ = write_make_fault(name, &fault, &mut Counted::new(rt.stderr()));
@@ -385,26 +400,22 @@ fn tell_make(rt: &HostRuntime, frames: &[Named], end: Result<bool, MakeRunFault>
     }
 }
 
-/// Runs a task that certificates are made for, or that compares two dumps.
+/// Tells how two dumps differ; the status is 1 if they do.
+fn explain_diff(rt: &HostRuntime, arguments: &Arguments) -> Result<u8, Stop> {
+    arguments.one_standard_input()?;
+    let map = arguments.map()?;
+    let end = compare_dumps(rt, arguments, map).map(u8::from);
+    Ok(tell_make(rt, &[], end))
+}
+
+/// Runs a task that certificates are made for; the status of `diff` is 1 if something is touched.
 fn run_maker_task(rt: &HostRuntime, arguments: &Arguments) -> Result<u8, Stop> {
-    if let (Task::Diff, Verb::Explain) = (arguments.task, arguments.verb) {
-        arguments.one_standard_input()?;
-        let map = arguments.map()?;
-        return Ok(tell_make(rt, &[], explain_diff(rt, arguments, map)));
-    }
     let args = arguments.make()?;
     let end = match (arguments.task, arguments.verb) {
-        (Task::Places, _) => places(rt, &args, arguments.window()?).map(|()| false),
-        (Task::Diff, _) => diff(rt, &args, arguments.file("OTHER")),
-        (_, Verb::Print) => make(rt, &args, arguments.output()).map(|()| false),
-        (_, Verb::Explain) => match explain_make(rt, &args, arguments.labels) {
-            Ok(answer) => {
-                let name = name_of(&args.frames, answer.frame());
-                let outcome = write_make_answer(name, &answer, &mut standard_output(rt))?;
-                return Ok(status_of(&Ok(outcome)));
-            }
-            Err(fault) => Err(fault),
-        },
+        (Task::Places, _) => places(rt, &args, arguments.window()?).map(|()| 0),
+        (Task::Diff, _) => diff(rt, &args, arguments.file("OTHER")).map(u8::from),
+        (_, Verb::Print) => make(rt, &args, arguments.output()).map(|()| 0),
+        (_, Verb::Explain) => explain_make(rt, &args, arguments.labels),
     };
     Ok(tell_make(rt, &args.frames, end))
 }
@@ -412,6 +423,7 @@ fn run_maker_task(rt: &HostRuntime, arguments: &Arguments) -> Result<u8, Stop> {
 /// Runs a task, and answers the exit status. All arguments are read before any file but the labels is opened.
 fn run_task(rt: &HostRuntime, arguments: &Arguments) -> Result<u8, Stop> {
     let outcome = match arguments.task {
+        Task::Diff if arguments.verb == Verb::Explain => return explain_diff(rt, arguments),
         Task::Frames => {
             let (names, asked) = arguments.frames()?;
             run_over(rt, names, &asked)?
@@ -434,17 +446,25 @@ fn run_task(rt: &HostRuntime, arguments: &Arguments) -> Result<u8, Stop> {
     Ok(status_of(&Ok(outcome)))
 }
 
-fn run(rt: &HostRuntime) -> Result<u8, Stop> {
-    let words = command::words(rt)?;
-    let arguments = Arguments::parsed(rt, &words)?;
+/// Runs what these words ask for, and answers the exit status.
+fn run_words(rt: &HostRuntime, words: &[String]) -> Result<u8, Stop> {
+    let arguments = Arguments::parsed(rt, words)?;
     let labels = arguments.load_labels()?;
     let arguments = arguments.with_labels(labels.as_ref());
     run_task(rt, &arguments)
 }
 
-fn main(rt: HostRuntime) -> ExitCode {
-    ExitCode::from(match run(&rt) {
+fn run(rt: &HostRuntime) -> u8 {
+    let words = match command::words(rt) {
+        Ok(words) => words,
+        Err(stop) => return tell(rt, &stop),
+    };
+    match run_words(rt, &words) {
         Ok(status) => status,
-        Err(stop) => tell(&rt, &stop),
-    })
+        Err(stop) => tell(rt, &stop),
+    }
+}
+
+fn main(rt: HostRuntime) -> ExitCode {
+    ExitCode::from(run(&rt))
 }

@@ -25,7 +25,7 @@ pub enum Task {
 }
 
 /// Whether an answer is printed alone or, with `explain` before the task, an account of it, too.
-#[derive(Clone, Copy)]
+#[derive(Clone, Copy, PartialEq, Eq)]
 pub enum Verb {
     Print,
     Explain,
