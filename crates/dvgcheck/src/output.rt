@@ -76,8 +76,8 @@ impl Output {
         Counted::new(&self.file)
     }
 
-    /// Ends the writing. A draft of a whole file is brought to the disk and takes its place; where that fails, or the file is not whole, the
-    /// draft is removed.
+    /// Ends the writing. A draft of a whole file is brought to the disk and takes its place; where that fails, or the file is not whole,
+    /// the draft is removed.
     pub fn end(self, rt: &HostRuntime, is_whole: bool) -> io::Result<()> {
         let kept = if is_whole {
             self.put_in_place(rt)

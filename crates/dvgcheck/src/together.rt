@@ -5,8 +5,8 @@ use crate::input::{Input, Kept, kept_frame};
 use dvg_cmd::{Counted, FRAME_READ, NamedReader, OwnCertificates, ShapeStarts, read_started};
 use std::alloc::AllocError;
 
-/// The bytes of a frame, up to one past their limit, with the jump to its start in place of word 000, if one is given. `None` if it can't be
-/// opened or read.
+/// The bytes of a frame, up to one past their limit, with the jump to its start in place of word 000, if one is given. `None` if it can't
+/// be opened or read.
 fn read_frame(
     rt: &HostRuntime,
     input: Input,
