@@ -57,7 +57,11 @@ module _ {W : Type 0} {contents : W → Option (List ℕ)} {whole_writes failure
   then {lines = lines} {more = more} h {r = Ok b} k =
       record { sent = both_sent lines more _ _ _ _ _ _ h.sent k.sent; prefix = tt; count = k.count ∙ h.count }
   then {mid = mid} {lines = lines} {more = more} h {r = Err e} k =
-      record { sent = tt; prefix = both_cut lines more _ _ _ _ _ (whole_writes mid) h.sent k.prefix; count = k.count ∙ ap (count_after true) h.count }
+      record {
+        sent = tt;
+        prefix = both_cut lines more _ _ _ _ _ (whole_writes mid) h.sent k.prefix;
+        count = k.count ∙ ap (count_after true) h.count;
+      }
 
   -- no more was written than a prefix of these lines
   pub cut_in : {old new : W} {lines : List (List ℕ)} {e : E} → Writes {A = A} contents whole_writes failures old new (Err e) lines
