@@ -69,17 +69,20 @@ impl<'a> Asked<'a> {
     pub fn has_account(&self) -> bool {
         matches!(self.listing.detail, Wanted::Answer(Detail::Account(_)))
     }
+}
 
-    /// What is written of frames, where remarks are found so.
-    pub fn listing_by(&self, remarking: &'a Remarking<'a>) -> Listing<FrameDetail<'a>> {
-        Listing {
-            detail: match self.listing.detail {
-                Wanted::Answer(detail) => FrameDetail::Answer(detail),
-                Wanted::Remarks => FrameDetail::Remarks(remarking),
-            },
-            lines: self.listing.lines,
-            summary: self.listing.summary,
-        }
+/// What is written of frames, where remarks are found so.
+pub fn listing_by<'a>(
+    wanted: Listing<Wanted<'a>>,
+    remarking: &'a Remarking<'a>,
+) -> Listing<FrameDetail<'a>> {
+    Listing {
+        detail: match wanted.detail {
+            Wanted::Answer(detail) => FrameDetail::Answer(detail),
+            Wanted::Remarks => FrameDetail::Remarks(remarking),
+        },
+        lines: wanted.lines,
+        summary: wanted.summary,
     }
 }
 

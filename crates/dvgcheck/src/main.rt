@@ -23,7 +23,7 @@ mod stop;
 mod subcommand;
 mod together;
 
-use command::{Arguments, Asked, Certificates, MakeArgs, Named};
+use command::{Arguments, Asked, Certificates, MakeArgs, Named, listing_by};
 use dvg_cmd::{
     ASTEROIDS, ClockOptions, Counted, CountedRead, CountedWrite, KeptCertificates, Labels,
     MakeAnswer, MakeRunFault, NamedReader, Outcome, OwnCertificates, Remarking, RomMap, Rule,
@@ -89,16 +89,25 @@ fn explain_together(
     let alone = own_certificates(asked, rom.as_slice(), map, None);
     let mut starts = ShapeStarts::new(rt.alloc())?;
     let frames = read_frames(rt, named, asked.options.start, &alone, &mut starts)?;
-    let own = own_certificates(asked, rom.as_slice(), map, Some(&starts));
-    judge_by_own(rt, asked, own, clocks, frames.into_iter())
+    judge_by_own(
+        rt,
+        asked,
+        rom.as_slice(),
+        map,
+        Some(&starts),
+        clocks,
+        frames.into_iter(),
+    )
 }
 
-/// Judges frames by certificates of their own, with their clocks, if these are asked for.
+/// Judges frames by certificates of their own over this ROM, with their clocks, if these are asked for.
 #[inline(never)]
 fn judge_by_own<'a, R: CountedRead + Drop, I: Iterator<Item = NamedReader<R>> + Drop>(
     rt: &HostRuntime,
     asked: &Asked<'a>,
-    own: OwnCertificates<'a>,
+    rom: &'a [u8],
+    map: RomMap,
+    others: Option<&'a ShapeStarts>,
     clocks: Option<ClockOptions>,
     frames: I,
 ) -> Result<Outcome, RunFault>
@@ -108,17 +117,19 @@ fn judge_by_own<'a, R: CountedRead + Drop, I: Iterator<Item = NamedReader<R>> + 
     let mut out = standard_output(rt);
     let start = asked.options.start;
     let remarking = Remarking {
-        own,
+        own: own_certificates(asked, rom, map, others),
         labels: asked.labels,
     };
-    let listing = asked.listing_by(&remarking);
+    let listing = listing_by(asked.listing, &remarking);
     let detail = listing.detail.of_answer();
     match clocks {
         Some(clocks) => {
+            let own = own_certificates(asked, rom, map, others);
             let mut judge = TimedCertificates::new(rt.alloc(), own, clocks, detail);
             run_frames(rt.alloc(), &mut judge, start, frames, listing, &mut out)
         }
         None => {
+            let own = own_certificates(asked, rom, map, others);
             let mut judge = KeptCertificates::new(rt.alloc(), own, detail);
             run_frames(rt.alloc(), &mut judge, start, frames, listing, &mut out)
         }
@@ -159,8 +170,7 @@ impl<'a> AskedOfFrames for Asked<'a> {
         let rom = load_rom(&mut open(rt, self.rom, RunFault::ReadRom)?)?;
         match self.certificates {
             Certificates::Made(map, clocks) => {
-                let own = own_certificates(self, rom.as_slice(), map, None);
-                judge_by_own(rt, self, own, clocks, frames)
+                judge_by_own(rt, self, rom.as_slice(), map, None, clocks, frames)
             }
             Certificates::Given(cert) => {
                 let cert = load_cert(rt.alloc(), &mut open(rt, cert, RunFault::ReadCert)?)?;
@@ -178,7 +188,7 @@ impl<'a> AskedOfFrames for Asked<'a> {
                     &cert,
                     &self.options,
                     frames,
-                    self.listing_by(&remarking),
+                    listing_by(self.listing, &remarking),
                     &mut standard_output(rt),
                 )
             }
@@ -382,7 +392,10 @@ fn tell_end(rt: &HostRuntime, end: &Result<Outcome, RunFault>) -> u8 {
 
 /// The name of a frame, or none where no frame is meant.
 fn name_of<'a>(frames: &'a [Named], frame: Option<usize>) -> &'a str {
-    match frame.and_then(|frame| frames.get(frame)) {
+    let Some(frame) = frame else {
+        return "";
+    };
+    match frames.get(frame) {
         Some(frame) => frame.name.as_str(),
         None => "",
     }
