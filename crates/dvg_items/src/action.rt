@@ -31,7 +31,7 @@ fn with_effect(here: &Cursor, effect: Effect, extent: LitExtent) -> Action
     ensures near_place { IsNearPlace (here.now.at + 1) result.place }
 {
     Action {
-        place: place_past(&effect, &here.known.place, here.at),
+        place: place_past(&effect, &here.known.place),
         extent,
     }
 }

@@ -6,8 +6,7 @@ ghost use Rattle.dvg_words.specs.Decoding.{InstrFits};
 ghost use Rattle.dvg_cert.specs.Entry.{IsKey, IsEnd, IsClaim};
 ghost use Rattle.dvg_cert.specs.declared.limits.TheConstants.{MOST_WORDS};
 ghost use Rattle.dvg_items.specs.Known.{callee_at, scale_set, draw_effect, stop_effect, effect_of, place_past, callee_words, depth_under, known_past, start};
-ghost use Rattle.dvg_words.specs.Beam.{shift};
-ghost use Rattle.dvg_items.specs.Bounds.{IsNear, IsNearPlace, IsNearEffect, IsFewWords, IsSoundCursor};
+ghost use Rattle.dvg_items.specs.Bounds.{IsNearPlace, IsNearEffect, IsFewWords, IsSoundCursor};
 
 use crate::item::{Item, Kind};
 use dvg_cert::{End, Entries, Entry, Key};
@@ -56,36 +55,22 @@ pub fn stop_effect(stop: End) -> Effect
     }
 }
 
-/// The point that a move leads to from a point. `at`, the item's word address, serves the contract alone: it bounds the point.
+/// The place past an effect.
 #[inline(always)]
-fn point_past(point: Point, by: &Point, at: u16) -> Point
-    requires at { at ≤ ADDRESS_END }
-    requires point { IsNear at point }
-    requires by { IsNear 1 by.now }
-    ensures value { result ≡ shift point by.now }
-    ensures near { IsNear (at + 1) result }
-{
-    shift(&point, by)
-}
-
-/// The place past an effect. `at`, the item's word address, serves the contract alone: it bounds the place before the item.
-#[inline(always)]
-pub fn place_past(effect: &Effect, place: &End, at: u16) -> End
-    requires at { at ≤ ADDRESS_END }
-    requires place { IsNearPlace at place.now }
+pub fn place_past(effect: &Effect, place: &End) -> End
+    requires place { IsNearPlace ADDRESS_END place.now }
     requires effect { IsNearEffect effect.now }
-    ensures value { result ≡ place_past effect.now place.now }
-    ensures near { IsNearPlace (at + 1) result }
+    ensures { result ≡ place_past effect.now place.now }
 {
     match (effect, place) {
         (Effect::Sets(p), _) => End::Abs { x: p.x, y: p.y },
         (Effect::Loses, _) | (_, End::Lost) => End::Lost,
         (Effect::Moves(d), End::Rel { x, y }) => {
-            let p = point_past(Point { x: *x, y: *y }, d, at);
+            let p = shift(&Point { x: *x, y: *y }, d);
             End::Rel { x: p.x, y: p.y }
         }
         (Effect::Moves(d), End::Abs { x, y }) => {
-            let p = point_past(Point { x: *x, y: *y }, d, at);
+            let p = shift(&Point { x: *x, y: *y }, d);
             End::Abs { x: p.x, y: p.y }
         }
     }

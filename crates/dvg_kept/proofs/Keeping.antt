@@ -20,7 +20,7 @@ use Rattle.dvg_items.proofs.Listed.{listed_at}
 use Rattle.dvg_cert.specs.Entry.{IsEntry}
 use Rattle.dvg_kept.specs.Kept.{Kept, IsKept}
 use Rattle.dvg_make.specs.Merged.{IsMerged}
-use Rattle.dvg_kept.proofs.Own.{KeepsAt}
+use Rattle.dvg_kept.proofs.OwnList.{KeepsAt}
 
 -- a made entry that is good by a list is so by each that has more
 module _ (w : Window) (rom : Rom) (a b : List Entry) (ext : Extends a b) (e : Entry) (made : MadeEntry rom a e) where
@@ -52,7 +52,7 @@ module _ (k : Kept) (kept : IsKept k) (made : List Entry) (also : IsKept (record
     where
       by : (o : Option Entry) → entry_at k.list addr key ≡ o → option_or o (entry_at made addr key) ≡ Some e
       by None none = h
-      by (Some f) some = ap Some (agree k.rom k.list made kept.each also.each addr key f e some h)
+      by (Some f) some = ap Some (agree k.rom k.list made kept.are.each also.are.each addr key f e some h)
 
   -- an entry of it is one of the first or of the second list
   record From (e : Entry) : Type 0 where
@@ -69,9 +69,9 @@ module _ (k : Kept) (kept : IsKept k) (made : List Entry) (also : IsKept (record
           ∙ found_listed merged e is.rising c in
           let l = listed_at made e.addr e.key e there in
           record {
-            made_is = made_grows k.rom made merged e second (also.each e l.listed);
+            made_is = made_grows k.rom made merged e second (also.are.each e l.listed);
             good_is =
-                good_grows k.window k.rom made merged second e (also.each e l.listed) (also.good e l.listed);
+                good_grows k.window k.rom made merged second e (also.are.each e l.listed) (also.good e l.listed);
           }
       by (Some f) some =
           let same : Some f ≡ Some e =
@@ -80,9 +80,9 @@ module _ (k : Kept) (kept : IsKept k) (made : List Entry) (also : IsKept (record
           let there : entry_at k.list e.addr e.key ≡ Some e = some ∙ same in
           let l = listed_at k.list e.addr e.key e there in
           record {
-            made_is = made_grows k.rom k.list merged e first (kept.each e l.listed);
+            made_is = made_grows k.rom k.list merged e first (kept.are.each e l.listed);
             good_is =
-                good_grows k.window k.rom k.list merged first e (kept.each e l.listed) (kept.good e l.listed);
+                good_grows k.window k.rom k.list merged first e (kept.are.each e l.listed) (kept.good e l.listed);
           }
 
   entry_is : (e : Entry) → Contains merged e → IsEntry k.rom.map.rom_first k.rom.map.rom_last e
@@ -93,28 +93,31 @@ module _ (k : Kept) (kept : IsKept k) (made : List Entry) (also : IsKept (record
           let there : entry_at made e.addr e.key ≡ Some e =
           sym (ap (λ o. option_or o (entry_at made e.addr e.key)) none) ∙ sym (is.found e.addr e.key)
           ∙ found_listed merged e is.rising c in
-          listed_entry k.rom.map.rom_first k.rom.map.rom_last made e also.certificate.each (listed_at made e.addr e.key e there).listed
+          listed_entry k.rom.map.rom_first k.rom.map.rom_last made e also.are.certificate.each (listed_at made e.addr e.key e there).listed
       by (Some f) some =
           let same : Some f ≡ Some e =
           sym (ap (λ o. option_or o (entry_at made e.addr e.key)) some) ∙ sym (is.found e.addr e.key)
           ∙ found_listed merged e is.rising c in
-          listed_entry k.rom.map.rom_first k.rom.map.rom_last k.list e kept.certificate.each
+          listed_entry k.rom.map.rom_first k.rom.map.rom_last k.list e kept.are.certificate.each
           (listed_at k.list e.addr e.key e (some ∙ same)).listed
 
   pub kept_again : IsKept (record { rom = k.rom; window = k.window; list = merged })
   kept_again =
       record {
         rom_is = kept.rom_is;
-        certificate =
+        are =
             record {
-              map_is = kept.certificate.map_is;
-              each =
-                  all_listed (IsEntry k.rom.map.rom_first k.rom.map.rom_last) merged entry_is;
-              rising =
-                  is.rising;
-              few = omega (arith, is.few, few);
+              certificate =
+                  record {
+                    map_is = kept.are.certificate.map_is;
+                    each =
+                        all_listed (IsEntry k.rom.map.rom_first k.rom.map.rom_last) merged entry_is;
+                    rising =
+                        is.rising;
+                    few = omega (arith, is.few, few);
+                  };
+              each = λ e c. (from e c).made_is;
             };
-        each = λ e c. (from e c).made_is;
         good = λ e c. (from e c).good_is;
       }
 
@@ -125,8 +128,7 @@ kept_made rom w words list rom_is made budget y v =
     let same : v.list ≡ list = one_frames_made rom [] (words ∷ []) v.list list v.made made in
     record {
       rom_is = rom_is;
-      certificate = made.certificate;
-      each = made.each;
+      are = record { certificate = made.certificate; each = made.each };
       good =
           subst (λ (l : List Entry). Good Exact w rom l) same v.verdict.0;
     }

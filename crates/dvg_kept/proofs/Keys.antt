@@ -1,12 +1,10 @@
--- The keys of kept entries.
-use Rattle.std.specs.Prelude.{◌≡◌, ℕ, Some, slice_get}
-use Rattle.dvg_cert.specs.Entry.{IsKey}
-use Rattle.dvg_make.proofs.Common.{arith, Entry}
-use Rattle.dvg_make.proofs.Onward.{listed_entry}
-use Rattle.dvg_kept.specs.Kept.{Kept, IsKept}
+-- The keys of entries at their positions.
+use Rattle.std.specs.Prelude.{◌≡◌, ℕ, List, Some, slice_get}
+use Rattle.dvg_cert.specs.Entry.{IsClaim, IsKey}
+use Rattle.dvg_items.specs.Bounds.{IsSomeCertificate}
+use Rattle.dvg_items.proofs.Listed.{listed_claim}
+use Rattle.dvg_make.proofs.Common.{Entry}
 use Rattle.dvg_kept.proofs.Picking.{contains_at}
 
-pub key_at : (k : Kept) → IsKept k → (q : ℕ) (e : Entry) → slice_get k.list q ≡ Some e → IsKey e.key
-key_at k kept q e h =
-    let is = listed_entry k.rom.map.rom_first k.rom.map.rom_last k.list e kept.certificate.each (contains_at k.list q e h) in
-    grind (arith, is)
+pub key_at : (list : List Entry) → IsSomeCertificate list → (q : ℕ) (e : Entry) → slice_get list q ≡ Some e → IsKey e.key
+key_at list some q e h = let claim : IsClaim e = listed_claim list e some (contains_at list q e h) in claim.key

@@ -1,5 +1,5 @@
 pub mod Picking
-pub mod Own
+pub mod OwnList
 pub mod Marking
 pub mod Calls
 pub mod Closing

@@ -1,6 +1,6 @@
 -- The entries of a list whose positions are marked.
-use Rattle.std.specs.Prelude.{◌≡◌, ℕ, zero, suc, ◌≤◌, List, [], ◌∷◌, length, Some, Bool, true, false, Contains, slice_get, refl}
-use Rattle.std.proofs.Common.{sym, ap}
+use Rattle.std.specs.Prelude.{◌≡◌, ℕ, zero, suc, ◌+◌, ◌<◌, ◌≤◌, List, [], ◌∷◌, ◌++◌, length, take, Some, None, Bool, true, false, Contains, get_or, slice_get, refl}
+use Rattle.std.proofs.Common.{sym, ap, subst}
 use Rattle.std.specs.List.{AllByRecursion}
 use Rattle.std.proofs.lemmas.Option.{slice_get_within, get_or_from_slice_get, slice_get_read}
 use Rattle.dvg_make.proofs.Common.{arith, IsRising, Before, Entry, before_later, rising_tail}
@@ -64,3 +64,41 @@ picked_few [] es = omega arith
 picked_few (b ∷ ms) [] = omega arith
 picked_few (true ∷ ms) (x ∷ es) = omega (arith, picked_few ms es)
 picked_few (false ∷ ms) (x ∷ es) = omega (arith, picked_few ms es)
+
+pub read_at : (ms : List Bool) (i : ℕ) (b d : Bool) → i < length ms → get_or ms i d ≡ b → slice_get ms i ≡ Some b
+read_at [] i b d lt h = absurd (omega (arith, lt))
+read_at (x ∷ ms) zero b d lt h = ap Some h
+read_at (x ∷ ms) (suc i) b d lt h = read_at ms i b d (omega (arith, lt)) h
+
+-- one more position: its entry is picked where it is marked
+more : (ms : List Bool) (es : List Entry) (i : ℕ) (e : Entry) → slice_get ms i ≡ Some true → slice_get es i ≡ Some e
+    → picked (take (suc i) ms) es ≡ picked (take i ms) es ++ e ∷ []
+more [] es i e m h = absurd (none_there i true m)
+more (b ∷ ms) [] i e m h = absurd (none_there i e h)
+more (true ∷ ms) (x ∷ es) zero e m h = cc
+more (false ∷ ms) (x ∷ es) zero e m h = absurd (cc m)
+more (true ∷ ms) (x ∷ es) (suc i) e m h = ap (λ (l : List Entry). x ∷ l) (more ms es i e m h)
+more (false ∷ ms) (x ∷ es) (suc i) e m h = more ms es i e m h
+
+-- and nothing more, where it is not, or no entry stands there
+same : (ms : List Bool) (es : List Entry) (i : ℕ) (b : Bool) → slice_get ms i ≡ Some b → (b ≡ true → slice_get es i ≡ None)
+    → picked (take (suc i) ms) es ≡ picked (take i ms) es
+same [] es i b m h = absurd (none_there i b m)
+same (true ∷ ms) [] zero b m h = refl
+same (false ∷ ms) [] zero b m h = refl
+same (true ∷ ms) [] (suc i) b m h = refl
+same (false ∷ ms) [] (suc i) b m h = refl
+same (true ∷ ms) (x ∷ es) zero b m h = absurd (cc (h (cc m)))
+same (false ∷ ms) (x ∷ es) zero b m h = refl
+same (true ∷ ms) (x ∷ es) (suc i) b m h = ap (λ (l : List Entry). x ∷ l) (same ms es i b m h)
+same (false ∷ ms) (x ∷ es) (suc i) b m h = same ms es i b m h
+
+pub picked_more : (ms : List Bool) (es : List Entry) (i : ℕ) (e : Entry) → slice_get ms i ≡ Some true → slice_get es i ≡ Some e
+    → picked (take (i + 1) ms) es ≡ picked (take i ms) es ++ e ∷ []
+picked_more ms es i e m h = let next : suc i ≡ i + 1 = omega arith in
+    subst (λ n. picked (take n ms) es ≡ picked (take i ms) es ++ e ∷ []) next (more ms es i e m h)
+
+pub picked_same : (ms : List Bool) (es : List Entry) (i : ℕ) (b : Bool) → slice_get ms i ≡ Some b → (b ≡ true → slice_get es i ≡ None)
+    → picked (take (i + 1) ms) es ≡ picked (take i ms) es
+picked_same ms es i b m h = let next : suc i ≡ i + 1 = omega arith in
+    subst (λ n. picked (take n ms) es ≡ picked (take i ms) es) next (same ms es i b m h)

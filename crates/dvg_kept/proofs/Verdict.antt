@@ -20,7 +20,7 @@ use Rattle.dvg_make.proofs.OwnCertificate.{judged_by}
 use Rattle.dvg_make.specs.Private.Judged.{IsJudged}
 use Rattle.dvg_kept.specs.Kept.{Kept}
 use Rattle.dvg_kept.specs.Private.Own.{HasOwn}
-use Rattle.dvg_kept.proofs.Own.{frame_same}
+use Rattle.dvg_kept.proofs.OwnList.{frame_same}
 
 callee_same : (a b : List Entry) → Extends a b → (o : Option ℕ) (scale : Key) → ((to : ℕ) → o ≡ Some to → HasEntry a to scale)
     → callee_at b o scale ≡ callee_at a o scale

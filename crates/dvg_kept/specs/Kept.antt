@@ -14,9 +14,13 @@ pub record Kept : Type 0 where
   pub window : Window
   pub list : List Entry
 
--- they are a certificate's, each of them is made, and their shapes are good
+-- entries over a ROM are a certificate's, and each of them is made
+pub record AreMade (rom : Rom) (list : List Entry) : Type 0 where
+  pub certificate : IsCertificate rom.map list
+  pub each : (e : Entry) → Contains list e → MadeEntry rom list e
+
+-- so are these, and their shapes are good
 pub record IsKept (k : Kept) : Type 0 where
   pub rom_is : IsRom k.rom
-  pub certificate : IsCertificate k.rom.map k.list
-  pub each : (e : Entry) → Contains k.list e → MadeEntry k.rom k.list e
+  pub are : AreMade k.rom k.list
   pub good : Good Exact k.window k.rom k.list

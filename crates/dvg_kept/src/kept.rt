@@ -7,22 +7,18 @@ ghost use Rattle.dvg_check.specs.Rules.{GoodFrame};
 ghost use Rattle.dvg_check.specs.declared.fault.Mode.TheVariants.{Exact};
 ghost use Rattle.dvg_make.specs.Judging.{AreLeast, FrameRefused, HasCallCause, VerdictByMade};
 ghost use Rattle.dvg_make.specs.Private.Judged.{IsJudged};
-ghost use Rattle.dvg_items.specs.Bounds.{IsSomeCertificate};
 ghost use Rattle.dvg_clocks.specs.Kept.{AreTold};
 ghost use Rattle.dvg_kept.specs.Kept.{IsKept};
 ghost use Rattle.dvg_kept.specs.declared.kept.Keeping.TheVariants.{Full};
-ghost use Rattle.dvg_kept.specs.Private.Leaves.{AreLeaves};
-ghost use Rattle.dvg_kept.specs.Private.Marks.{IsMarking};
 ghost use Rattle.dvg_kept.specs.Private.Own.{HasOwn};
 
 use crate::leaves::Leaves;
-use crate::marks::{MarkedEntries, Place};
-use dvg_cert::{Entry, Key, MOST_ENTRIES};
+use crate::own::own_marks;
+use dvg_cert::{Entry, MOST_ENTRIES};
 use dvg_check::{Accepted, JudgedShapes, Mode, Yes};
 use dvg_clocks::{ShapeClocks, States};
-use dvg_items::Kind;
 use dvg_make::{FrameRefusal, MadeEntries, explain_judging, merged, own_verdict};
-use dvg_words::{FrameImage, FrameOn, RomImage, Window};
+use dvg_words::{FrameImage, RomImage, Window};
 use std::alloc::{AllocError, Global};
 use std::marker::Model;
 use std::mem;
@@ -47,31 +43,6 @@ impl<'a> Model for KeptShapes<'a> {
 
     ghost invariant = { λ kept. IsKept (record { rom = kept.rom; window = kept.window; list = kept.entries })
         × AreLeaves kept.rom kept.leaves };
-}
-
-/// The marks of the entries that a frame's items call; `None` if one of them is not among these, or there is no memory.
-fn called_by_frame(
-    alloc: Global,
-    rom: &RomImage,
-    entries: &MadeEntries,
-    leaves: &Leaves,
-    frame: &FrameImage,
-) -> Option<MarkedEntries>
-    requires entries { IsSomeCertificate entries.now }
-    requires leaves { AreLeaves rom.now leaves.now }
-    ensures { IfSome result (IsMarking rom.now frame.now entries.now) }
-{
-    let Ok(mut marks) = MarkedEntries::none(alloc, entries.len()) else {
-        return None;
-    };
-    let first = Place {
-        kind: Kind::Frame,
-        at: 0,
-        scale: Key::Any,
-    };
-    let words = FrameOn::new(rom.machine(), frame);
-    marks.mark_calls(entries, leaves, &words, first)?;
-    Some(marks)
 }
 
 /// The words and the depth of a frame that is accepted over these entries; `None` if it isn't.
@@ -125,16 +96,7 @@ impl<'a> KeptShapes<'a> {
     fn own_entries(&self, alloc: Global, frame: &FrameImage) -> Option<usize>
         ensures { IfSome result (HasOwn self.now frame.now) }
     {
-        let mut marks = called_by_frame(alloc, &self.rom, &self.entries, &self.leaves, frame)?;
-        while let Some(position) = marks.take() {
-            let entry = self.entries.get(position)?;
-            let first = Place {
-                kind: Kind::Shape,
-                at: entry.addr,
-                scale: entry.key,
-            };
-            marks.mark_calls(&self.entries, &self.leaves, &self.rom, first)?;
-        }
+        let marks = own_marks(alloc, &self.rom, &self.entries, &self.leaves, frame)?;
         Some(marks.count())
     }
 

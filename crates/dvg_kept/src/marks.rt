@@ -3,7 +3,7 @@
 ghost use Rattle.std.specs.Prelude.{◌≡◌, ◌<◌, [], length, OnOk, IfOk, IfSome, IfNone};
 ghost use Rattle.dvg_cert.specs.Entry.{IsKey};
 ghost use Rattle.dvg_items.specs.Bounds.{IsSomeCertificate};
-ghost use Rattle.dvg_kept.specs.Private.Marks.{AllAskedMarked, Asks, IsCounted, IsCalledAt, IsNothing, Marks, MarksMore, MarksOne, Takes, context_of};
+ghost use Rattle.dvg_kept.specs.Private.Marks.{AllAskedMarked, Asks, IsCounted, IsCalledAt, IsNothing, Marks, MarksMore, MarksOne, Takes, context_of, picked};
 
 use crate::leaves::Leaves;
 use dvg_cert::{Entry, Key};
@@ -148,6 +148,21 @@ impl MarkedEntries {
         ensures empty { IfNone result (self.old.waiting ≡ []) }
     {
         self.waiting.pop()
+    }
+
+    /// The marked ones of these entries, in their order.
+    pub fn marked(&self, alloc: Global, entries: &MadeEntries) -> Result<Vec<Entry>, AllocError>
+        ensures { IfOk result (λ marked. marked.items ≡ picked self.now.marked entries.now) }
+    {
+        let mut marked = Vec::new(alloc);
+        for (position, &is_marked) in self.marked.iter().enumerate() {
+            if is_marked {
+                if let Some(entry) = entries.get(position) {
+                    marked.push(entry)?;
+                }
+            }
+        }
+        Ok(marked)
     }
 
     /// How many are marked.

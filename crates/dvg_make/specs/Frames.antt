@@ -11,6 +11,7 @@ use Rattle.dvg_items.specs.declared.item.Item.{Item}
 use Rattle.dvg_items.specs.declared.item.Kind.TheVariants.{Frame}
 use Rattle.dvg_items.specs.Known.{frame_context, target, scale_before}
 use Rattle.dvg_make.specs.Made.{HasEntry, AllHold, MadeFor}
+pub use Rattle.dvg_make.specs.declared.maker.MadeCert.{MadeCert}
 
 -- an item of the frame with these words calls this address, at the scale that is known there by the list (profile)
 pub record FrameAsksFor (machine : Machine) (words : List ℕ) (list : List Entry) (to : ℕ) (scale : Key) : Type 0 where
@@ -53,3 +54,9 @@ FramesMade rom roots frames list = MadeFor rom (IsAskedFor rom.machine roots fra
 -- the list is made for one frame and no roots (profile)
 abbrev pub FrameMade : Rom → List ℕ → List Entry → Type 0
 FrameMade rom words list = FramesMade rom [] (words ∷ []) list
+
+-- the certificate is made for these roots and frames, and its entries are found by address and key (profile)
+pub record IsMadeFor (rom : Rom) (roots : List (ℕ × Key)) (frames : List (List ℕ)) (made : MadeCert) : Type 0 where
+  pub list : FramesMade rom roots frames made.cert.entries
+  pub map : made.cert.map ≡ rom.map
+  pub entries : made.entries ≡ made.cert.entries

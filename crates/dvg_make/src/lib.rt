@@ -2,8 +2,8 @@
 //! least boxes.
 //!
 //! [`make_for_frames`] answers the one list that a ROM, roots and frames ask for, or a fault: where they have none, or where
-//! memory is out; [`make`] does so for roots alone, and [`EntryMaker`] makes one root's entry after another's. [`judge`] judges a
-//! frame by its own certificate.
+//! memory is out, and [`make_with_index`] the same with its entries by address and key; [`make`] does so for roots alone, and
+//! [`EntryMaker`] makes one root's entry after another's. [`judge`] judges a frame by its own certificate.
 #![tactic(auto)]
 
 mod account;
@@ -28,5 +28,5 @@ pub use entry_maker::EntryMaker;
 pub use fault::{EntryFault, FrameCall, FramesFault, MakeFault};
 pub use judging::{FrameRefusal, JudgedFrame, explain_judging, judge, own_verdict};
 pub use made_entries::MadeEntries;
-pub use maker::{make, make_for_frames};
+pub use maker::{MadeCert, make, make_for_frames, make_with_index};
 pub use merged_entries::merged;

@@ -5,11 +5,11 @@ ghost use Rattle.dvg_words.specs.Values.{IsMap};
 ghost use Rattle.dvg_words.specs.Memory.{InRom};
 ghost use Rattle.dvg_cert.specs.Entry.{IsKey};
 ghost use Rattle.dvg_make.specs.Made.{Made};
-ghost use Rattle.dvg_make.specs.Frames.{FramesMade};
+ghost use Rattle.dvg_make.specs.Frames.{FramesMade, IsMadeFor};
 ghost use Rattle.dvg_make.specs.Refusals.{Refuses, FramesRefuse};
 ghost use Rattle.dvg_make.specs.Accounts.{HasCause, HasRootCause};
 ghost use Rattle.dvg_make.specs.Private.Making.{IsRightFor, Collected, IsRefused};
-ghost use Rattle.dvg_make.specs.Private.Framing.{AllFramed, IsForSome, MakesFor, IsMadeFor};
+ghost use Rattle.dvg_make.specs.Private.Framing.{AllFramed, IsForSome, MakesFor};
 
 use crate::account::EntryCause;
 use crate::fault::{FramesFault, MakeFault};
@@ -135,6 +135,24 @@ pub fn make_indexed(
     }
 }
 
+/// Makes what [`make_for_frames`] makes, with its entries by address and key. The refusals are the same.
+#[tactic(auto, using(crate::proofs::Causes::stuck_cause))]
+pub fn make_with_index(
+    alloc: Global,
+    rom: &RomImage,
+    roots: &[(u16, Key)],
+    frames: &[FrameImage],
+) -> Result<MadeCert, FramesFault>
+    ensures ok { IfOk result (IsMadeFor rom.now roots.now frames.now) }
+    ensures err { IfErr result (FramesRefuse rom.now roots.now frames.now) }
+    ensures told { IfErr result (HasCause rom.now roots.now frames.now) }
+{
+    match make_indexed(alloc, rom, roots, frames) {
+        Ok(made) => Ok(made),
+        Err(blocked) => Err(blocked.fault()),
+    }
+}
+
 /// Makes the certificate of the shapes at these addresses and keys, of those that the frames call, each at the scale that is
 /// known before the call by this very certificate, and of all that these call or tail jump to: exact words and depths, the
 /// least boxes, and for each call an entry at the very scale that is known there (profile). Its map is the ROM's.
@@ -148,7 +166,6 @@ pub fn make_indexed(
 /// A root outside the ROM or with a scale over 15 is 60. 63 comes where there was no memory. What is lit at an absolute place may
 /// lie anywhere: no window is asked. Takes memory for the entries, for the shapes in the making, and for what is kept of long shapes
 /// that others share.
-#[tactic(auto, using(crate::proofs::Causes::stuck_cause))]
 pub fn make_for_frames(
     alloc: Global,
     rom: &RomImage,
@@ -160,9 +177,9 @@ pub fn make_for_frames(
     ensures err { IfErr result (FramesRefuse rom.now roots.now frames.now) }
     ensures told { IfErr result (HasCause rom.now roots.now frames.now) }
 {
-    match make_indexed(alloc, rom, roots, frames) {
+    match make_with_index(alloc, rom, roots, frames) {
         Ok(made) => Ok(made.cert),
-        Err(blocked) => Err(blocked.fault()),
+        Err(fault) => Err(fault),
     }
 }
 

@@ -4,14 +4,15 @@ ghost use Rattle.std.specs.Prelude.{◌≡◌, None, IfOk, IfErr, IfSome};
 ghost use Rattle.dvg_make.specs.Accounts.{HasCause};
 ghost use Rattle.dvg_make.specs.Refusals.{FramesRefuse};
 ghost use Rattle.dvg_make.specs.declared.fault.EntryFault.TheVariants.{Memory};
+ghost use Rattle.dvg_kept.specs.Kept.{AreMade};
 ghost use Rattle.dvg_survey.specs.Comparing.{FrameReaches, IsComparison};
 
 use crate::touched::{TouchedEntry, reaches_touched, touched_entries};
 use dvg_cert::Key;
-use dvg_make::{EntryFault, FramesFault, make_for_frames};
+use dvg_kept::frame_entries;
+use dvg_make::{EntryFault, FramesFault, MadeEntries, make_with_index};
 use dvg_words::{FrameImage, RomImage};
 use std::alloc::Global;
-use std::slice;
 
 /// What a change of a ROM touches, of what is made for roots and frames over the first ROM.
 #[derive(Drop)]
@@ -32,25 +33,28 @@ fn no_memory() -> FramesFault
     }
 }
 
-/// Whether the certificate that is made for a frame has an entry whose shape is touched; `None` if none is made.
+/// Whether the certificate that is made for a frame has an entry whose shape is touched, by entries that were made for it and for others;
+/// `None` if one of its entries is not among these, or there is no memory.
 fn frame_reaches(
     alloc: Global,
     rom: &RomImage,
     other: &RomImage,
+    entries: &MadeEntries,
     frame: &FrameImage,
 ) -> Option<bool>
+    requires { AreMade rom.now entries.now }
     ensures { IfSome result (FrameReaches rom.now other.now frame.now) }
 {
-    let cert = make_for_frames(alloc, rom, &[], slice::from_ref(frame)).ok()?;
-    Some(reaches_touched(rom, other, cert.entries()))
+    let own = frame_entries(alloc, rom, entries, frame)?;
+    Some(reaches_touched(rom, other, &own))
 }
 
 /// Compares two ROMs at the same addresses by what is made over the first one, for roots and for frames: tells which entries have
 /// shapes that read a word in which the ROMs differ, and which frames reach one.
 ///
-/// The refusals are those of [`make_for_frames`] over the first ROM. 63 comes also where there is no memory for the answer, or for
-/// the certificate of a frame alone. Takes memory for the certificate of all roots and frames, beside it for that of one frame at a
-/// time, and for the answer.
+/// The refusals are those of [`make_for_frames`](dvg_make::make_for_frames) over the first ROM. 63 comes also where there is no memory for
+/// the answer, or for the entries of a frame. Takes memory for the certificate of all roots and frames, beside it for the entries of one
+/// frame at a time, and for the answer.
 #[tactic(auto, using(crate::proofs::EachFrame::memory_told, crate::proofs::EachFrame::next_frame))]
 pub fn compare(
     alloc: Global,
@@ -63,13 +67,13 @@ pub fn compare(
     ensures err { IfErr result (FramesRefuse rom.now roots.now frames.now) }
     ensures told { IfErr result (HasCause rom.now roots.now frames.now) }
 {
-    let cert = make_for_frames(alloc, rom, roots, frames)?;
-    let Ok(entries) = touched_entries(alloc, rom, other, cert.entries()) else {
+    let made = make_with_index(alloc, rom, roots, frames)?;
+    let Ok(entries) = touched_entries(alloc, rom, other, made.cert.entries()) else {
         return Err(no_memory());
     };
     let mut reaching = Vec::new(alloc);
     for frame in frames {
-        let Some(reaches) = frame_reaches(alloc, rom, other, frame) else {
+        let Some(reaches) = frame_reaches(alloc, rom, other, &made.entries, frame) else {
             return Err(no_memory());
         };
         let Ok(()) = reaching.push(reaches) else {

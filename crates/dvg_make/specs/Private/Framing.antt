@@ -18,7 +18,6 @@ use Rattle.dvg_make.specs.Private.Partial.{Extends}
 use Rattle.dvg_make.specs.declared.partial.PartialEntry.{PartialEntry}
 use Rattle.dvg_make.specs.declared.obstacle.Obstacle.{Obstacle}
 use Rattle.dvg_make.specs.declared.obstacle.Blocked.{Blocked}
-use Rattle.dvg_make.specs.declared.maker.MadeCert.{MadeCert}
 use Rattle.dvg_make.specs.Private.Making.{HasAll, InProgress, IsCalled, Collected, obstacle_fault, TellsObstacle, IsNoRoot, IsBlocked}
 
 -- the list has an entry for each call of the frame with these words
@@ -127,9 +126,3 @@ abbrev pub MakesFor : MemoryMap → List Entry → List Entry → Type 0
 MakesFor map done list =
     (rom : Rom) (roots : List (ℕ × Key)) (frames : List (List ℕ)) → rom.map ≡ map → AllFramed rom roots frames done
     → FramesMade rom roots frames list
-
--- the certificate is made for these roots and frames, and the map has its entries
-pub record IsMadeFor (rom : Rom) (roots : List (ℕ × Key)) (frames : List (List ℕ)) (made : MadeCert) : Type 0 where
-  pub list : FramesMade rom roots frames made.cert.entries
-  pub map : made.cert.map ≡ rom.map
-  pub entries : made.entries ≡ made.cert.entries

@@ -5,7 +5,7 @@ use Rattle.dvg_words.specs.Values.{Window}
 use Rattle.dvg_cert.specs.declared.entry.End.{End}
 use Rattle.dvg_cert.specs.declared.entry.End.TheVariants.{Rel, Abs, Lost}
 use Rattle.dvg_make.specs.declared.maker.MadeCert.{MadeCert}
-use Rattle.dvg_make.specs.Private.Framing.{IsMadeFor}
+use Rattle.dvg_make.specs.Frames.{IsMadeFor}
 use Rattle.dvg_check.specs.Means.{Means}
 use Rattle.dvg_check.specs.declared.fault.Mode.TheVariants.{Exact}
 use Rattle.dvg_check.specs.declared.verdict.Yes.{Yes}

@@ -7,7 +7,7 @@ use Rattle.dvg_kept.proofs.Keeping.{kept_again}
 use Rattle.dvg_kept.proofs.kept.KeptShapes.keep.Goals as goal
 
 pub merged-requires : goal.merged-requires
-merged-requires c = λ e listed. listed_claim c.args.made.now e (c.args.self.now.rom.map, c.requires.certificate) listed
+merged-requires c = λ e listed. listed_claim c.args.made.now e (c.args.self.now.rom.map, c.requires.are.certificate) listed
 
 pub invariant_of-self : goal.invariant_of-self
 invariant_of-self c =

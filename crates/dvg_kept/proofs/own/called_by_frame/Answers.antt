@@ -2,7 +2,7 @@ use Rattle.dvg_words.specs.Memory.{frame_word}
 use Rattle.dvg_kept.specs.Private.Marks.{AllAskedMarked, Asks, IsNothing, MarksMore, context_of, frame_start}
 use Rattle.std.proofs.Common.{length}
 use Rattle.dvg_kept.proofs.Closing.{begins}
-use Rattle.dvg_kept.proofs.kept.called_by_frame.Goals as goal
+use Rattle.dvg_kept.proofs.own.called_by_frame.Goals as goal
 
 pub returns : goal.returns
 returns c =
