@@ -8,3 +8,4 @@ pub mod Listed
 pub mod Leading
 pub mod Lists
 pub mod Stepping
+pub mod Seeing

@@ -38,3 +38,13 @@ AtEveryPlace kind source first P = (earlier : List Item) (p : ℕ) → LeadsTo k
 abbrev pub AtEachOf : (List Item → ℕ → Type 0) → List Item → Type 0
 AtEachOf P [] = Unit {0}
 AtEachOf P (i ∷ earlier) = AtEachOf P earlier × P earlier i.at
+
+-- these items, the latest first, stand one after another from the first word address on (profile)
+abbrev pub Stand : Kind → Source → ℕ → List Item → Type 0
+Stand kind word first [] = Unit {0}
+Stand kind word first (i ∷ earlier) = LeadsTo kind word first earlier i.at × (cell_at word i.at ≡ Holds i.format i.instr)
+
+-- these are all items from there on: none stands after them (profile)
+pub record AreAll (kind : Kind) (word : Source) (first : ℕ) (items : List Item) : Type 0 where
+  pub stand : Stand kind word first items
+  pub last : (next : Item) → Stand kind word first (next ∷ items) → ⊥

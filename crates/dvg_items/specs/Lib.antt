@@ -6,6 +6,6 @@ pub mod Least
 pub mod Places
 pub mod Totals
 pub mod Cursor
-pub mod Iterating
 pub mod Bounds
+pub mod Iterating
 pub mod Laws

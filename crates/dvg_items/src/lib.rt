@@ -1,8 +1,9 @@
 //! Items: the instructions of a shape or of a frame, one after another, what is known before each, and what each lights.
 //!
 //! A [`Cursor`] has the word address of an item, and what is known there ([`Known`]). [`Cursor::see`] gives what the rules see
-//! of that item ([`Seen`]), and [`Seen::step`] leads past it. The crates that judge, make and explain shapes and frames walk
-//! over items in this way. [`Items`] gives the items alone, for whoever asks what stands there.
+//! of that item ([`Seen`]), and [`Seen::step`] leads past it. The crates that judge and make shapes and frames walk over items in
+//! this way. [`SeenItems`] gives what the rules see of one item after another, for whoever asks what they come to, and [`Items`]
+//! the items alone, for whoever asks what stands there.
 #![tactic(auto)]
 
 mod action;
@@ -14,6 +15,7 @@ mod known;
 pub mod laws;
 mod lit;
 mod seen;
+mod seen_items;
 
 pub use boxes::{box_corners, is_in_box, joined, spanning, widened};
 pub use cursor::{Cursor, Step};
@@ -25,3 +27,4 @@ pub use lit::{
     scale_known,
 };
 pub use seen::{Seen, has_callee};
+pub use seen_items::{SeenItems, WalkContext};
