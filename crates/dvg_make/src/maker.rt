@@ -53,25 +53,6 @@ impl Making {
         }
         Ok(())
     }
-
-    /// Makes the entries that frames call, and all that these need. The entries of `roots` are made already; only the contract
-    /// speaks of them.
-    fn make_calls(
-        &mut self,
-        rom: &RomImage,
-        roots: &[(u16, Key)],
-        frames: &[FrameImage],
-    ) -> Result<(), Blocked>
-        requires right { IsRightFor rom.now self.old }
-        requires roots { Collected rom.now roots.now self.old.done }
-        ensures ok { OnOk result (AllFramed rom.now roots.now frames.now self.new.done) }
-        ensures err { IfErr result (IsRefused rom.now roots.now frames.now) }
-    {
-        for (index, frame) in frames.iter().enumerate() {
-            self.make_frame(rom, index, frame)?;
-        }
-        Ok(())
-    }
 }
 
 /// Makes the entries of all roots, of all that frames call, and of all that these need.
@@ -88,7 +69,9 @@ fn make_all(
 {
     let mut making = Making::new(alloc);
     making.make_roots(rom, roots)?;
-    making.make_calls(rom, roots, frames)?;
+    for (index, frame) in frames.iter().enumerate() {
+        making.make_frame(rom, index, frame)?;
+    }
     Ok(making.done)
 }
 
