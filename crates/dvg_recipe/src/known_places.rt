@@ -154,24 +154,21 @@ fn named(maker: &mut EntryMaker<'_>, instr: &Instr, scale: Key) -> Result<Option
     }
 }
 
-/// What is known behind an item, from what is known before it. `index`, how many items stand before it, serves the contract alone: it
-/// bounds the numbers.
+/// What is known behind an item, from the cursor there. The cursor counts the items before it, and has no word address.
 pub fn known_past(
     maker: &mut EntryMaker<'_>,
     item: &Item,
-    index: u16,
-    known: Known,
+    here: &Cursor,
 ) -> Result<Known, AllocError>
-    requires near { index < ADDRESS_END }
-    requires sound { IsSoundCursor (record { at = index; known = known }) }
+    requires near { here.now.at < ADDRESS_END }
+    requires sound { IsSoundCursor here.now }
     requires fits { InstrFits item.now.instr }
     ensures rom { maker.new.rom ≡ maker.old.rom }
-    ensures sound { IfOk result (λ next. IsSoundCursor (record { at = index + 1; known = next })) }
-    ensures comes { IfOk result (λ next. (earlier : List Item) → ComesTo maker.old.rom earlier known → ComesTo maker.old.rom (item.now ∷ earlier) next) }
+    ensures sound { IfOk result (λ next. IsSoundCursor (record { at = here.now.at + 1; known = next })) }
+    ensures comes { IfOk result (λ next. (earlier : List Item) → ComesTo maker.old.rom earlier here.now.known → ComesTo maker.old.rom (item.now ∷ earlier) next) }
 {
-    let callee = named(maker, &item.instr, known.scale)?;
-    let cursor = Cursor { at: index, known };
-    let seen = cursor.see(Machine::Board, item.format, &item.instr, callee);
+    let callee = named(maker, &item.instr, here.known.scale)?;
+    let seen = here.see(Machine::Board, item.format, &item.instr, callee);
     Ok(seen.after)
 }
 
@@ -182,13 +179,15 @@ fn all_known(alloc: Global, rom: &RomImage, items: &[Item]) -> Result<Vec<Known>
 {
     let mut maker = EntryMaker::new(alloc, rom);
     let mut known = Vec::new(alloc);
-    let mut here = Known::start(Kind::Frame, Key::Any);
-    known.push(here)?;
-    let mut index = 0;
+    let mut here = Cursor::start(Kind::Frame, 0, Key::Any);
+    known.push(here.known)?;
     for item in items {
-        here = known_past(&mut maker, item, index, here)?;
-        known.push(here)?;
-        index += 1;
+        let past = known_past(&mut maker, item, &here)?;
+        known.push(past)?;
+        here = Cursor {
+            at: here.at + 1,
+            known: past,
+        };
     }
     Ok(known)
 }

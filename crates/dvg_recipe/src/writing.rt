@@ -12,7 +12,7 @@ use crate::sizes::draw_toward;
 use crate::takes::cell_of_words;
 use crate::trail::Written;
 use dvg_cert::Key;
-use dvg_items::{Item, Kind, Known};
+use dvg_items::{Cursor, Item, Kind, Known};
 use dvg_make::EntryMaker;
 use dvg_words::{Cell, Instr, RAM_WORDS, RomImage, is_long};
 use std::alloc::{AllocError, Global};
@@ -78,25 +78,24 @@ fn words_of(item: &Written, known: &Known) -> Words
     }
 }
 
-/// What is known behind an item of these words. `index`, how many items stand before it, serves the contract alone.
+/// What is known behind an item of these words, from the cursor there, which counts the items before it.
 fn known_behind(
     maker: &mut EntryMaker<'_>,
     words: &Words,
-    index: u16,
-    known: Known,
+    here: &Cursor,
 ) -> Result<Known, AllocError>
-    requires near { index < ADDRESS_END }
-    requires sound { IsSoundCursor (record { at = index; known = known }) }
-    ensures { IfOk result (λ next. IsSoundCursor (record { at = index + 1; known = next })) }
+    requires near { here.now.at < ADDRESS_END }
+    requires sound { IsSoundCursor here.now }
+    ensures { IfOk result (λ next. IsSoundCursor (record { at = here.now.at + 1; known = next })) }
 {
     match cell_of_words(words.first, words.second) {
         Cell::Holds { format, instr } => {
             let item = Item {
-                at: index,
+                at: here.at,
                 format,
                 instr,
             };
-            known_past(maker, &item, index, known)
+            known_past(maker, &item, here)
         }
         Cell::Missing | Cell::Odd => Ok(Known::start(Kind::Frame, Key::Any)),
     }
@@ -117,7 +116,7 @@ fn put_items(
         let words = words_of(item, &known);
         writing.put_item(&words)?;
         known = if usize::from(index) < to_know {
-            known_behind(maker, &words, index, known)?
+            known_behind(maker, &words, &Cursor { at: index, known })?
         } else {
             Known::start(Kind::Frame, Key::Any)
         };

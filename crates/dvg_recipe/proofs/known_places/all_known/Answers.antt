@@ -13,18 +13,18 @@ known_past-requires-clause-fits c =
 
 pub loop-item-preserved : goal.loop-item-preserved
 loop-item-preserved c =
-    let e = c.in_ok-here.ensures in
+    let e = c.in_ok-past.ensures in
     let inv = c.loop-item.invariant in
     let n = c.loop-item.item-index in
     let rom = c.args.rom.now in
-    let next = c.in_ok-here.here in (
+    let next = c.in_ok-past.past in (
       e.rom ∙ inv.0,
       omega (arith, inv.1),
       known_next rom c.args.items.now n (n + 1) c.item-item.result c.loop-item.known.items c.push-in-loop-item.new.self.items
-          c.loop-item.here next (omega arith) c.loop-item-test.true inv.2 c.in_ok-push-2.ensures.items
+          c.loop-item.here.known next (omega arith) c.loop-item-test.true inv.2 c.in_ok-push-2.ensures.items
           (λ earlier came. subst (λ (i : Item). ComesTo rom (i ∷ earlier) next) c.item-item.is
           (subst (λ (r : Rom). ComesTo r (c.item-item.result ∷ earlier) next) inv.0
-          (e.comes earlier (subst (λ (r : Rom). ComesTo r earlier c.loop-item.here) (sym inv.0) came))))
+          (e.comes earlier (subst (λ (r : Rom). ComesTo r earlier c.loop-item.here.known) (sym inv.0) came))))
           (subst (λ m. IsSoundCursor (record { at = m; known = next })) (omega (arith, inv.1)) e.sound),
     )
 
