@@ -1,6 +1,7 @@
 -- The items of a shape or of a frame are determined, so a walk to the last one has met them all.
 use Rattle.dvg_items.proofs.Common.{List, length, refl, sym, arith, None, subst, ◌≡◌, ◌<◌, ◌∷◌, ◌∙◌, ℕ, [], cell_at, Item, Kind, LeadsTo, next_address, AtEveryPlace, AtEachOf}
 use Rattle.dvg_words.specs.Values.{Source}
+use Rattle.dvg_items.specs.Items.{Stand}
 use Rattle.dvg_words.specs.declared.instruction.Cell.TheVariants.{Holds}
 
 pub record Same (a b : List Item) (p q : ℕ) : Type 0 where
@@ -11,6 +12,9 @@ pub item_same : (i j : Item) → i.at ≡ j.at → Holds i.format i.instr ≡ Ho
 item_same i j a e = grind (arith)
 
 module _ (kind : Kind) (word : Source) (first : ℕ) where
+  pub stand_before : (items : List Item) (p : ℕ) → LeadsTo kind word first items p → Stand kind word first items
+  stand_before items p h = grind (arith)
+
   -- as many items lead to one place
   pub same_lead : (a b : List Item) (p q : ℕ) → LeadsTo kind word first a p → LeadsTo kind word first b q → length a ≡ length b
       → Same a b p q

@@ -1,20 +1,36 @@
 -- What the iterator over what the rules see has given: it is what they see of the items that lead to where it stands.
-use Rattle.dvg_items.proofs.Common.{arith, length, List, [], ◌∷◌, ◌++◌, ◌≡◌, ◌∙◌, ℕ, Option, Some, None, ap, refl, sym, subst, cell_at, Item, LeadsTo, next_address, Seen}
+use Rattle.dvg_items.proofs.Common.{arith, length, List, [], ◌∷◌, ◌++◌, ◌≡◌, ◌∙◌, ℕ, Option, Some, None, ap, refl, sym, subst, cell_at, Item, LeadsTo, Seen}
 use Rattle.std.specs.Iterator.{Yields, Drains}
 use Rattle.std.proofs.Common.{length-append, append_assoc}
 use Rattle.std.proofs.lemmas.List.{append-nil, same_from_push}
 use Rattle.dvg_words.specs.Values.{Source}
 use Rattle.dvg_words.specs.declared.instruction.Cell.TheVariants.{Holds}
-use Rattle.dvg_items.specs.Items.{Stand, AreAll}
+use Rattle.dvg_items.specs.Items.{AreAll}
 use Rattle.dvg_items.specs.Known.{Context, known_before}
 use Rattle.dvg_items.specs.Seen.{seen_at}
 use Rattle.dvg_items.specs.Cursor.{Step, Onward, Last, step_past, first_cursor}
 use Rattle.dvg_items.specs.Iterating.{Standing, GivesSeen}
+use Rattle.dvg_items.proofs.Leading.{stand_before}
 
 -- what the rules see of these items, in their order
 abbrev pub sights : Context → List Item → List Seen
 sights c [] = []
 sights c (i ∷ earlier) = sights c earlier ++ seen_at c earlier i ∷ []
+
+module _ (c : Context) where
+  -- this holds of the items whose sights were given
+  abbrev pub Comes : (List Item → Type 0) → List Seen → Type 0
+  Comes P given = (items : List Item) → given ≡ sights c items → P items
+
+  pub comes_first : (P : List Item → Type 0) → P [] → Comes P []
+  comes_first P p [] is = p
+  comes_first P p (i ∷ items) is = absurd (omega (arith, ap length is, length-append (sights c items) (seen_at c items i ∷ [])))
+
+  pub comes_on : (P Q : List Item → Type 0) (given : List Seen) (v : Seen) → Comes P given
+      → ((items : List Item) (i : Item) → v ≡ seen_at c items i → P items → Q (i ∷ items)) → Comes Q (given ++ v ∷ [])
+  comes_on P Q given v h on [] is = absurd (omega (arith, ap length is, length-append given (v ∷ [])))
+  comes_on P Q given v h on (i ∷ items) is =
+      let same = same_from_push given (sights c items) v (seen_at c items i) is in on items i same.1 (h items same.0)
 
 module _ (c : Context) (word : Source) (first : ℕ) where
   -- the item that stands behind these, as the rules see it
@@ -33,7 +49,7 @@ module _ (c : Context) (word : Source) (first : ℕ) where
     pub by : s ≡ record { list = c.list; kind = c.kind; word = word; here = s.here }
     pub behind : IsBehind items s.here
 
-  pub starts : (s : Standing) → c.machine ≡ word.machine
+  starts : (s : Standing) → c.machine ≡ word.machine
       → s ≡ record { list = c.list; kind = c.kind; word = word; here = Onward (first_cursor c.kind first c.scale) } → Stands [] s
   starts s machine is = grind (arith)
 
@@ -43,23 +59,8 @@ module _ (c : Context) (word : Source) (first : ℕ) where
   one_on : (items : List Item) (s t : Standing) (v : Seen) → Stands items s → GivesSeen s (Some v) t → Stands (v.item ∷ items) t
   one_on items s t v st g = grind (arith, (is_next items s t v st g))
 
-  pub stand_before : (items : List Item) (p : ℕ) → LeadsTo c.kind word first items p → Stand c.kind word first items
-  stand_before items p h = grind (arith)
-
   ends : (items : List Item) (s t : Standing) → Stands items s → GivesSeen s None t → AreAll c.kind word first items
-  ends items s t st g = grind (arith, cell_at, stand_before)
-
-  -- ---- all that it has given
-
-  -- this holds of the items whose sights were given
-  abbrev pub Comes : (List Item → Type 0) → List Seen → Type 0
-  Comes P given = (items : List Item) → given ≡ sights c items → P items
-
-  pub comes_on : (P Q : List Item → Type 0) (given : List Seen) (v : Seen) → Comes P given
-      → ((items : List Item) (i : Item) → v ≡ seen_at c items i → P items → Q (i ∷ items)) → Comes Q (given ++ v ∷ [])
-  comes_on P Q given v h on [] is = absurd (omega (arith, ap length is, length-append given (v ∷ [])))
-  comes_on P Q given v h on (i ∷ items) is =
-      let same = same_from_push given (sights c items) v (seen_at c items i) is in on items i same.1 (h items same.0)
+  ends items s t st g = grind (arith, cell_at, (stand_before c.kind word first))
 
   -- these are the items whose sights were given
   record Given (given : List Seen) (s : Standing) : Type 0 where
@@ -80,14 +81,19 @@ module _ (c : Context) (word : Source) (first : ℕ) where
         subst (λ all. Given all (view t)) (append_assoc before (v ∷ []) given)
         (gives (v.item ∷ items) (before ++ v ∷ []) given u t (λ k. are k ++ next.seen k ∷ []) (one_on items (view s) (view u) v st step) y)
 
-    module _ (s : S) (st : Stands [] (view s)) (given : List Seen) (P : List Item → Type 0) (h : Comes P given) where
+    module _ (s : S) (machine : c.machine ≡ word.machine)
+        (is : view s ≡ record { list = c.list; kind = c.kind; word = word; here = Onward (first_cursor c.kind first c.scale) })
+        (given : List Seen) (P : List Item → Type 0) (h : Comes c P given) where
+      given_by : (t : S) → Yields Steps s given t → Given given (view t)
+      given_by t y = gives [] [] given s t refl (starts (view s) machine is) y
+
       -- what it gives next is what is seen of the item behind these
       pub next_is : (t u : S) (v : Seen) → Yields Steps s given t → Steps t (Some v) u → (items : List Item) × IsNext items v × P items
       next_is t u v y step =
-          let g = gives [] [] given s t refl st y in
+          let g = given_by t y in
           (g.items, is_next g.items (view t) (view u) v g.stands step, h g.items g.are)
 
       -- where it gives no more, these are all items
       pub all_given : Drains Steps s given → (items : List Item) × AreAll c.kind word first items × P items
       all_given (u, (t, y, step)) =
-          let g = gives [] [] given s t refl st y in (g.items, ends g.items (view t) (view u) g.stands step, h g.items g.are)
+          let g = given_by t y in (g.items, ends g.items (view t) (view u) g.stands step, h g.items g.are)

@@ -1,10 +1,7 @@
 -- All items from a place on are determined, and so are the calls among them.
-use Rattle.dvg_survey.proofs.Common.{Source, ◌≡◌, ℕ, ◌<◌, ◌≤◌, List, [], ◌∷◌, length, sym, subst, arith, ⊎_elim, cases_lt, cell_at, Item, LeadsTo, Stand, AreAll, Kind, item_same, same_lead}
+use Rattle.dvg_survey.proofs.Common.{Source, ◌≡◌, ℕ, ◌<◌, ◌≤◌, List, [], ◌∷◌, length, sym, subst, arith, ⊎_elim, cases_lt, cell_at, Item, LeadsTo, Stand, AreAll, Kind, item_same, same_lead, stand_before}
 
 module _ (kind : Kind) (word : Source) (first : ℕ) where
-  pub stand_before : (items : List Item) (p : ℕ) → LeadsTo kind word first items p → Stand kind word first items
-  stand_before items p h = grind (arith)
-
   -- as many items that stand are the same
   pub same_stand : (a b : List Item) → Stand kind word first a → Stand kind word first b → length a ≡ length b → a ≡ b
   same_stand a b h k e = grind (arith, same_lead, item_same, cell_at)
@@ -13,7 +10,7 @@ module _ (kind : Kind) (word : Source) (first : ℕ) where
   pub no_more : (a : List Item) → AreAll kind word first a → (b : List Item) → Stand kind word first b → length a < length b → ⊥
   no_more a all [] k lt = omega (arith, lt)
   no_more a all (j ∷ b) k lt =
-      grind (arith, (no_more a all b (stand_before b j.at k.0)), (all.last j), (same_stand a b all.stand (stand_before b j.at k.0)))
+      grind (arith, (no_more a all b (stand_before kind word first b j.at k.0)), (all.last j), (same_stand a b all.stand (stand_before kind word first b j.at k.0)))
 
   -- what all items keep, those up to any item that stands keep
   within : (P : List Item → Type 0) → ((i : Item) (rest : List Item) → P (i ∷ rest) → P rest) → (a b : List Item)
@@ -21,7 +18,7 @@ module _ (kind : Kind) (word : Source) (first : ℕ) where
   within P less [] b h k le p = subst P (sym (same_stand b [] k h (omega (arith, le)))) p
   within P less (i ∷ a) b h k le p =
       ⊎_elim
-      (λ lt. within P less a b (stand_before a i.at h.0) k (omega (arith, lt)) (less i a p))
+      (λ lt. within P less a b (stand_before kind word first a i.at h.0) k (omega (arith, lt)) (less i a p))
       (λ ge. subst P (sym (same_stand b (i ∷ a) k h (omega (arith, le, ge)))) p)
       (cases_lt (length b) (length (i ∷ a)))
 

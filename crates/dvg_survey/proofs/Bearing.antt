@@ -1,8 +1,8 @@
 -- Which call of a shape bears out its entry's depth, and calls that do one below another.
-use Rattle.dvg_survey.proofs.Common.{◌≡◌, ℕ, suc, ◌+◌, ◌-◌, ◌<◌, ◌≤◌, List, [], ◌∷◌, ◌++◌, Some, refl, sym, ap, ◌∙◌, subst, arith, AllByRecursion, Rom, rom_word, cell_at, Entry, Cursor, Item, Shape, Seen, IsClaim, IsCertificate, MemoryMap, Contains, Context, callee, scale_before, shape_context, target, listed_claim, all_append, Call, call_of, calls_among, IsShapeCall, IsSeenAt, append_assoc, append-nil, depth_under, named_listed, IsSoundStep, Step, step_past}
+use Rattle.dvg_survey.proofs.Common.{Holds, ◌≡◌, ℕ, suc, ◌+◌, ◌-◌, ◌<◌, ◌≤◌, List, [], ◌∷◌, ◌++◌, Some, refl, sym, ap, ◌∙◌, subst, arith, AllByRecursion, Rom, rom_word, cell_at, Entry, Item, Shape, Seen, IsClaim, IsCertificate, MemoryMap, Contains, Context, callee, scale_before, shape_context, target, listed_claim, all_append, Call, call_of, calls_among, IsShapeCall, IsNext, Comes, comes_on, append_assoc, append-nil, depth_under, named_listed}
 use Rattle.dvg_survey.specs.Deepest.{BearsNot, FirstBears, GoDeepest}
 use Rattle.dvg_survey.proofs.Coming.{is_among}
-use Rattle.dvg_survey.proofs.Walking.{Walked, HoldsOfAll, Past, past, seen_is, here_leads, here_stands}
+use Rattle.dvg_survey.proofs.Walking.{HoldsOfAll}
 
 -- ---- one shape
 
@@ -14,44 +14,30 @@ module _ (rom : Rom) (list : List Entry) (e : Entry) where
   abbrev pub NoneBears : List Item → Type 0
   NoneBears items = AllByRecursion (BearsNot rom list e) (calls_among here_in items)
 
-  module _ (here : Cursor) (w : Walked here_in (rom_word rom) e.addr NoneBears here) (v : Seen)
-      (s : IsSeenAt rom.machine list Shape (rom_word rom) here v) where
-    -- the call of the next item does
-    pub first_bears : 0 < e.depth → (call : Call) → call.at ≡ v.item.at → v.callee ≡ Some call.entry
-        → depth_under v.item.instr (Some call.entry) ≡ e.depth → FirstBears rom list e call
-    first_bears some call at named depth =
-        let seen = seen_is here_in (rom_word rom) e.addr NoneBears here w v s in
-        let calls : IsShapeCall rom list e call =
-        record {
-          earlier = w.items;
-          item = v.item;
-          leads = here_leads here_in (rom_word rom) e.addr NoneBears here w v s;
-          stands =
-              here_stands here_in (rom_word rom) e.addr NoneBears here w v s;
-          at =
-              at;
-          callee_is = sym (ap (λ (x : Seen). x.callee) seen) ∙ named;
-        } in
-        (record { calls = calls; some = some; depth = depth }, w.holds)
+  -- the call of the next item does
+  pub first_bears : (items : List Item) (v : Seen) → IsNext here_in (rom_word rom) e.addr items v → NoneBears items → 0 < e.depth
+      → (call : Call) → call.at ≡ v.item.at → v.callee ≡ Some call.entry → depth_under v.item.instr (Some call.entry) ≡ e.depth
+      → FirstBears rom list e call
+  first_bears items v n none some call at named depth =
+      let calls : IsShapeCall rom list e call =
+      record {
+        earlier = items;
+        item = v.item;
+        leads = n.leads;
+        stands = n.stands;
+        at = at;
+        callee_is = sym (ap (λ (x : Seen). x.callee) n.seen) ∙ named;
+      } in
+      (record { calls = calls; some = some; depth = depth }, none)
 
-    -- or it does not
-    none_on : ((f : Entry) → v.callee ≡ Some f → depth_under v.item.instr (Some f) ≡ e.depth → ⊥) → NoneBears (v.item ∷ w.items)
-    none_on not =
-        grind (
-          arith,
-          all_append,
-          calls_among,
-          call_of,
-          callee,
-          cell_at,
-          rom_word,
-          (seen_is here_in (rom_word rom) e.addr NoneBears here w v s),
-        )
-
-    pub none_past : (step : Step) → step ≡ step_past Shape v → IsSoundStep step
-        → ((f : Entry) → v.callee ≡ Some f → depth_under v.item.instr (Some f) ≡ e.depth → ⊥)
-        → Past here_in (rom_word rom) e.addr NoneBears step
-    none_past step goes sound not = past here_in (rom_word rom) e.addr NoneBears here w v s NoneBears step goes sound (none_on not)
+  -- or it does not
+  pub none_on : (given : List Seen) (v : Seen) → Comes here_in NoneBears given
+      → cell_at (rom_word rom) v.item.at ≡ Holds v.item.format v.item.instr
+      → ((f : Entry) → v.callee ≡ Some f → depth_under v.item.instr (Some f) ≡ e.depth → ⊥) → Comes here_in NoneBears (given ++ v ∷ [])
+  none_on given v none stands not =
+      comes_on here_in NoneBears NoneBears given v none
+      (λ items i is p. let same = ap (λ (x : Seen). x.item) is in let named = ap (λ (x : Seen). x.callee) is in
+      grind (arith, same, named, p, all_append, calls_among, call_of, callee, cell_at, rom_word))
 
   pub none_bears : HoldsOfAll here_in (rom_word rom) e.addr NoneBears → (call : Call) → BearsNot rom list e call
   none_bears (all, are, none) call b =

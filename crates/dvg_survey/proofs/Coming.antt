@@ -1,6 +1,6 @@
 -- What a frame comes to, link after link: each link is a step, and in the end no entry that the frame comes to is left out.
-use Rattle.dvg_survey.proofs.Common.{Source, ◌≡◌, ℕ, ◌<◌, List, [], ◌∷◌, ◌++◌, length, sym, subst, Option, None, Some, slice_get_within, arith, AllByRecursion, IfSome, Rom, Entry, entry_at, Item, Context, callee, all_append, listed_at, Call, Stand, AreCalls, call_of, calls_among, Link, IsStep, all_left, all_right, Calls}
-use Rattle.dvg_survey.proofs.AllItems.{stand_before, up_to}
+use Rattle.dvg_survey.proofs.Common.{Source, stand_before, ◌≡◌, ℕ, ◌<◌, List, [], ◌∷◌, ◌++◌, length, sym, subst, Option, None, Some, slice_get_within, arith, AllByRecursion, IfSome, Rom, Entry, entry_at, Item, Context, callee, all_append, listed_at, Call, Stand, AreCalls, call_of, calls_among, Link, IsStep, all_left, all_right, Calls}
+use Rattle.dvg_survey.proofs.AllItems.{up_to}
 use Rattle.dvg_survey.proofs.Linking.{at_still}
 
 -- ---- the calls of all items

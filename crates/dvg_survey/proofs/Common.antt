@@ -9,7 +9,7 @@ pub use Rattle.dvg_check.proofs.Common.{Source, ◌≡◌, ℕ, ◌<◌, List, [
 pub use Rattle.dvg_cert.proofs.Common.{is_some, slice_get, ◌||◌, is_at, IfNone, IsOnlyAt, HasNoneAt, IsRising, Contains-get_or, MemoryMap, cond, ◌↔◌}
 pub use Rattle.dvg_items.proofs.Common.{callee_at, AtEachOf}
 unfoldable pub use Rattle.dvg_check.proofs.Common.{cell_at}
-pub use Rattle.dvg_survey.specs.Calls.{Stand, AreAll, IsExtent, HoldsShape, HoldsShapes, Call, call_of, calls_among, AreCalls}
+pub use Rattle.dvg_survey.specs.Calls.{IsExtent, HoldsShape, HoldsShapes, Call, call_of, calls_among, AreCalls}
 pub use Rattle.dvg_survey.specs.Private.Reaching.{Link, AllSteps, IsBackward, IsStep, reach, reach_all, entries_of, IsReachedByFrame, IsReachedByShape, AreNames, name_of, IsTrace}
 pub use Rattle.dvg_survey.specs.Private.KeyedWords.{KeyedWord, AreNone, HasWord, word_number, is_marked, with_word}
 pub use Rattle.dvg_items.specs.Least.{HoldsAll, absolute_points, IsLeast, lit_points}
@@ -18,7 +18,7 @@ pub use Rattle.dvg_survey.specs.Private.Sweeping.{is_broken, IsUnbroken, IsClean
 pub use Rattle.dvg_survey.specs.Places.{CallPlaces, HasPlace, IsCallAt, whole_place, EntryPlaces, ArePlaces, AreAllPlaces, IsNotEmpty, ShapeKeepsWindow}
 pub use Rattle.dvg_items.specs.Lit.{absolute_corners, relative_corners, corners}
 pub use Rattle.dvg_survey.specs.Private.Visiting.{keyed, CallsFrom, IsMet, AllMet, AreNewCalls}
-pub use Rattle.dvg_survey.specs.Private.Walking.{IsSeenAt, context_of}
+pub use Rattle.dvg_survey.specs.Private.Walking.{context_of}
 pub use Rattle.dvg_survey.specs.Losses.{NoneLead, place_loss, place_lost_by, scale_loss, scale_lost_by}
 pub use Rattle.dvg_survey.specs.Survey.{FrameSurvey, IsSurveyAmong}
 pub use Rattle.dvg_items.proofs.LeastBoxes.{IsJoined, in_wider}
@@ -46,3 +46,6 @@ pub use Rattle.dvg_words.specs.declared.instruction.Format.TheVariants.{Short, L
 pub use Rattle.dvg_words.specs.declared.instruction.Cell.{Cell}
 pub use Rattle.dvg_check.specs.declared.fault.Mode.TheVariants.{Exact}
 pub use Rattle.dvg_items.specs.Known.{start}
+pub use Rattle.dvg_items.proofs.Seeing.{IsNext, Comes, comes_first, comes_on, next_is, all_given}
+pub use Rattle.dvg_items.proofs.Leading.{stand_before}
+pub use Rattle.dvg_items.specs.Items.{Stand, AreAll}

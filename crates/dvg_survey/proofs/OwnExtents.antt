@@ -1,5 +1,5 @@
 -- What the shapes of a list light at absolute places: where one leads to another, the other lights the same from there on.
-use Rattle.dvg_survey.proofs.Common.{◌≡◌, ℕ, ◌+◌, ◌<◌, ◌≤◌, List, [], ◌∷◌, ◌++◌, length, get_or, ◌∙◌, refl, sym, ap, subst, arith, inl, inr, ⊎_elim, cases_lt, Contains, Option, Some, None, IfSome, IsNearPlace, Rom, rom_word, cell_at, Holds, Machine, Entry, Key, End, Rel, Abs, Lost, LitBox, Empty, LitExtent, Shape, Item, AreAll, Stand, LeadsTo, Context, Known, shape_context, target, callee_at, scale_set, unwrap_or, known_before, place_before, HoldsAll, absolute_corners, absolute_points, IsLeast, get_or_default, IsInside, InBox, Point, all_append, all_right, all_map, in_wider, IsJoined, HoldsShape, HoldsShapes, same_lead, ADDRESS_END, IsSomeCertificate, listed_claim, append_assoc, pos, suc, zero, next_further, next_near, next_address, ITEM_REACH, IsSoundCursor, ℤ, ◌+ℤ◌, Cursor, first_cursor, Seen, seen_with}
+use Rattle.dvg_survey.proofs.Common.{stand_before, ◌≡◌, ℕ, ◌+◌, ◌<◌, ◌≤◌, List, [], ◌∷◌, ◌++◌, length, get_or, ◌∙◌, refl, sym, ap, subst, arith, inl, inr, ⊎_elim, cases_lt, Contains, Option, Some, None, IfSome, IsNearPlace, Rom, rom_word, cell_at, Holds, Machine, Entry, Key, End, Rel, Abs, Lost, LitBox, Empty, LitExtent, Shape, Item, AreAll, Stand, LeadsTo, Context, Known, shape_context, target, callee_at, scale_set, unwrap_or, known_before, place_before, HoldsAll, absolute_corners, absolute_points, IsLeast, get_or_default, IsInside, InBox, Point, all_append, all_right, all_map, in_wider, IsJoined, HoldsShape, HoldsShapes, same_lead, ADDRESS_END, IsSomeCertificate, listed_claim, append_assoc, pos, suc, zero, next_further, next_near, next_address, ITEM_REACH, IsSoundCursor, ℤ, ◌+ℤ◌, Cursor, first_cursor, Seen, seen_with}
 use Rattle.dvg_items.specs.declared.known.Effect.{Effect}
 use Rattle.dvg_items.specs.declared.known.Effect.TheVariants.{Sets, Loses, Moves}
 use Rattle.dvg_words.specs.Decoding.{InstrFits}
@@ -8,7 +8,7 @@ use Rattle.dvg_items.proofs.Reached.{place_more}
 use Rattle.dvg_items.specs.Lit.{extent_of}
 use Rattle.dvg_survey.specs.Calls.{IsShapesExtent}
 use Rattle.dvg_survey.specs.Private.Extents.{ArePlacesAlike, GoesOn, IsAlike, IsNotAbsolute, IsOwnExtent, IsPassed, IsPlaceSet, IsSoundKnown}
-use Rattle.dvg_survey.proofs.AllItems.{stand_before, one_all}
+use Rattle.dvg_survey.proofs.AllItems.{one_all}
 
 -- what one box has, a wider one has
 wider : (a b : LitBox) (ps : List Point) → IsInside a b → HoldsAll a ps → HoldsAll b ps

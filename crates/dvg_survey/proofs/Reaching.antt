@@ -1,9 +1,8 @@
 -- Which item of a shape reaches as far as its entry's box, and the stroke that is found from one shape to the next.
-use Rattle.dvg_survey.proofs.Common.{◌≡◌, ◌↔◌, Bool, false, ℕ, suc, ◌+◌, ◌-◌, ◌<◌, ◌≤◌, List, [], ◌∷◌, ◌++◌, Option, Some, None, inl, inr, refl, sym, ap, ◌∙◌, subst, arith, Rom, rom_word, Entry, Cursor, Item, Shape, Seen, Point, IsClaim, IsCertificate, MemoryMap, Contains, Context, shape_context, target, scale_before, listed_claim, named_listed, IsSeenAt, IsSoundStep, Step, step_past, lit_points, relative_corners, IfSome, IfNone, LitBox}
+use Rattle.dvg_survey.proofs.Common.{◌≡◌, ◌↔◌, Bool, false, ℕ, suc, ◌+◌, ◌-◌, ◌<◌, ◌≤◌, List, [], ◌∷◌, ◌++◌, Option, Some, None, inl, inr, refl, sym, ap, ◌∙◌, subst, arith, Rom, rom_word, Entry, Item, Shape, Seen, Point, IsClaim, IsCertificate, MemoryMap, Contains, Context, shape_context, target, scale_before, listed_claim, named_listed, Comes, comes_on, lit_points, relative_corners, IfSome, IfNone, LitBox}
 use Rattle.std.specs.Prelude.{IsTrue}
 use Rattle.dvg_check.specs.declared.leaving.Edge.{Edge}
 use Rattle.dvg_survey.specs.Furthest.{Reaches, FirstReaches, NoneReaches, IsLitDraw, FindsStroke}
-use Rattle.dvg_survey.proofs.Walking.{Walked, Past, past, seen_is}
 
 -- of points in two lists, where none is on the side
 none_append : (edge : Edge) (box : LitBox) (ps qs : List Point) → (Reaches edge box ps → ⊥) → (Reaches edge box qs → ⊥)
@@ -26,17 +25,11 @@ module _ (rom : Rom) (list : List Entry) (edge : Edge) (e : Entry) where
   abbrev pub NotSoFar : List Item → Type 0
   NotSoFar items = Reaches edge e.lit (lit_points here_in items) → ⊥
 
-  module _ (here : Cursor) (w : Walked here_in (rom_word rom) e.addr NotSoFar here) (v : Seen)
-      (s : IsSeenAt rom.machine list Shape (rom_word rom) here v) where
-    none_on : (Reaches edge e.lit (relative_corners v.extent v.place) → ⊥) → NotSoFar (v.item ∷ w.items)
-    none_on not = none_append edge e.lit _ _
-        (subst (λ (x : Seen). Reaches edge e.lit (relative_corners x.extent x.place) → ⊥)
-        (seen_is here_in (rom_word rom) e.addr NotSoFar here w v s) not)
-        w.holds
-
-    pub none_past : (step : Step) → step ≡ step_past Shape v → IsSoundStep step
-        → (Reaches edge e.lit (relative_corners v.extent v.place) → ⊥) → Past here_in (rom_word rom) e.addr NotSoFar step
-    none_past step goes sound not = past here_in (rom_word rom) e.addr NotSoFar here w v s NotSoFar step goes sound (none_on not)
+  pub none_on : (given : List Seen) (v : Seen) → Comes here_in NotSoFar given → (Reaches edge e.lit (relative_corners v.extent v.place) → ⊥)
+      → Comes here_in NotSoFar (given ++ v ∷ [])
+  none_on given v none not =
+      comes_on here_in NotSoFar NotSoFar given v none
+      (λ items i is p. none_append edge e.lit _ _ (subst (λ (x : Seen). Reaches edge e.lit (relative_corners x.extent x.place) → ⊥) is not) p)
 
 -- an item that lights something and calls nothing is a lit draw
 pub draws_lit : (rom : Rom) (list : List Entry) (edge : Edge) (e : Entry) (v : Seen) → FirstReaches rom list edge e v → v.callee ≡ None

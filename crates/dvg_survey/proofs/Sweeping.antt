@@ -1,5 +1,5 @@
 -- The entries from which calls lead to a shape that lights outside the window, found sweep by sweep.
-use Rattle.dvg_survey.proofs.Common.{get_or-set_other, Format, Instr, ◌≡◌, ℕ, ◌+◌, ◌<◌, Bool, true, false, List, [], ◌∷◌, ◌++◌, length, get_or, take, Option, Some, None, refl, sym, ap, ◌∙◌, subst, arith, ◌⊎◌, inl, inr, ⊎_elim, Contains, IfSome, Rom, rom_word, cell_at, Holds, Entry, entry_at, Item, Shape, Cursor, Context, shape_context, callee, scale_before, target, seen_at, IsSomeCertificate, listed_claim, Seen, Call, LeadsOn, KeyedWord, with_word, AreNone, IsSeenAt, get_or_default, Contains-append_left, Contains-push, Contains-push_cases, IfNone, IsPermutation, Window, IsOnlyAt, HasNoneAt, IsRising, place_before, extent, LitInWindow, named_listed, EntryPlaces, ArePlaces, AreAllPlaces, IsNotEmpty, ShapeKeepsWindow, IsSoundStep, Step, length-append, step_past, is_broken, IsUnbroken, IsCleanItem, IsClean, IsFaulty, Breaks, AllBreak, IsSwept, TellsBroken}
+use Rattle.dvg_survey.proofs.Common.{get_or-set_other, Format, Instr, ◌≡◌, ℕ, ◌+◌, ◌<◌, Bool, true, false, List, [], ◌∷◌, ◌++◌, length, get_or, take, Option, Some, None, refl, sym, ap, ◌∙◌, subst, arith, ◌⊎◌, inl, inr, ⊎_elim, Contains, IfSome, Rom, rom_word, cell_at, Holds, Entry, entry_at, Item, Shape, Context, shape_context, callee, scale_before, target, seen_at, IsSomeCertificate, listed_claim, Seen, Call, LeadsOn, KeyedWord, with_word, AreNone, Comes, comes_on, get_or_default, Contains-append_left, Contains-push, Contains-push_cases, IfNone, IsPermutation, Window, IsOnlyAt, HasNoneAt, IsRising, place_before, extent, LitInWindow, named_listed, EntryPlaces, ArePlaces, AreAllPlaces, IsNotEmpty, ShapeKeepsWindow, length-append, is_broken, IsUnbroken, IsCleanItem, IsClean, IsFaulty, Breaks, AllBreak, IsSwept, TellsBroken}
 use Rattle.std.proofs.lemmas.List.{take_more}
 use Rattle.std.proofs.Math.ListN.{get_or-eq_default}
 use Rattle.std.proofs.lemmas.Grind.{get_or-set_at}
@@ -7,7 +7,7 @@ use Rattle.std.proofs.lemmas.List.Sorted.{Contains-permutation, IsPermutation-sy
 use Rattle.dvg_cert.proofs.OnlyEntries.{found}
 use Rattle.dvg_survey.proofs.AllItems.{up_to}
 use Rattle.dvg_survey.proofs.Marks.{here_or_other, others_among}
-use Rattle.dvg_survey.proofs.Walking.{Walked, HoldsOfAll, Past, past, seen_is}
+use Rattle.dvg_survey.proofs.Walking.{HoldsOfAll}
 
 -- ---- the items of one shape
 
@@ -24,13 +24,10 @@ module _ (w : Window) (rom : Rom) (list : List Entry) (marks : List Bool) (e : E
   all_clean (all, are, h) earlier i leads stands =
       (up_to Shape (rom_word rom) e.addr (CleanItems w marks c) (λ j rest p. p.0) all are h (i ∷ earlier) (leads, stands)).1
 
-  pub clean_past : (here : Cursor) → Walked c (rom_word rom) e.addr (CleanItems w marks c) here → (v : Seen)
-      → IsSeenAt rom.machine list Shape (rom_word rom) here v → (step : Step) → step ≡ step_past Shape v → IsSoundStep step
-      → IsCleanItem w marks v
-      → Past c (rom_word rom) e.addr (CleanItems w marks c) step
-  clean_past here k v s step goes sound clean =
-      past c (rom_word rom) e.addr (CleanItems w marks c) here k v s (CleanItems w marks c) step goes sound
-      (k.holds, subst (IsCleanItem w marks) (seen_is c (rom_word rom) e.addr (CleanItems w marks c) here k v s) clean)
+  pub clean_on : (given : List Seen) (v : Seen) → Comes c (CleanItems w marks c) given → IsCleanItem w marks v
+      → Comes c (CleanItems w marks c) (given ++ v ∷ [])
+  clean_on given v h clean =
+      comes_on c (CleanItems w marks c) (CleanItems w marks c) given v h (λ items i is p. (p, subst (IsCleanItem w marks) is clean))
 
   -- ---- what an entry that is not clean breaks
 

@@ -2,28 +2,16 @@
 use Rattle.dvg_words.specs.Values.{Source}
 use Rattle.std.specs.Prelude.{◌≡◌, ℕ, List, [], ◌∷◌, ◌++◌, Option, None, Some, Contains}
 use Rattle.dvg_words.specs.Memory.{Rom, rom_word}
-use Rattle.dvg_words.specs.Decoding.{cell_at}
-use Rattle.dvg_words.specs.declared.instruction.Cell.TheVariants.{Holds}
 use Rattle.dvg_cert.specs.declared.entry.Entry.{Entry}
 use Rattle.dvg_cert.specs.declared.entry.LitBox.{LitBox}
 use Rattle.dvg_items.specs.declared.item.Item.{Item}
 use Rattle.dvg_items.specs.declared.item.Kind.{Kind}
 use Rattle.dvg_items.specs.declared.item.Kind.TheVariants.{Shape}
-use Rattle.dvg_items.specs.Items.{LeadsTo}
+pub use Rattle.dvg_items.specs.Items.{Stand, AreAll}
 use Rattle.dvg_items.specs.Known.{Context, callee, shape_context}
 use Rattle.dvg_items.specs.Least.{HoldsAll, IsLeast, absolute_points}
 use Rattle.dvg_items.specs.Lit.{IsInside}
 pub use Rattle.dvg_survey.specs.declared.calls.Call.{Call}
-
--- these items, the latest first, stand one after another from the first word address on (profile)
-abbrev pub Stand : Kind → Source → ℕ → List Item → Type 0
-Stand kind word first [] = Unit {0}
-Stand kind word first (i ∷ earlier) = LeadsTo kind word first earlier i.at × (cell_at word i.at ≡ Holds i.format i.instr)
-
--- these are all items from there on: none stands after them (profile)
-pub record AreAll (kind : Kind) (word : Source) (first : ℕ) (items : List Item) : Type 0 where
-  pub stand : Stand kind word first items
-  pub last : (next : Item) → Stand kind word first (next ∷ items) → ⊥
 
 -- the call of an item that calls this entry (profile)
 abbrev pub call_of : Item → Option Entry → List Call

@@ -9,9 +9,8 @@ ghost use Rattle.dvg_survey.specs.Calls.{Call};
 ghost use Rattle.dvg_survey.specs.Deepest.{BearsNot, FirstBears, GoDeepest};
 
 use crate::calls::Call;
-use crate::items::see;
 use dvg_cert::{Cert, Entries, Entry};
-use dvg_items::{Cursor, Kind, Seen, Step, depth_under};
+use dvg_items::{Seen, SeenItems, WalkContext, depth_under};
 use dvg_words::RomImage;
 use std::alloc::{AllocError, Global};
 
@@ -46,7 +45,6 @@ pub fn deepest_calls<E: Entries>(
 }
 
 /// The first call of an entry's shape that bears out the depth that the entry claims.
-#[tactic(auto, using(crate::proofs::Walking::begins))]
 fn first_bearing<E: Entries>(rom: &RomImage, entries: &E, entry: &Entry) -> Option<Call>
     requires entry { IsClaim entry.now }
     ensures some { IfSome result (FirstBears rom.now (E.list entries.now) entry.now) }
@@ -55,14 +53,9 @@ fn first_bearing<E: Entries>(rom: &RomImage, entries: &E, entry: &Entry) -> Opti
     if entry.depth == 0 {
         return None;
     }
-    let mut cursor = Cursor::start(Kind::Shape, entry.addr, entry.key);
-    while let Some(seen) = see(rom, entries, Kind::Shape, &cursor) {
+    for seen in SeenItems::new(rom, entries, &WalkContext::shape(entry)) {
         if let Some(call) = call_under(&seen, entry.depth) {
             return Some(call);
-        }
-        match seen.step(Kind::Shape) {
-            Step::Onward(next) => cursor = next,
-            Step::Last(_) => return None,
         }
     }
     None

@@ -10,9 +10,9 @@ ghost use Rattle.dvg_survey.specs.Survey.{IsSurvey, IsSurveyAmong};
 ghost use Rattle.dvg_survey.specs.Private.Surveying.{IsSurveyPast};
 
 use crate::calls::Call;
-use crate::items::{lit_with, push_call, see};
+use crate::items::{lit_with, push_call};
 use dvg_cert::{Cert, Entries, Key, LitBox};
-use dvg_items::{Cursor, Kind, Seen, Step, lit_in_window};
+use dvg_items::{Seen, SeenItems, WalkContext, lit_in_window};
 use dvg_words::{FrameImage, FrameOn, Instr, Machine, SCREEN};
 use std::alloc::{AllocError, Global};
 
@@ -102,13 +102,10 @@ pub fn survey_items<E: Entries>(
     ensures { IfOk result (IsSurvey (frame_context frame.now.machine (E.list entries.now)) (frame_word frame.now.machine frame.now.frame)) }
 {
     let mut survey = FrameSurvey::empty(alloc);
-    let mut cursor = Cursor::start(Kind::Frame, 0, Key::Any);
-    while let Some(seen) = see(frame, entries, Kind::Frame, &cursor) {
-        survey.add(&seen, cursor.known.scale)?;
-        match seen.step(Kind::Frame) {
-            Step::Onward(next) => cursor = next,
-            Step::Last(_) => return Ok(survey),
-        }
+    let mut scale = Key::Any;
+    for seen in SeenItems::new(frame, entries, &WalkContext::frame()) {
+        survey.add(&seen, scale)?;
+        scale = seen.after.scale;
     }
     Ok(survey)
 }

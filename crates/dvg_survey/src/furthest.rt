@@ -6,10 +6,9 @@ ghost use Rattle.dvg_items.specs.Bounds.{IsSoundSeen};
 ghost use Rattle.dvg_items.specs.Lit.{relative_corners};
 ghost use Rattle.dvg_survey.specs.Furthest.{IsOnSide, Reaches, FirstReaches, NoneReaches, FindsStroke};
 
-use crate::items::see;
 use dvg_cert::{Cert, Entries, Entry, LitBox};
 use dvg_check::Edge;
-use dvg_items::{Cursor, Item, Kind, Seen, Step, relative_corners};
+use dvg_items::{Item, Seen, SeenItems, WalkContext, relative_corners};
 use dvg_words::{Point, RomImage};
 
 /// Whether a point lies on the side of a box towards an edge.
@@ -37,7 +36,6 @@ fn reaches(edge: Edge, lit: &LitBox, seen: &Seen) -> bool
 }
 
 /// The first item of an entry's shape that lights something on the side of the entry's box towards an edge.
-#[tactic(auto, using(crate::proofs::Walking::begins))]
 fn first_reaching<E: Entries>(
     rom: &RomImage,
     entries: &E,
@@ -48,14 +46,9 @@ fn first_reaching<E: Entries>(
     ensures some { IfSome result (FirstReaches rom.now (E.list entries.now) edge entry.now) }
     ensures none { IfNone result (NoneReaches rom.now (E.list entries.now) edge entry.now) }
 {
-    let mut cursor = Cursor::start(Kind::Shape, entry.addr, entry.key);
-    while let Some(seen) = see(rom, entries, Kind::Shape, &cursor) {
+    for seen in SeenItems::new(rom, entries, &WalkContext::shape(entry)) {
         if reaches(edge, &entry.lit, &seen) {
             return Some(seen);
-        }
-        match seen.step(Kind::Shape) {
-            Step::Onward(next) => cursor = next,
-            Step::Last(_) => return None,
         }
     }
     None

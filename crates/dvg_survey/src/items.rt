@@ -1,75 +1,20 @@
-//! All items of a frame or of a shape, one after another.
+//! What one item of a frame or of a shape adds, and the calls of a shape that were not visited before.
 
-ghost use Rattle.std.specs.Prelude.{◌≡◌, ◌<◌, ◌++◌, List, OnOk, IfOk, IfSome, IfNone};
-ghost use Rattle.dvg_words.specs.Decoding.{cell_at};
+ghost use Rattle.std.specs.Prelude.{◌≡◌, ◌++◌, List, OnOk, IfOk};
 ghost use Rattle.dvg_words.specs.declared.beam.Point.{Point};
-ghost use Rattle.dvg_words.specs.declared.instruction.Cell.TheVariants.{Holds};
-ghost use Rattle.dvg_words.specs.declared.instruction.Format.{Format};
-ghost use Rattle.dvg_words.specs.declared.instruction.Instr.{Instr};
-ghost use Rattle.dvg_words.specs.declared.map.TheConstants.{ADDRESS_END};
 ghost use Rattle.dvg_cert.specs.Entry.{IsKey};
-ghost use Rattle.dvg_cert.specs.declared.entry.Key.TheVariants.{Any};
-ghost use Rattle.dvg_items.specs.Bounds.{IsSoundCursor, IsSoundSeen};
+ghost use Rattle.dvg_items.specs.Bounds.{IsSoundSeen};
 ghost use Rattle.dvg_items.specs.Least.{IsLeast};
 ghost use Rattle.dvg_items.specs.Lit.{absolute_corners};
-ghost use Rattle.dvg_items.specs.declared.item.Kind.TheVariants.{Frame, Shape};
-ghost use Rattle.dvg_survey.specs.Calls.{IsExtent, call_of};
+ghost use Rattle.dvg_survey.specs.Calls.{call_of};
 ghost use Rattle.dvg_survey.specs.Private.Visiting.{AreNewCalls};
-ghost use Rattle.dvg_survey.specs.Private.Walking.{IsSeenAt, context_of};
 
 use crate::calls::Call;
 use crate::keyed_words::KeyedWords;
-use dvg_cert::{Entries, Entry, Key, LitBox};
-use dvg_items::{
-    Cursor, Item, Kind, Seen, Step, absolute_corners, callee, scale_past, target, widened,
-};
-use dvg_words::{Cell, Fetch, RomImage, read_cell};
+use dvg_cert::{Entries, Entry, LitBox};
+use dvg_items::{Item, Kind, Seen, absolute_corners, callee, scale_past, target, widened};
+use dvg_words::{Cell, RomImage, read_cell};
 use std::alloc::{AllocError, Global};
-
-/// What a walk over items goes by: whose items they are, the word address of the first one, and the known scale there.
-#[derive(Clone, Copy)]
-pub struct WalkContext {
-    pub kind: Kind,
-    pub first: u16,
-    pub scale: Key,
-}
-
-impl WalkContext {
-    /// A walk over a frame.
-    pub fn frame() -> WalkContext
-        ensures { result ≡ record { kind = Frame; first = 0; scale = Any } }
-    {
-        WalkContext {
-            kind: Kind::Frame,
-            first: 0,
-            scale: Key::Any,
-        }
-    }
-
-    /// A walk over an entry's shape.
-    pub fn shape(entry: &Entry) -> WalkContext
-        ensures { result ≡ record { kind = Shape; first = entry.now.addr; scale = entry.now.key } }
-    {
-        WalkContext {
-            kind: Kind::Shape,
-            first: entry.addr,
-            scale: entry.key,
-        }
-    }
-}
-
-/// What the rules see of the item at a cursor; `None` where no item stands there.
-pub fn see<F: Fetch, E: Entries>(memory: &F, entries: &E, kind: Kind, here: &Cursor) -> Option<Seen>
-    requires here { IsSoundCursor here.now }
-    ensures some { IfSome result (IsSeenAt (F.words memory.now).machine (E.list entries.now) kind (F.words memory.now) here.now) }
-    ensures sound { IfSome result IsSoundSeen }
-    ensures none { IfNone result ((format : Format) (instr : Instr) → cell_at (F.words memory.now) here.now.at ≡ Holds format instr → ⊥) }
-{
-    let Cell::Holds { format, instr } = read_cell(memory, here.at) else {
-        return None;
-    };
-    Some(here.see_by(memory.machine(), entries, kind, format, instr))
-}
 
 /// Adds the call of an item, if it names an entry.
 pub fn push_call(

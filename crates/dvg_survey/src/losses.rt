@@ -9,9 +9,8 @@ ghost use Rattle.dvg_items.specs.declared.item.Kind.TheVariants.{Frame, Shape};
 ghost use Rattle.dvg_survey.specs.Losses.{AreLosses, NoneLead, place_loss, scale_loss};
 ghost use Rattle.dvg_survey.specs.Private.Walking.{context_of};
 
-use crate::items::{WalkContext, see};
 use dvg_cert::{Cert, End, Entries, Entry, Key};
-use dvg_items::{Cursor, Item, Known, Seen, Step};
+use dvg_items::{Item, Seen, SeenItems, WalkContext};
 use dvg_words::{Fetch, FrameImage, FrameOn, Machine, RomImage};
 
 /// The item by which the known place was lost, and the item by which the known scale was lost, if nothing has set it since. `None`
@@ -53,20 +52,19 @@ impl Losses {
         scale: None,
     };
 
-    /// The losses past an item. `self` are the losses before it, and `before` is what is known there.
-    fn past(self, before: &Known, seen: &Seen) -> Losses
-        ensures place { result.place ≡ place_loss seen.now.item before.now.place seen.now.after.place self.place }
-        ensures scale { result.scale ≡ scale_loss seen.now.item before.now.scale seen.now.after.scale self.scale }
+    /// The losses past an item. `self` are the losses before it, and `scale` is the known scale there.
+    fn past(self, scale: Key, seen: &Seen) -> Losses
+        ensures place { result.place ≡ place_loss seen.now.item seen.now.place seen.now.after.place self.place }
+        ensures scale { result.scale ≡ scale_loss seen.now.item scale seen.now.after.scale self.scale }
     {
         Losses {
-            place: place_loss(&seen.item, &before.place, &seen.after.place, self.place),
-            scale: scale_loss(&seen.item, before.scale, seen.after.scale, self.scale),
+            place: place_loss(&seen.item, &seen.place, &seen.after.place, self.place),
+            scale: scale_loss(&seen.item, scale, seen.after.scale, self.scale),
         }
     }
 }
 
 /// The losses before a word address of a walk; `None` where the items don't lead to it.
-#[tactic(auto, using(crate::proofs::Walking::begins, crate::proofs::Walking::all_here, crate::proofs::Walking::none_past))]
 fn losses_before<F: Fetch, E: Entries>(
     memory: &F,
     entries: &E,
@@ -78,19 +76,19 @@ fn losses_before<F: Fetch, E: Entries>(
     ensures some { IfSome result (AreLosses (context_of (F.words memory.now).machine (E.list entries.now) walk.now) (F.words memory.now) walk.now.first at) }
     ensures none { IfNone result (NoneLead walk.now.kind (F.words memory.now) walk.now.first at) }
 {
-    let mut losses = Losses::NONE;
-    let mut cursor = Cursor::start(walk.kind, walk.first, walk.scale);
-    'items: while cursor.at != at {
-        let Some(seen) = see(memory, entries, walk.kind, &cursor) else {
-            return None;
-        };
-        losses = losses.past(&cursor.known, &seen);
-        match seen.step(walk.kind) {
-            Step::Onward(next) => cursor = next,
-            Step::Last(_) => return None,
-        }
+    if walk.first == at {
+        return Some(Losses::NONE);
     }
-    Some(losses)
+    let mut losses = Losses::NONE;
+    let mut scale = walk.scale;
+    for seen in SeenItems::new(memory, entries, walk) {
+        losses = losses.past(scale, &seen);
+        if seen.item.next_address(walk.kind) == Some(at) {
+            return Some(losses);
+        }
+        scale = seen.after.scale;
+    }
+    None
 }
 
 /// The items of a frame by which the known place and the known scale were lost before a word of the frame, by the claims of a

@@ -18,10 +18,9 @@ ghost use Rattle.dvg_cert.specs.declared.entry.Entry.{Entry as EntryValue};
 ghost use Rattle.dvg_survey.specs.Places.{HasPlace, IsNotEmpty, whole_place, IsCallAt, ArePlaces, AreAllPlaces};
 ghost use Rattle.dvg_survey.specs.Private.Sweeping.{IsCleanItem, IsClean, IsFaulty, IsSwept, AllBreak, TellsBroken};
 
-use crate::items::see;
 use crate::keyed_words::KeyedWords;
 use dvg_cert::{Cert, Entries, Entry, LitBox};
-use dvg_items::{Cursor, Kind, Seen, Step, box_corners, lit_in_window};
+use dvg_items::{Kind, Seen, SeenItems, WalkContext, box_corners, lit_in_window};
 use dvg_words::{RomImage, Window};
 use std::alloc::{AllocError, Global};
 
@@ -125,7 +124,6 @@ fn is_clean_item(window: &Window, seen: &Seen, broken: &KeyedWords) -> bool
 }
 
 /// Whether each item of an entry's shape is clean.
-#[tactic(auto, using(crate::proofs::Walking::begins))]
 fn is_clean<E: Entries>(
     window: &Window,
     rom: &RomImage,
@@ -137,14 +135,9 @@ fn is_clean<E: Entries>(
     ensures clean { IsTrue result → IsClean window.now rom.now (E.list entries.now) broken.now entry.now }
     ensures faulty { IsFalse result → IsFaulty window.now rom.now (E.list entries.now) broken.now entry.now }
 {
-    let mut cursor = Cursor::start(Kind::Shape, entry.addr, entry.key);
-    while let Some(seen) = see(rom, entries, Kind::Shape, &cursor) {
+    for seen in SeenItems::new(rom, entries, &WalkContext::shape(entry)) {
         if !is_clean_item(window, &seen, broken) {
             return false;
-        }
-        match seen.step(Kind::Shape) {
-            Step::Onward(next) => cursor = next,
-            Step::Last(_) => return true,
         }
     }
     true

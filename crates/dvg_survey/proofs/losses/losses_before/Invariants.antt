@@ -1,11 +1,9 @@
-use Rattle.dvg_survey.proofs.Common.{◌-◌, ◌+◌, ADDRESS_END, context_of}
-use Rattle.dvg_survey.proofs.Walking.{Walked, Loses}
+use Rattle.dvg_survey.proofs.Common.{context_of, Comes}
+use Rattle.dvg_survey.proofs.Walking.{Loses}
 use Rattle.dvg_survey.proofs.losses.losses_before.Given as goal
 
-abbrev pub invariant-items : goal.invariant-items
-invariant-items g l =
-    let word = g.F.Fetch.words l.memory in let c =
-    context_of word.machine (g.E.Entries.list l.entries) l.walk in Walked c word l.walk.first (Loses c l.at l.losses) l.cursor
-
-abbrev pub decreases-items : goal.decreases-items
-decreases-items g l = ADDRESS_END + 2 - l.cursor.at
+abbrev pub invariant-loop-seen : goal.invariant-loop-seen
+invariant-loop-seen g l =
+    let c = context_of (g.F.Fetch.words l.fn.memory).machine (g.E.Entries.list l.fn.entries) l.walk in
+    (goal.iterator-loop-seen g).can_next l.seen-iterator × (goal.iterator-loop-seen g).is_finite l.seen-iterator
+    × Comes c (Loses c l.at l.losses l.scale) l.yielded
