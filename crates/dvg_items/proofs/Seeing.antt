@@ -1,5 +1,5 @@
 -- What the iterator over what the rules see has given: it is what they see of the items that lead to where it stands.
-use Rattle.dvg_items.proofs.Common.{arith, length, List, [], ◌∷◌, ◌++◌, ◌≡◌, ◌∙◌, ℕ, Option, Some, None, ap, refl, sym, subst, cell_at, Item, LeadsTo, Seen}
+use Rattle.dvg_items.proofs.Common.{arith, length, List, [], ◌∷◌, ◌++◌, ◌≡◌, ◌∙◌, ℕ, Option, Some, None, ap, refl, subst, cell_at, Item, LeadsTo, Seen}
 use Rattle.std.specs.Iterator.{Yields, Drains}
 use Rattle.std.proofs.Common.{length-append, append_assoc}
 use Rattle.std.proofs.lemmas.List.{append-nil, same_from_push}
@@ -8,7 +8,7 @@ use Rattle.dvg_words.specs.declared.instruction.Cell.TheVariants.{Holds}
 use Rattle.dvg_items.specs.Items.{AreAll}
 use Rattle.dvg_items.specs.Known.{Context, known_before}
 use Rattle.dvg_items.specs.Seen.{seen_at}
-use Rattle.dvg_items.specs.Cursor.{Step, Onward, Last, step_past, first_cursor}
+use Rattle.dvg_items.specs.Cursor.{Step, Onward, Last, first_cursor}
 use Rattle.dvg_items.specs.Iterating.{Standing, GivesSeen}
 use Rattle.dvg_items.proofs.Leading.{stand_before}
 

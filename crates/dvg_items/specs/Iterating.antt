@@ -46,7 +46,8 @@ address (Last known) = None
 -- what the rules see of an item at a cursor; none behind the last one
 abbrev pub IsSeenHere : Standing → Step → Seen → Type 0
 IsSeenHere s (Onward cursor) v =
-    (cursor.at ≡ v.item.at) × (v ≡ seen_with s.word.machine (callee_at s.list (target s.kind v.item.instr) cursor.known.scale) cursor.known v.item)
+    (cursor.at ≡ v.item.at)
+    × (v ≡ seen_with s.word.machine (callee_at s.list (target s.kind v.item.instr) cursor.known.scale) cursor.known v.item)
 IsSeenHere s (Last known) v = ⊥
 
 -- what the rules see of the item that stands here, and then where it leads; where no item stands there is none, and the place stays

@@ -10,7 +10,12 @@ module _ (kind : Kind) (word : Source) (first : ℕ) where
   pub no_more : (a : List Item) → AreAll kind word first a → (b : List Item) → Stand kind word first b → length a < length b → ⊥
   no_more a all [] k lt = omega (arith, lt)
   no_more a all (j ∷ b) k lt =
-      grind (arith, (no_more a all b (stand_before kind word first b j.at k.0)), (all.last j), (same_stand a b all.stand (stand_before kind word first b j.at k.0)))
+      grind (
+        arith,
+        (no_more a all b (stand_before kind word first b j.at k.0)),
+        (all.last j),
+        (same_stand a b all.stand (stand_before kind word first b j.at k.0)),
+      )
 
   -- what all items keep, those up to any item that stands keep
   within : (P : List Item → Type 0) → ((i : Item) (rest : List Item) → P (i ∷ rest) → P rest) → (a b : List Item)

@@ -25,7 +25,8 @@ module _ (rom : Rom) (list : List Entry) (edge : Edge) (e : Entry) where
   abbrev pub NotSoFar : List Item → Type 0
   NotSoFar items = Reaches edge e.lit (lit_points here_in items) → ⊥
 
-  pub none_on : (given : List Seen) (v : Seen) → Comes here_in NotSoFar given → (Reaches edge e.lit (relative_corners v.extent v.place) → ⊥)
+  pub none_on : (given : List Seen) (v : Seen) → Comes here_in NotSoFar given
+      → (Reaches edge e.lit (relative_corners v.extent v.place) → ⊥)
       → Comes here_in NotSoFar (given ++ v ∷ [])
   none_on given v none not =
       comes_on here_in NotSoFar NotSoFar given v none

@@ -7,15 +7,21 @@ use Rattle.dvg_survey.proofs.deepest.first_bearing.Goals as goal
 pub loop-seen-init : goal.loop-seen-init
 loop-seen-init g c =
     let same : c.into_iter-seen-iterator.result ≡ c.new-seen-items.result = cc in (
-      subst (λ s. IsSoundStep s.here) (sym same) (c.new-seen-items.ensures.sound (omega (arith, ap (λ w. w.first) c.shape.ensures, c.requires.entry.addr))
+      subst (λ s. IsSoundStep s.here) (sym same)
+          (c.new-seen-items.ensures.sound (omega (arith, ap (λ w. w.first) c.shape.ensures, c.requires.entry.addr))
           (subst IsKey (sym (ap (λ w. w.scale) c.shape.ensures)) c.requires.entry.key)),
       tt,
       search (rules, comes_first),
     )
 
-here : (g : _) (c : In-Some g) → (items : List Item) × IsNext (shape_context c.args.rom.now.machine (g.E.Entries.list c.args.entries.now) c.args.entry.now) (rom_word c.args.rom.now) c.args.entry.now.addr items c.in-Some.seen × NoneBears c.args.rom.now (g.E.Entries.list c.args.entries.now) c.args.entry.now items
-here g c = next_is (shape_context c.args.rom.now.machine (g.E.Entries.list c.args.entries.now) c.args.entry.now) (rom_word c.args.rom.now)
-    c.args.entry.now.addr _ _ refl (search rules) _ _ c.loop-seen.invariant.2 _ c.next.new.self c.in-Some.seen c.loop-seen.yielded_by c.in-Some.ensures.steps
+here : (g : _) (c : In-Some g) → (items : List Item)
+    × IsNext (shape_context c.args.rom.now.machine (g.E.Entries.list c.args.entries.now) c.args.entry.now) (rom_word c.args.rom.now)
+    c.args.entry.now.addr items c.in-Some.seen
+    × NoneBears c.args.rom.now (g.E.Entries.list c.args.entries.now) c.args.entry.now items
+here g c =
+    next_is (shape_context c.args.rom.now.machine (g.E.Entries.list c.args.entries.now) c.args.entry.now) (rom_word c.args.rom.now)
+    c.args.entry.now.addr _ _ refl (search rules) _ _ c.loop-seen.invariant.2 _ c.next.new.self c.in-Some.seen c.loop-seen.yielded_by
+    c.in-Some.ensures.steps
 
 pub returns-in-Some-call_under-clause-some : goal.returns-in-Some-call_under-clause-some
 returns-in-Some-call_under-clause-some g c =

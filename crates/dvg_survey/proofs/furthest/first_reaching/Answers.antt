@@ -5,7 +5,8 @@ use Rattle.dvg_survey.proofs.furthest.first_reaching.Goals as goal
 pub loop-seen-init : goal.loop-seen-init
 loop-seen-init g c =
     let same : c.into_iter-seen-iterator.result ≡ c.new-seen-items.result = cc in (
-      subst (λ s. IsSoundStep s.here) (sym same) (c.new-seen-items.ensures.sound (omega (arith, ap (λ w. w.first) c.shape.ensures, c.requires.entry.addr))
+      subst (λ s. IsSoundStep s.here) (sym same)
+          (c.new-seen-items.ensures.sound (omega (arith, ap (λ w. w.first) c.shape.ensures, c.requires.entry.addr))
           (subst IsKey (sym (ap (λ w. w.scale) c.shape.ensures)) c.requires.entry.key)),
       tt,
       comes_first (shape_context c.args.rom.now.machine (g.E.Entries.list c.args.entries.now) c.args.entry.now)
@@ -17,7 +18,14 @@ returns-then-reaches-clause-some g c =
     let n = next_is (shape_context c.args.rom.now.machine (g.E.Entries.list c.args.entries.now) c.args.entry.now) (rom_word c.args.rom.now)
     c.args.entry.now.addr _ _ refl (search rules) _ _ c.loop-seen.invariant.2 _ c.next.new.self c.in-Some.seen c.loop-seen.yielded_by
     c.in-Some.ensures.steps in
-    record { earlier = n.0; leads = n.1.leads; stands = n.1.stands; seen = n.1.seen; reaches = c.reaches.ensures.0 c.if-reaches.true; first = n.2 }
+    record {
+      earlier = n.0;
+      leads = n.1.leads;
+      stands = n.1.stands;
+      seen = n.1.seen;
+      reaches = c.reaches.ensures.0 c.if-reaches.true;
+      first = n.2;
+    }
 
 pub loop-seen-preserved : goal.loop-seen-preserved
 loop-seen-preserved g c =

@@ -5,7 +5,8 @@ use Rattle.dvg_survey.proofs.places.is_clean.Goals as goal
 pub loop-seen-init : goal.loop-seen-init
 loop-seen-init g c =
     let same : c.into_iter-seen-iterator.result ≡ c.new-seen-items.result = cc in (
-      subst (λ s. IsSoundStep s.here) (sym same) (c.new-seen-items.ensures.sound (omega (arith, ap (λ w. w.first) c.shape.ensures, c.requires.entry.addr))
+      subst (λ s. IsSoundStep s.here) (sym same)
+          (c.new-seen-items.ensures.sound (omega (arith, ap (λ w. w.first) c.shape.ensures, c.requires.entry.addr))
           (subst IsKey (sym (ap (λ w. w.scale) c.shape.ensures)) c.requires.entry.key)),
       tt,
       search (rules, comes_first),
