@@ -5,8 +5,8 @@ ghost use Rattle.dvg_words.specs.declared.map.TheConstants.{ADDRESS_END};
 ghost use Rattle.dvg_survey.specs.Touched.{DiffersAt, taken_at, ReadsDiffering, IsTouched, AreTouched, ReachesTouched};
 
 use dvg_cert::Entry;
-use dvg_items::{Item, Kind};
-use dvg_words::{Cell, RomImage, is_long, read_cell};
+use dvg_items::{Items, Kind};
+use dvg_words::{RomImage, is_long};
 use std::alloc::{AllocError, Global};
 
 /// An entry whose shape reads a word in which the ROMs differ, and the address of one.
@@ -47,15 +47,11 @@ pub fn first_differing(rom: &RomImage, other: &RomImage, addr: u16) -> Option<u1
     ensures none { IfNone result (IsTouched rom.now other.now addr → ⊥) }
 {
     let mut at = addr;
-    while let Cell::Holds { format, instr } = read_cell(rom, at) {
-        if let Some(word) = differing_at(rom, other, at) {
+    for item in Items::from(rom, Kind::Shape, addr) {
+        if let Some(word) = differing_at(rom, other, item.at) {
             return Some(word);
         }
-        let item = Item { at, format, instr };
-        match item.next_address(Kind::Shape) {
-            Some(next) => at = next,
-            None => return None,
-        }
+        at = item.next_address(Kind::Shape)?;
     }
     differing_at(rom, other, at)
 }
