@@ -19,8 +19,7 @@ use Rattle.dvg_survey.specs.declared.margins.Margins.{Margins}
 use Rattle.dvg_survey.specs.Margins.{AreMargins, limits_box}
 use Rattle.dvg_make.specs.Judging.{VerdictByMade}
 use Rattle.dvg_make.specs.declared.judging.FrameRefusal.{FrameRefusal}
-use Rattle.dvg_account.specs.Machines.{machine_lines, IsZone}
-use Rattle.dvg_account.specs.Told.{Told, told, line, one}
+use Rattle.dvg_account.specs.Told.{Told, told, line, one, machine_lines, IsZone}
 use Rattle.dvg_account.specs.declared.piece.Piece.TheVariants as piece
 use Rattle.dvg_account.specs.declared.accepted.Survey.{Survey}
 use Rattle.dvg_account.specs.declared.inputs.Inputs.{Inputs}
@@ -64,18 +63,17 @@ abbrev pub IsClipped : Window → List ℕ → List Told → Type 0
 IsClipped w past_screen [] = w ≡ clipped → ⊥
 IsClipped w past_screen lines = (w ≡ clipped) × (lines ≡ clipped_line past_screen)
 
--- the board's answer to bytes of a ROM at this map and of a frame, by the frame's own certificate there; none for bytes that
--- can't be judged
-abbrev pub IsBoardAt : Option MemoryMap → Inputs → Option (Result Yes FrameRefusal) → Type 0
-IsBoardAt None inputs answer = answer ≡ None
-IsBoardAt (Some map) inputs None = InRange inputs.frame.now inputs.budget → IsRomLength map (length inputs.rom.now) → ⊥
-IsBoardAt (Some map) inputs (Some answer) =
-    VerdictByMade (rom_on Board map inputs.rom.now) (words_of inputs.frame.now) inputs.window inputs.budget answer
+-- a machine's answer to these bytes of a ROM at this map and of a frame, by the frame's own certificate; none for bytes that can't be
+-- judged
+abbrev pub IsOwnAnswer : Machine → Inputs → MemoryMap → List ℕ → List ℕ → Option (Result Yes FrameRefusal) → Type 0
+IsOwnAnswer machine inputs map rom frame None = InRange frame inputs.budget → IsRomLength map (length rom) → ⊥
+IsOwnAnswer machine inputs map rom frame (Some answer) = InRange frame inputs.budget × IsRomLength map (length rom)
+    × VerdictByMade (rom_on machine map rom) (words_of frame) inputs.window inputs.budget answer
 
--- an answer about the profile is told with the board's
-abbrev pub IsBoard : Machine → Inputs → Option (Result Yes FrameRefusal) → Type 0
-IsBoard Profile inputs answer = IsBoardAt inputs.map inputs answer
-IsBoard Board inputs answer = answer ≡ None
+-- an answer about the profile is told with the board's to the same bytes
+abbrev pub IsBoard : Machine → Option MemoryMap → Inputs → Option (Result Yes FrameRefusal) → Type 0
+IsBoard Profile (Some map) inputs answer = IsOwnAnswer Board inputs map inputs.rom.now inputs.frame.now answer
+IsBoard machine map inputs answer = answer ≡ None
 
 -- the line of the board's answer
 abbrev pub board_line : Result Yes FrameRefusal → List Told
@@ -101,7 +99,7 @@ pub record AcceptedLines (inputs : Inputs) (rom : Option Rom) (frame : Option (L
   pub shapes_light : List Told
   pub shapes_lit : IsExtent (codes "shapes light within") (codes "shapes margins") inputs.window survey.shapes shapes_light
   pub on_board : Option (Result Yes FrameRefusal)
-  pub board : IsBoard inputs.machine inputs on_board
+  pub board : IsBoard inputs.machine inputs.map inputs on_board
   pub lines_are : lines ≡ machine_lines inputs.machine ++ zone ++ counts_lines yes inputs.budget
       ++ flat_map call_line survey.frame.calls.items ++ frame_lights ++ clipped ++ shapes_light
       ++ told survey.remarks.items ++ one board_line on_board

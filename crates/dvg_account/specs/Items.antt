@@ -1,6 +1,8 @@
 -- The item of a refusal, and its lines. All of it is this project's own.
-use Rattle.std.specs.Prelude.{◌≡◌, ℕ, ◌+◌, List, [], ◌∷◌, ◌++◌, codes, Option, Some, None, option_map, option_to_list, if◌then◌else◌}
+use Rattle.std.specs.Prelude.{◌≡◌, ℕ, ◌+◌, List, [], ◌∷◌, ◌++◌, codes, flat_map, Option, Some, None, option_map, option_to_list, if◌then◌else◌}
 use Rattle.dvg_words.specs.Values.{Source}
+use Rattle.dvg_words.specs.Memory.{frame_word}
+use Rattle.dvg_words.specs.declared.machine.Machine.TheVariants.{Board}
 use Rattle.dvg_words.specs.Decoding.{opcode, is_long_opcode, cell_at}
 use Rattle.dvg_words.specs.declared.instruction.Cell.{Cell}
 use Rattle.dvg_words.specs.declared.instruction.Cell.TheVariants as cell
@@ -14,25 +16,14 @@ use Rattle.dvg_check.specs.declared.fault.Found.TheVariants.{Seen}
 use Rattle.dvg_survey.specs.declared.losses.Losses.{Losses}
 use Rattle.dvg_account.specs.declared.zeros.Zeros.{Zeros}
 pub use Rattle.dvg_account.specs.declared.item.RefusedItem.{RefusedItem}
-pub use Rattle.dvg_account.specs.declared.item.ItemWords.{ItemWords}
-use Rattle.dvg_account.specs.declared.item.ItemWords.TheVariants as held
 use Rattle.dvg_account.specs.declared.piece.Piece.TheVariants.{At, Number, Address, Word, Instruction, Item, Entry, Place, Scale}
 use Rattle.dvg_account.specs.Told.{Told, Piece, Role, line, of, one}
 use Rattle.dvg_account.specs.declared.piece.Role.TheVariants as role
 
--- the words of an instruction by its first word and the one after it, as far as they are there
-abbrev pub words_with : ℕ → Option ℕ → ItemWords
-words_with first None = held.One first
-words_with first (Some second) = held.Two first second
-
--- the words of an instruction, of which the first may be missing, too
-abbrev pub words_from : Option ℕ → Option ℕ → ItemWords
-words_from None next = held.Nothing
-words_from (Some first) next = if is_long_opcode (opcode first) then words_with first next else held.One first
-
--- the words of the item at a word address
-abbrev pub words_at : Source → ℕ → ItemWords
-words_at source at = words_from (source.word at) (source.word (at + 1))
+-- the words of the item at a word address: the first, and of a long one the second, if it is there
+abbrev pub words_at : Source → ℕ → Option (ℕ × Option ℕ)
+words_at source at =
+    option_map (λ first. (first, if is_long_opcode (opcode first) then source.word (at + 1) else None)) (source.word at)
 
 -- the instruction at a word address, if one stands there
 abbrev pub instruction_of : ℕ → Cell → Option There
@@ -49,7 +40,7 @@ callee_of (Seen v) = v.callee
 callee_of found = None
 
 -- the item at a word address, before which this is known, if that is told, and which names this entry
-pub record IsItemWith (kind : Kind) (source : Source) (at : ℕ) (before : Option Known) (callee : Option Called)
+pub record IsItem (kind : Kind) (source : Source) (at : ℕ) (before : Option Known) (callee : Option Called)
     (i : RefusedItem) : Type 0 where
   pub of_kind : i.kind ≡ kind
   pub stands : i.at ≡ at
@@ -57,10 +48,6 @@ pub record IsItemWith (kind : Kind) (source : Source) (at : ℕ) (before : Optio
   pub decoded : i.instruction ≡ instruction_at source at
   pub named : i.callee ≡ callee
   pub known : i.before ≡ before
-
--- the refused item, of which all that stands before it is known
-abbrev pub IsItem : Kind → Source → ℕ → Known → Option Called → RefusedItem → Type 0
-IsItem kind source at before callee i = IsItemWith kind source at (Some before) callee i
 
 -- ---- lines
 
@@ -70,19 +57,18 @@ stands role.Refused at = line (codes "item") (At at ∷ [])
 stands role.Stop at = line (codes "comes to") (At at ∷ [])
 
 -- its words
-abbrev pub words_of : ItemWords → List Piece
-words_of held.Nothing = []
-words_of (held.One first) = Word first ∷ []
-words_of (held.Two first second) = Word first ∷ Word second ∷ []
+abbrev pub words_of : Option (ℕ × Option ℕ) → List Piece
+words_of None = []
+words_of (Some (first, second)) = Word first ∷ option_to_list (option_map Word second)
 
 -- another item under this key, if there is one
 abbrev pub item_line : Role → List ℕ → Option There → List Told
 item_line r key other = one (λ i. of r key (Item i ∷ [])) other
 
 -- an item of a frame is told with the item that goes on to it, unless zeros lead there; one of a shape only where it is missing
-abbrev pub comes_from : Kind → ItemWords → Option Zeros → Option There → Option There
+abbrev pub comes_from : Kind → Option (ℕ × Option ℕ) → Option Zeros → Option There → Option There
 comes_from Frame words None before = before
-comes_from Shape held.Nothing None before = before
+comes_from Shape None None before = before
 comes_from kind words zeros before = None
 
 -- what was lost by an item
@@ -108,3 +94,15 @@ lines_as r i = stands r i.at ++ of r (codes "holds") (words_of i.words)
     ++ item_line r (codes "comes from") (comes_from i.kind i.words i.way.zeros i.way.last) ++ one (known_lines r) i.before
     ++ item_line r (codes "place lost by") (lost_by (λ l. l.place) i.losses)
     ++ item_line r (codes "scale lost by") (lost_by (λ l. l.scale) i.losses) ++ one (zeros_lines r) i.way.zeros
+
+-- ---- where a frame leaves a recipe
+
+-- a line of the recipe's text of which an item could stand there
+abbrev pub stand_line : ℕ → List Told
+stand_line n = line (codes "could stand") (Number n ∷ [])
+
+-- the item there, and those lines
+abbrev pub LeavingLines : List ℕ → ℕ → List ℕ → List Told → Type 0
+LeavingLines frame at could_stand lines =
+    (item : RefusedItem) × IsItem Frame (frame_word Board frame) at None None item
+    × (lines ≡ lines_as role.Refused item ++ flat_map stand_line could_stand)

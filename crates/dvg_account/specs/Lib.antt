@@ -1,15 +1,11 @@
 pub mod Building
 pub mod Told
-pub mod Machines
 pub mod Items
-pub mod Leaving
 pub mod Why
 pub mod Plain
 pub mod Chains
 pub mod Refused
 pub mod Accepted
-pub mod Meant
-pub mod Middle
 pub mod Making
 pub mod Verdicts
 pub mod Swapped

@@ -1,28 +1,32 @@
 -- The lines of an answer of the maker. All of it is this project's own.
-use Rattle.std.specs.Prelude.{◌≡◌, ℕ, ◌-◌, max, List, [], ◌∷◌, ◌++◌, codes, flat_map, drop, length, fold, Option, Some, None, slice_get, nat_lt, if◌then◌else◌}
+use Rattle.std.specs.Prelude.{◌≡◌, ◌≢◌, ℕ, ◌+◌, ◌*◌, ◌/◌, ◌%◌, ◌-◌, max, List, [], ◌∷◌, ◌++◌, codes, flat_map, drop, length, fold, Option, Some, None, slice_get, Bool, true, false, ◌&&◌, nat_eq, nat_lt, if◌then◌else◌}
 use Rattle.dvg_words.specs.declared.machine.Machine.{Machine}
-use Rattle.dvg_words.specs.Values.{Source}
+use Rattle.dvg_words.specs.Values.{MemoryMap, Source}
+use Rattle.dvg_words.specs.Decoding.{cell_at}
+use Rattle.dvg_words.specs.declared.instruction.Cell.TheVariants.{Holds}
+use Rattle.dvg_words.specs.declared.instruction.Format.TheVariants.{Long}
+use Rattle.dvg_words.specs.declared.instruction.Instr.TheVariants.{Jmpl}
 use Rattle.dvg_words.specs.Memory.{Rom, rom_word, frame_word}
 use Rattle.dvg_words.specs.declared.map.TheConstants.{RAM_WORDS}
 use Rattle.dvg_cert.specs.declared.limits.TheConstants.{MOST_WORDS}
 use Rattle.dvg_make.specs.declared.fault.FrameCall.{FrameCall}
 use Rattle.dvg_survey.specs.declared.calls.Call.{Call}
 use Rattle.dvg_cert.specs.declared.entry.Entry.{Entry}
+use Rattle.dvg_cert.specs.declared.entry.Key.{Key}
+use Rattle.dvg_make.specs.Made.{Made}
 use Rattle.dvg_make.specs.Refusals.{fault_number, make_fault_of}
 use Rattle.dvg_make.specs.declared.account.MakeAccount.{MakeAccount}
 use Rattle.dvg_make.specs.declared.account.EntryCause.{EntryCause}
 use Rattle.dvg_make.specs.declared.account.EntryCause.TheVariants as cause
 use Rattle.dvg_make.specs.declared.account.ShapeAt.{ShapeAt}
 use Rattle.dvg_items.specs.declared.item.Kind.TheVariants.{Shape, Frame}
-use Rattle.dvg_account.specs.Items.{RefusedItem, IsItem, IsItemWith, words_at, lines_as}
+use Rattle.dvg_account.specs.Items.{RefusedItem, IsItem, words_at, lines_as}
 use Rattle.dvg_account.specs.declared.piece.Role.TheVariants as role
 use Rattle.dvg_account.specs.declared.piece.Piece.{Piece}
-use Rattle.dvg_account.specs.declared.piece.Piece.TheVariants.{Number, Address, Name, Rule}
-use Rattle.dvg_account.specs.Machines.{machine_lines}
+use Rattle.dvg_account.specs.declared.piece.Piece.TheVariants.{Number, Address, BareAddress, Item, Name, Rule}
 use Rattle.dvg_account.specs.Chains.{call_steps, shape_name, shape_steps}
-use Rattle.dvg_account.specs.Meant.{outside_call, IsMeant, meant_line}
-use Rattle.dvg_account.specs.Middle.{Middle, IsMiddleOf, middle_line}
-use Rattle.dvg_account.specs.Told.{Told, Line, told, values, line, one}
+pub use Rattle.dvg_account.specs.declared.middle.Middle.{Middle}
+use Rattle.dvg_account.specs.Told.{Told, Line, told, values, line, one, machine_lines}
 use Rattle.dvg_account.specs.Why.{missing_word, odd_labs, words_over}
 
 -- the most words that an entry takes
@@ -46,12 +50,12 @@ stop_source rom (Some frame) at = if nat_lt at RAM_WORDS then frame_word rom.mac
 -- the item by which a shape can't be made, over the frame that asks for it; none where no shape was begun
 abbrev pub IsMakerItem : Rom → Option (List ℕ) → MakeAccount → Option RefusedItem → Type 0
 IsMakerItem rom frame a None = a.chain.items ≡ []
-IsMakerItem rom frame a (Some i) = IsItem Shape (stop_source rom frame a.at) a.at a.before None i
+IsMakerItem rom frame a (Some i) = IsItem Shape (stop_source rom frame a.at) a.at (Some a.before) None i
 
 -- the call of a frame that asks for what can't be made; none where no frame does
 abbrev pub IsCallItem : Machine → Option (List ℕ) → Option FrameCall → Option RefusedItem → Type 0
 IsCallItem machine (Some frame) (Some call) None = ⊥
-IsCallItem machine (Some frame) (Some call) (Some i) = IsItemWith Frame (frame_word machine frame) call.at None None i
+IsCallItem machine (Some frame) (Some call) (Some i) = IsItem Frame (frame_word machine frame) call.at None None i
 IsCallItem machine frame call told = told ≡ None
 
 -- the frame of a call
@@ -102,20 +106,70 @@ maker_why rom at chain (cause.Deep to scale) = values (Name to scale ∷ [])
 maker_why rom at chain (cause.TooManyWords words) = words_over words MOST_WORDS (words - MOST_WORDS)
 maker_why rom at chain other = []
 
--- what else is told of where a making stops that a frame's call asks for: nothing of a word in vector RAM
-abbrev pub stop_why : Rom → MakeAccount → EntryCause → List Told
-stop_why rom a cause.Missing = if nat_lt a.at RAM_WORDS then [] else maker_why rom a.at a.chain.items cause.Missing
-stop_why rom a other = maker_why rom a.at a.chain.items other
-
--- where the making stops that a frame's call asks for, and what else is told of it
-abbrev pub call_why : Rom → MakeAccount → EntryCause → List Told
-call_why rom a why = values (Address a.at ∷ []) ++ stop_why rom a why
-
--- the sentence of a root's entry stands alone; that of a frame's call says where the making stops; of a want of memory there is none
+-- the sentence of a root's entry stands alone; that of a frame's call says where the making stops, and nothing else of a word in vector
+-- RAM; of a want of memory there is none
 abbrev pub why_lines : Rom → MakeAccount → EntryCause → Option FrameCall → List Told
 why_lines rom a cause.Memory call = []
-why_lines rom a other None = Line (codes "why") ∷ maker_why rom a.at a.chain.items other
-why_lines rom a other (Some call) = Line (codes "why") ∷ call_why rom a other
+why_lines rom a why None = Line (codes "why") ∷ maker_why rom a.at a.chain.items why
+why_lines rom a cause.Missing (Some call) = line (codes "why") (Address a.at ∷ [])
+    ++ (if nat_lt a.at RAM_WORDS then [] else maker_why rom a.at a.chain.items cause.Missing)
+why_lines rom a why (Some call) = line (codes "why") (Address a.at ∷ []) ++ maker_why rom a.at a.chain.items why
+
+-- ---- the word that a frame's call outside the ROM may mean
+
+-- a word address outside the ROM
+abbrev pub is_outside : MemoryMap → ℕ → Bool
+is_outside map at = if nat_lt at map.rom_first then true else nat_lt map.rom_last at
+
+-- the last of so many shapes, if it is the only one, and begins at this word, outside the ROM
+abbrev pub only_outside : MemoryMap → Option ShapeAt → ℕ → ℕ → Option ShapeAt
+only_outside map None shapes at = None
+only_outside map (Some s) shapes at = if nat_eq s.addr at && is_outside map s.addr && nat_eq shapes 1 then Some s else None
+
+-- the only shape on the way to a missing word, if it begins at that word, outside the ROM
+abbrev pub outside_call : MemoryMap → MakeAccount → EntryCause → Option ShapeAt
+outside_call map a cause.Missing = only_outside map (slice_get a.chain.items (length a.chain.items - 1)) (length a.chain.items) a.at
+outside_call map a other = None
+
+-- the word past vector RAM of the byte whose processor address, 4000 + 2 * word, ends in these twelve bits (Asteroids schematics)
+abbrev pub byte_word : ℕ → ℕ
+byte_word bits = if nat_lt (bits / 2) RAM_WORDS then bits / 2 + 2 * RAM_WORDS else bits / 2
+
+-- a word's first byte has this address, the word is in the ROM, and a shape can be made there at the scale of the call
+pub record MeansByte (rom : Rom) (at : ℕ) (scale : Key) : Type 0 where
+  pub even : at % 2 ≢ 1
+  pub inside : is_outside rom.map (byte_word at) ≡ false
+  pub list : List Entry
+  pub made : Made rom ((byte_word at, scale) ∷ []) list
+
+-- the word that is meant for a shape that is called outside the ROM, if one is
+abbrev pub IsMeant : Rom → ℕ → Option ShapeAt → Option ℕ → Type 0
+IsMeant rom at None word = word ≡ None
+IsMeant rom at (Some called) None = MeansByte rom at called.key → ⊥
+IsMeant rom at (Some called) (Some word) = MeansByte rom at called.key × (word ≡ byte_word at)
+
+-- the called address, and the word that is meant
+abbrev pub meant_line : ℕ → ℕ → List Told
+meant_line at word = line (codes "byte address") (BareAddress at ∷ Address word ∷ [])
+
+-- ---- a jump that may lead into the middle of an instruction
+
+-- the jump is one to the second word of the instruction, which is a long one
+pub record IsMiddle (word : Source) (m : Middle) : Type 0 where
+  pub jumps : cell_at word m.jump.at ≡ Holds m.jump.format (Jmpl (m.into.at + 1))
+  pub long : cell_at word m.into.at ≡ Holds Long m.into.instr
+
+-- a jump of a frame is such a one, if there is one
+abbrev pub IsMiddleOf : Machine → Option (List ℕ) → Option Middle → Type 0
+IsMiddleOf machine frame None = Unit {0}
+IsMiddleOf machine None (Some m) = ⊥
+IsMiddleOf machine (Some frame) (Some m) = IsMiddle (frame_word machine frame) m
+
+-- the line of a jump
+abbrev pub middle_line : Middle → List Told
+middle_line m = line (codes "jumps into") (Item m.into ∷ Item m.jump ∷ [])
+
+-- ---- the whole account
 
 -- the lines of a refusal of the maker, which made entries for roots and frames: its rule, its cause, the word that a call may mean, a
 -- jump that may lead into an instruction, the item, the shapes on the way to where the making stops, that place, the calls below (which

@@ -5,11 +5,10 @@ use Rattle.dvg_cert.specs.Numbers.{cert_number}
 use Rattle.dvg_cert.specs.declared.fault.CertFault.{CertFault}
 use Rattle.dvg_text.specs.declared.refused.LineWhy.{LineWhy}
 use Rattle.dvg_text.specs.declared.refused.LineWhy.TheVariants.{Form, Count}
-use Rattle.dvg_account.specs.Machines.{machine_lines}
 use Rattle.dvg_account.specs.declared.inputs.PlainWhy.{PlainWhy}
 use Rattle.dvg_account.specs.declared.inputs.PlainWhy.TheVariants as plain
 use Rattle.dvg_account.specs.declared.piece.Piece.TheVariants.{Rule, Cure, Number, Bytes, Fitting, Expected}
-use Rattle.dvg_account.specs.Told.{Told, line}
+use Rattle.dvg_account.specs.Told.{Told, line, machine_lines}
 
 -- a refused line of the certificate, and where it leaves the form, or the two counts
 abbrev pub told_of_why : ℕ → LineWhy → List Told

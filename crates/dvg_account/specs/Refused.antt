@@ -22,13 +22,12 @@ use Rattle.dvg_make.specs.declared.judging.FrameRefusal.{FrameRefusal}
 use Rattle.dvg_make.specs.Made.{HasEntry}
 use Rattle.dvg_account.specs.Items.{RefusedItem, IsItem, callee_of, item_line, lines_as}
 use Rattle.dvg_account.specs.Chains.{name_of, call_steps}
-use Rattle.dvg_account.specs.Machines.{machine_lines, other_machine_lines, IsZone}
 use Rattle.dvg_account.specs.Why.{frame_why, shape_why}
 use Rattle.dvg_account.specs.Accepted.{IsBoard, board_line}
 use Rattle.dvg_account.specs.declared.inputs.Inputs.{Inputs}
 use Rattle.dvg_account.specs.declared.piece.Role.TheVariants.{Refused}
 use Rattle.dvg_account.specs.declared.piece.Piece.TheVariants as piece
-use Rattle.dvg_account.specs.Told.{Told, Line, Value, values, line, one, rule_and_why}
+use Rattle.dvg_account.specs.Told.{Told, Line, Value, values, line, one, rule_and_why, machine_lines, IsZone}
 
 -- the key of an entry, if it is at this word address
 abbrev pub key_at : ℕ → Entry → List Told
@@ -41,13 +40,19 @@ keys_at addr list = flat_map (key_at addr) list
 -- what the board answers
 abbrev pub TellsBoard : Inputs → List Told → Type 0
 TellsBoard inputs lines =
-    (answer : Option (Result Yes FrameRefusal)) × IsBoard inputs.machine inputs answer × (lines ≡ one board_line answer)
+    (answer : Option (Result Yes FrameRefusal)) × IsBoard inputs.machine inputs.map inputs answer × (lines ≡ one board_line answer)
 
 -- what else is told of a cause in a frame: of an odd LABS the board's answer, of a call with no entry the scales that are claimed
 abbrev pub TellsBesideFrame : Inputs → List Entry → FrameCause → List Told → Type 0
 TellsBesideFrame inputs list frame.Odd lines = TellsBoard inputs lines
 TellsBesideFrame inputs list (frame.NoEntry to scale) lines = lines ≡ Line (codes "claimed scales") ∷ keys_at to list
 TellsBesideFrame inputs list cause lines = lines ≡ []
+
+-- an end and a box may be those of a certificate that was made for the other machine
+abbrev pub other_machine_lines : ShapeWhy → List Told
+other_machine_lines shape.EndDiffers = line (codes "other machine") []
+other_machine_lines shape.BoxTooSmall = line (codes "other machine") []
+other_machine_lines why = []
 
 -- what else is told of a fault of a shape: of an odd LABS the board's answer, of an end or a box that differs the other machine
 abbrev pub TellsBesideShape : Inputs → ShapeWhy → List Told → Type 0
@@ -76,7 +81,7 @@ IsFurthest rom list cause called found = found ≡ None
 pub record FrameLines (inputs : Inputs) (rom : Option Rom) (frame : List ℕ) (list : List Entry) (f : FrameFinding)
     (lines : List Told) : Type 0 where
   pub item : RefusedItem
-  pub is_item : IsItem Frame (frame_word inputs.machine frame) f.fault.word f.before (callee_of f.found) item
+  pub is_item : IsItem Frame (frame_word inputs.machine frame) f.fault.word (Some f.before) (callee_of f.found) item
   pub lost : IfSome item.losses (AreLosses (frame_context inputs.machine list) (frame_word inputs.machine frame) 0 f.fault.word)
   pub unled : IfNone item.losses (NoneLead Frame (frame_word inputs.machine frame) 0 f.fault.word)
   pub furthest : Option Stroke
@@ -101,7 +106,7 @@ TellsChain rom (Some words) list goal lines =
 pub record ShapeLines (inputs : Inputs) (rom : Rom) (frame : Option (List ℕ)) (list : List Entry) (f : ShapeFinding)
     (lines : List Told) : Type 0 where
   pub item : RefusedItem
-  pub is_item : IsItem Shape (rom_word rom) f.fault.word f.before (callee_of f.found) item
+  pub is_item : IsItem Shape (rom_word rom) f.fault.word (Some f.before) (callee_of f.found) item
   pub lost : IfSome item.losses (AreLosses (shape_context rom.machine list f.entry) (rom_word rom) f.entry.addr f.fault.word)
   pub unled : IfNone item.losses (HasEntry list f.entry.addr f.entry.key
       → NoneLead Shape (rom_word rom) f.entry.addr f.fault.word)

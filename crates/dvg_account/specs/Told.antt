@@ -1,5 +1,8 @@
 -- What an account tells: its keys and what stands behind them. Words between values are left out. All of it is this project's own.
-use Rattle.std.specs.Prelude.{ℕ, List, [], ◌∷◌, ◌++◌, map, codes, Option, Some, None}
+use Rattle.std.specs.Prelude.{◌≡◌, ℕ, List, [], ◌∷◌, ◌++◌, map, codes, Option, Some, None}
+use Rattle.dvg_words.specs.Values.{Window, clipped}
+use Rattle.dvg_words.specs.declared.machine.Machine.{Machine}
+use Rattle.dvg_words.specs.declared.machine.Machine.TheVariants.{Profile, Board}
 pub use Rattle.dvg_account.specs.declared.piece.Piece.{Piece}
 use Rattle.dvg_account.specs.declared.piece.Piece.TheVariants as piece
 pub use Rattle.dvg_account.specs.declared.piece.Role.{Role}
@@ -53,3 +56,13 @@ keyed role.Stop key = There key ∷ []
 -- a line about the item in this role
 abbrev pub of : Role → List ℕ → List Piece → List Told
 of r key vs = keyed r key ++ values vs
+
+-- the line that names the machine: none for the profile's
+abbrev pub machine_lines : Machine → List Told
+machine_lines Profile = []
+machine_lines Board = line (codes "machine") []
+
+-- the line that names the window where it is the zone that a board clips
+abbrev pub IsZone : Window → List Told → Type 0
+IsZone w [] = w ≡ clipped → ⊥
+IsZone w told = (w ≡ clipped) × (told ≡ line (codes "window") [])

@@ -1,5 +1,6 @@
 -- The lines of a verdict. All of it is this project's own.
-use Rattle.std.specs.Prelude.{◌≡◌, ℕ, List, [], ◌∷◌, Option, Some, None, Result, Ok, Err, IfSome, option_copied}
+use Rattle.std.specs.Prelude.{◌≡◌, ℕ, List, [], ◌∷◌, Option, Some, Result, Ok, Err, IfSome}
+use Rattle.std.specs.Borrow.{Bor}
 use Rattle.dvg_words.specs.Memory.{Rom}
 use Rattle.dvg_words.specs.declared.machine.Machine.{Machine}
 use Rattle.dvg_cert.specs.Order.{Certificate}
@@ -35,42 +36,27 @@ RefusedLines inputs rom frame refusal (Some (finding.Frame f)) lines =
 RefusedLines inputs rom frame refusal cause lines = (why : PlainWhy) × (lines ≡ plain_lines inputs.machine (refusal_number refusal) why)
 
 -- the lines of a verdict on inputs with these images
-abbrev pub LinesOf : Inputs → Option Rom → Option (List ℕ) → Result Yes Refusal → Option Finding → List Told → Type 0
+abbrev pub LinesOf : Inputs → Option Rom → Option (List ℕ) → Result Yes FrameRefusal → Option Finding → List Told → Type 0
 LinesOf inputs rom frame (Ok y) cause lines = AcceptedLines inputs rom frame y lines
-LinesOf inputs rom frame (Err refusal) cause lines = RefusedLines inputs rom frame refusal cause lines
+LinesOf inputs rom frame (Err (Check refusal)) cause lines = RefusedLines inputs rom frame refusal cause lines
+LinesOf inputs rom frame (Err refusal) cause lines = lines ≡ plain_lines inputs.machine 63 Nothing
 
--- the lines of a verdict on inputs
-pub record VerdictLines (inputs : Inputs) (verdict : Result Yes Refusal) (cause : Option Finding) (lines : List Told) : Type 0 where
+-- the lines of a verdict on inputs; a refusal of the maker is told as one for memory
+pub record VerdictLines (inputs : Inputs) (verdict : Result Yes FrameRefusal) (cause : Option Finding) (lines : List Told) : Type 0 where
   pub rom : Option Rom
   pub frame : Option (List ℕ)
   pub are_images : IfSome inputs.cert (λ cert. AreImagesOf inputs.machine cert.now.map inputs.rom.now inputs.frame.now rom frame)
   pub told : LinesOf inputs rom frame verdict cause lines
-
--- the lines of a verdict on a frame; a refusal of the maker is told as one for memory
-abbrev pub FrameVerdictLines : Inputs → Result Yes FrameRefusal → Option Finding → List Told → Type 0
-FrameVerdictLines inputs (Ok y) cause lines = VerdictLines inputs (Ok y) None lines
-FrameVerdictLines inputs (Err (Check refusal)) cause lines = VerdictLines inputs (Err refusal) cause lines
-FrameVerdictLines inputs (Err refusal) cause lines = lines ≡ plain_lines inputs.machine 63 Nothing
 
 -- the lines of a verdict on inputs with these images that comes with the cause of a refusal
 abbrev pub JudgedLines : Inputs → Rom → List ℕ → Result Yes Finding → List Told → Type 0
 JudgedLines inputs rom frame (Ok y) lines = AcceptedLines inputs (Some rom) (Some frame) y lines
 JudgedLines inputs rom frame (Err f) lines = RefusedLines inputs (Some rom) (Some frame) (refusal_of f) (Some f) lines
 
--- these inputs are others with this certificate in the place of theirs, and with exact counts
-pub record IsBy (inputs : Inputs) (c : Certificate) (by : Inputs) : Type 0 where
-  pub machine_is : by.machine ≡ inputs.machine
-  pub rom_is : by.rom.now ≡ inputs.rom.now
-  pub map_is : by.map ≡ inputs.map
-  pub cert_is : option_copied by.cert ≡ Some c
-  pub frame_is : by.frame.now ≡ inputs.frame.now
-  pub budget_is : by.budget ≡ inputs.budget
-  pub window_is : by.window ≡ inputs.window
-  pub mode_is : by.mode ≡ Exact
-
--- the lines of the verdict on inputs with these images by the frame's own certificate
+-- the lines of the verdict on inputs with these images by the frame's own certificate, with exact counts
 abbrev pub LinesBy : Inputs → Rom → List ℕ → JudgedFrame → List Told → Type 0
-LinesBy inputs rom frame judged lines = (by : Inputs) × IsBy inputs judged.cert by × JudgedLines by rom frame judged.verdict lines
+LinesBy inputs rom frame judged lines = (own : Bor Certificate) × (own.now ≡ judged.cert)
+    × JudgedLines (record inputs { cert = Some own; mode = Exact }) rom frame judged.verdict lines
 
 -- the lines of a refusal of the maker over a ROM; of a want of memory its number alone
 abbrev pub TellsUnmade : Machine → Rom → List ℕ → MakeAccount → EntryCause → List Told → Type 0

@@ -18,12 +18,9 @@ use Rattle.dvg_check.specs.declared.cause.ShapeCause.TheVariants as shape
 use Rattle.dvg_check.specs.declared.leaving.Leaving.{Leaving}
 use Rattle.dvg_check.specs.declared.leaving.BoxLeaving.{BoxLeaving}
 use Rattle.dvg_check.specs.declared.leaving.BoxLeaving.TheVariants as left
-use Rattle.dvg_account.specs.declared.piece.Bounds.{Bounds}
-use Rattle.dvg_account.specs.declared.piece.Bounds.TheVariants.{Window, ClaimedBox}
 use Rattle.dvg_account.specs.declared.piece.Piece.TheVariants as piece
 use Rattle.dvg_account.specs.Told.{Told, values, number, one}
-use Rattle.dvg_account.specs.Items.{ItemWords, words_at}
-use Rattle.dvg_account.specs.declared.item.ItemWords.TheVariants as held
+use Rattle.dvg_account.specs.Items.{words_at}
 
 -- the address of the word that is missing of an item, by its first word: the second if the first is there
 abbrev pub missing_at : Option ℕ → ℕ → ℕ
@@ -39,24 +36,19 @@ missing_word source at first last =
 abbrev pub odd_field : ℕ → Option ℕ
 odd_field word = if nat_lt 1023 (word % 4096) then Some (word % 4096) else None
 
--- these fields of a LABS, Y and X
-abbrev pub odd_fields : Option ℕ → Option ℕ → List Told
-odd_fields y x = one number y ++ one number x
-
 -- the fields of a LABS that are over 1023, by its words: Y in the first, X in the second
-abbrev pub odd_labs : ItemWords → List Told
-odd_labs held.Nothing = []
-odd_labs (held.One first) = odd_fields (odd_field first) None
-odd_labs (held.Two first second) = odd_fields (odd_field first) (odd_field second)
+abbrev pub odd_labs : Option (ℕ × Option ℕ) → List Told
+odd_labs None = []
+odd_labs (Some (first, second)) = one number (odd_field first) ++ one (λ word. one number (odd_field word)) second
 
--- the corner that is past an edge, by how much; which corner of the item it is, is only tested
-abbrev pub past : Leaving → Bounds → List Told
-past leaving bounds = values (piece.Past leaving bounds ∷ [])
+-- the corner that is past an edge of the window, by how much; which corner of the item it is, is only tested
+abbrev pub past_window : Leaving → List Told
+past_window leaving = values (piece.PastWindow leaving ∷ [])
 
 -- how the claimed box is left
 abbrev pub leaves_box : BoxLeaving → List Told
 leaves_box (left.Empty p) = values (piece.Point p ∷ [])
-leaves_box (left.Past leaving) = past leaving ClaimedBox
+leaves_box (left.Past leaving) = values (piece.PastBox leaving ∷ [])
 
 -- the called address and the scale at which no entry is for it, and none at any
 abbrev pub no_entry : ℕ → Key → List Told
@@ -77,7 +69,7 @@ abbrev pub frame_why : Machine → List ℕ → FrameFinding → FrameCause → 
 frame_why machine list f frame.Unmapped = missing_word (frame_word machine list) f.fault.word 0 (length list - 1)
 frame_why machine list f frame.Odd = odd_labs (words_at (frame_word machine list) f.fault.word)
 frame_why machine list f (frame.BackJump to) = values (piece.Address to ∷ [])
-frame_why machine list f (frame.OffScreen leaving) = past leaving Window
+frame_why machine list f (frame.OffScreen leaving) = past_window leaving
 frame_why machine list f (frame.NoEntry to scale) = no_entry to scale
 frame_why machine list f (frame.Budget over) = words_over (words_with f.found) (words_with f.found - over) over
 frame_why machine list f other = []
@@ -99,7 +91,7 @@ shape_why rom f shape.Odd = odd_labs (words_at (rom_word rom) f.fault.word)
 shape_why rom f shape.HaltInShape = []
 shape_why rom f shape.BeamUnknown = []
 shape_why rom f shape.ScaleUnknown = []
-shape_why rom f (shape.OffScreen leaving) = past leaving Window
+shape_why rom f (shape.OffScreen leaving) = past_window leaving
 shape_why rom f (shape.NoEntry to scale) = no_entry to scale
 shape_why rom f (shape.BoxTooSmall leaving) = leaves_box leaving
 shape_why rom f claim = claim_why f.entry (words_with f.found) claim

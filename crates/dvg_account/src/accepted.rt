@@ -2,7 +2,7 @@
 
 ghost use Rattle.std.specs.Prelude.{◌≡◌, IfOk, IfSome, option_copied, flat_map};
 ghost use Rattle.dvg_account.specs.Told.{told, one};
-ghost use Rattle.dvg_account.specs.Accepted.{Surveyed, IsExtent, IsClipped, IsBoard, board_line, AcceptedLines, counts_lines, call_line};
+ghost use Rattle.dvg_account.specs.Accepted.{Surveyed, IsExtent, IsClipped, IsOwnAnswer, IsBoard, board_line, AcceptedLines, counts_lines, call_line};
 ghost use Rattle.dvg_account.specs.Building.{Adds, Tells};
 
 use crate::inputs::Inputs;
@@ -13,7 +13,7 @@ use dvg_cert::{HashIndex, LitBox};
 use dvg_check::{Refusal, Yes, frame_of};
 use dvg_make::{FrameRefusal, judge};
 use dvg_survey::{Call, FrameSurvey, Margins, shapes_extent, survey_frame};
-use dvg_words::{CLIPPED, FrameImage, Machine, RomImage, Window};
+use dvg_words::{CLIPPED, FrameImage, Machine, RomImage, RomMap, Window};
 use std::alloc::{AllocError, Global};
 
 /// What a frame's own items call and light, the least box of what the shapes light at absolute places, and what is worth a second
@@ -136,25 +136,42 @@ fn push_clipped(lines: &mut Lines, window: &Window, clipped: &[u16])
     }
 }
 
-/// What the board answers to the same inputs, by the frame's own certificate there, unless the board was asked.
-pub fn board_answer(
+/// The answer of a machine to these bytes of a ROM that lies here and of a frame, in the place of the inputs' own, by the frame's own
+/// certificate. `None` if the bytes can't be judged.
+pub fn own_answer(
+    machine: Machine,
     alloc: Global,
     inputs: &Inputs,
+    map: RomMap,
+    rom: &[u8],
+    frame: &[u8],
 ) -> Result<Option<Result<Yes, FrameRefusal>>, AllocError>
-    ensures { IfOk result (IsBoard inputs.now.machine inputs.now) }
+    ensures { IfOk result (IsOwnAnswer machine inputs.now map rom.now frame.now) }
 {
-    let (Machine::Profile, Some(map)) = (inputs.machine, inputs.map) else {
+    let Ok(rom) = RomImage::from_bytes_on(machine, rom, map) else {
         return Ok(None);
     };
-    let Ok(rom) = RomImage::from_bytes_on(Machine::Board, inputs.rom, map) else {
-        return Ok(None);
-    };
-    let Ok(frame) = frame_of(inputs.frame, inputs.budget) else {
+    let Ok(frame) = frame_of(frame, inputs.budget) else {
         return Ok(None);
     };
     match judge(alloc, &rom, &frame, inputs.budget, inputs.window) {
         Err(FrameRefusal::NoMemory | FrameRefusal::Check(Refusal::IndexMemory)) => Err(AllocError),
         answer => Ok(Some(answer)),
+    }
+}
+
+/// What the board answers to the same inputs, by the frame's own certificate there, unless the board was asked.
+pub fn board_answer(
+    alloc: Global,
+    inputs: &Inputs,
+) -> Result<Option<Result<Yes, FrameRefusal>>, AllocError>
+    ensures { IfOk result (IsBoard inputs.now.machine inputs.now.map inputs.now) }
+{
+    match (inputs.machine, inputs.map) {
+        (Machine::Profile, Some(map)) => {
+            own_answer(Machine::Board, alloc, inputs, map, inputs.rom, inputs.frame)
+        }
+        _ => Ok(None),
     }
 }
 

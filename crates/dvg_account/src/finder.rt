@@ -12,12 +12,11 @@ use crate::item::instruction_at;
 use crate::labs_watch::LabsWatch;
 use crate::remarked::{FrameRemark, in_order};
 use crate::shape_items::{ShapeItems, from_address};
-use crate::shape_walk::{ShapeWalk, has_length};
 use dvg_cert::{Cert, End, Entry, HashIndex, LitBox, MOST_ENTRIES};
 use dvg_labels::Labels;
 use dvg_spelling::RemarkKind;
-use dvg_survey::FrameSurvey;
-use dvg_words::{FrameOn, RomImage};
+use dvg_survey::{FrameSurvey, is_faint};
+use dvg_words::{FrameOn, Instr, RomImage};
 use std::alloc::{AllocError, Global};
 
 /// From how many draws on a shape that lights nothing is remarked: one alone is taken for a space between letters.
@@ -82,12 +81,19 @@ impl<'a> Finder<'a> {
 
     /// Looks at the shape of an entry.
     fn find_in_shape(&mut self, entry: &Entry) -> Result<(), AllocError> {
-        let mut walk = ShapeWalk::new();
         let mut watch = LabsWatch::new();
+        let mut shrunk = None;
+        let mut moves = 0usize;
         let later = from_address(self.cert.entries(), Some(entry.addr));
         let mut items = ShapeItems::of(entry, later);
         while let Some(next) = items.next(&self.entries, &self.beginnings) {
-            walk.note(&next);
+            let instr = &next.item.instr;
+            if has_length(instr) {
+                moves = moves.saturating_add(1);
+                if is_faint(instr, next.scale) {
+                    shrunk = shrunk.or(Some(next.item.at));
+                }
+            }
             self.note_some(RemarkKind::RunsOn, next.meets.map(|(at, _)| at))?;
             if let Some(remark) = watch.pass(&next.item) {
                 self.remarks.push(remark)?;
@@ -99,8 +105,8 @@ impl<'a> Finder<'a> {
                 self.reach_once(&entry)?;
             }
         }
-        self.note_some(RemarkKind::ScaleOver9, walk.first_shrunk)?;
-        if lights_nothing(entry) && walk.moves >= FIGURE_DRAWS {
+        self.note_some(RemarkKind::ScaleOver9, shrunk)?;
+        if lights_nothing(entry) && moves >= FIGURE_DRAWS {
             self.note(RemarkKind::NothingLit, entry.addr)?;
         }
         Ok(())
@@ -166,4 +172,12 @@ fn first_shrunk(frame: &FrameOn, faint: &[u16]) -> Option<u16> {
 /// place, or loses it, is taken to light something.
 fn lights_nothing(entry: &Entry) -> bool {
     matches!((entry.lit, entry.stop), (LitBox::Empty, End::Rel { .. }))
+}
+
+/// Whether an instruction is a draw with a size other than 0.
+fn has_length(instr: &Instr) -> bool {
+    match instr {
+        Instr::Draw(draw) => draw.dx != 0 || draw.dy != 0,
+        _ => false,
+    }
 }

@@ -3,7 +3,7 @@
 ghost use Rattle.std.specs.Prelude.{◌≡◌, ◌∷◌, [], codes, None, Some, option_map, option_to_list};
 ghost use Rattle.dvg_account.specs.declared.piece.Piece.TheVariants as pieces;
 ghost use Rattle.dvg_account.specs.Told.{of, one};
-ghost use Rattle.dvg_account.specs.Items.{words_at, instruction_at, callee_of, IsItemWith, lines_as, stands, words_of, known_lines, item_line, zeros_lines, comes_from, lost_by};
+ghost use Rattle.dvg_account.specs.Items.{words_at, instruction_at, callee_of, IsItem, lines_as, stands, words_of, known_lines, item_line, zeros_lines, comes_from, lost_by};
 ghost use Rattle.dvg_account.specs.Building.{Adds};
 ghost use Rattle.dvg_items.specs.declared.item.Kind.TheVariants.{Frame};
 
@@ -17,20 +17,13 @@ use dvg_items::{Item, Kind, Known};
 use dvg_survey::Losses;
 use dvg_words::{Cell, Fetch, is_long, read_cell};
 
-/// The words of an item, as far as they are there.
-#[derive(Clone, Copy)]
-pub enum ItemWords {
-    Nothing,
-    One(u16),
-    Two(u16, u16),
-}
-
 /// The item of a refusal, and what is known before it, where the account says that.
 #[derive(Clone, Copy)]
 pub struct RefusedItem {
     pub kind: Kind,
     pub at: u16,
-    pub words: ItemWords,
+    /// The first of its words, if it is there, and the second, if it has one that is there.
+    pub words: Option<(u16, Option<u16>)>,
     pub instruction: Option<Item>,
     pub callee: Option<Entry>,
     pub before: Option<Known>,
@@ -49,7 +42,7 @@ impl RefusedItem {
         before: Option<Known>,
         callee: Option<Entry>,
     ) -> RefusedItem
-        ensures { IsItemWith kind (F.words memory.now) at before callee result }
+        ensures { IsItem kind (F.words memory.now) at before callee result }
     {
         RefusedItem {
             kind,
@@ -65,7 +58,7 @@ impl RefusedItem {
 
     /// The call of a frame at a word address. The account says nothing else of it.
     pub fn call<F: Fetch>(memory: &F, at: u16) -> RefusedItem
-        ensures { IsItemWith Frame (F.words memory.now) at None None result }
+        ensures { IsItem Frame (F.words memory.now) at None None result }
     {
         RefusedItem::new(memory, Kind::Frame, 0, at, None, None)
     }
@@ -104,7 +97,7 @@ impl RefusedItem {
         ensures { result ≡ comes_from self.now.kind self.now.words self.now.way.zeros self.now.way.last }
     {
         match (self.kind, self.words, self.way.zeros) {
-            (Kind::Frame, _, None) | (Kind::Shape, ItemWords::Nothing, None) => self.way.last,
+            (Kind::Frame, _, None) | (Kind::Shape, None, None) => self.way.last,
             _ => None,
         }
     }
@@ -121,13 +114,13 @@ fn push_at(lines: &mut Lines, role: Role, at: u16)
 }
 
 /// Adds the line of what an item's words are.
-fn push_words(lines: &mut Lines, role: Role, words: ItemWords)
+fn push_words(lines: &mut Lines, role: Role, words: Option<(u16, Option<u16>)>)
     ensures { Adds lines.old lines.new (of role (codes "holds") (words_of words)) }
 {
     match words {
-        ItemWords::Nothing => lines.add_as(role, "holds", &[Text("nothing")]),
-        ItemWords::One(first) => lines.add_as(role, "holds", &[Word(first)]),
-        ItemWords::Two(first, second) => {
+        None => lines.add_as(role, "holds", &[Text("nothing")]),
+        Some((first, None)) => lines.add_as(role, "holds", &[Word(first)]),
+        Some((first, Some(second))) => {
             lines.add_as(role, "holds", &[Word(first), Text(" "), Word(second)])
         }
     }
@@ -213,18 +206,15 @@ pub fn instruction_at<F: Fetch>(memory: &F, at: u16) -> Option<Item>
     }
 }
 
-/// The words of the item at a word address.
-pub fn words_at<F: Fetch>(memory: &F, at: u16) -> ItemWords
+/// The words of the item at a word address: the first, and of a long one the second, if it is there.
+pub fn words_at<F: Fetch>(memory: &F, at: u16) -> Option<(u16, Option<u16>)>
     ensures { result ≡ words_at (F.words memory.now) at }
 {
-    let Some(first) = memory.fetch(at) else {
-        return ItemWords::Nothing;
+    let first = memory.fetch(at)?;
+    let second = if is_long(first) {
+        memory.fetch(at + 1)
+    } else {
+        None
     };
-    if !is_long(first) {
-        return ItemWords::One(first);
-    }
-    match memory.fetch(at + 1) {
-        Some(second) => ItemWords::Two(first, second),
-        None => ItemWords::One(first),
-    }
+    Some((first, second))
 }

@@ -2,7 +2,7 @@
 
 ghost use Rattle.std.specs.Prelude.{IfOk, flat_map};
 ghost use Rattle.dvg_account.specs.Told.{told};
-ghost use Rattle.dvg_account.specs.Leaving.{LeavingLines, stand_line};
+ghost use Rattle.dvg_account.specs.Items.{LeavingLines, stand_line};
 ghost use Rattle.dvg_account.specs.Building.{Adds};
 
 use crate::item::RefusedItem;

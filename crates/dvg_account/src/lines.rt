@@ -3,7 +3,7 @@
 ghost use Rattle.std.specs.Prelude.{◌≡◌, ◌++◌, [], Some, IfOk};
 ghost use Rattle.dvg_account.specs.Told.{told, keyed};
 ghost use Rattle.dvg_account.specs.Building.{Adds, Tells};
-ghost use Rattle.dvg_account.specs.Machines.{machine_lines, IsZone};
+ghost use Rattle.dvg_account.specs.Told.{machine_lines, IsZone};
 
 use crate::piece::Piece::{self, Line, Text};
 use crate::piece::Role;

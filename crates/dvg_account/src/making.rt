@@ -2,7 +2,7 @@
 
 ghost use Rattle.std.specs.Prelude.{◌≡◌, option_copied, flat_map, IfOk, OnOk};
 ghost use Rattle.dvg_account.specs.Told.{told, one};
-ghost use Rattle.dvg_account.specs.Making.{made_lines, most_words, most_depth, way_lines, chain_lines, asked_by, caller_told, ring_line, why_lines, maker_why, call_why, frame_of_call, TellsBelow, UnmadeLines, IsCallItem, IsMakerItem};
+ghost use Rattle.dvg_account.specs.Making.{made_lines, most_words, most_depth, way_lines, chain_lines, asked_by, caller_told, ring_line, why_lines, maker_why, frame_of_call, TellsBelow, UnmadeLines, IsCallItem, IsMakerItem};
 ghost use Rattle.dvg_account.specs.Items.{lines_as};
 ghost use Rattle.dvg_account.specs.Chains.{shape_name, shape_steps};
 ghost use Rattle.dvg_account.specs.Building.{Adds, Tells};
@@ -211,36 +211,31 @@ fn push_ring(lines: &mut Lines, shapes: &[ShapeAt])
 fn push_why(lines: &mut Lines, rom: &RomImage, account: &MakeAccount)
     ensures { Adds lines.old lines.new (why_lines rom.now account.now account.now.cause account.now.fault.call) }
 {
+    let at = account.at;
     match (account.cause, account.fault.call) {
         (EntryCause::Memory, _) => {}
         (_, None) => {
             lines.add(&[Line("why")]);
             push_maker_why(lines, rom, account)
         }
-        (_, Some(_)) => {
-            lines.add(&[Line("why")]);
-            push_call_why(lines, rom, account)
-        }
-    }
-}
-
-/// Adds why what a frame's call asks for can't be made.
-fn push_call_why(lines: &mut Lines, rom: &RomImage, account: &MakeAccount)
-    ensures { Adds lines.old lines.new (call_why rom.now account.now account.now.cause) }
-{
-    let at = account.at;
-    match account.cause {
-        EntryCause::Missing if at < RAM_WORDS => lines.add(&[
+        (EntryCause::Missing, Some(_)) if at < RAM_WORDS => lines.add(&[
+            Line("why"),
             Text("word "),
             Address(at),
             Text(" is in vector RAM, and a call into vector RAM is always refused"),
         ]),
-        EntryCause::BeamUnknown | EntryCause::ScaleUnknown => lines.add(&[
+        (EntryCause::BeamUnknown | EntryCause::ScaleUnknown, Some(_)) => lines.add(&[
+            Line("why"),
             Text("no LABS before the call sets the scale, and what it calls draws lit at "),
             Address(at),
         ]),
-        _ => {
-            lines.add(&[Text("what it calls comes to "), Address(at), Text(": ")]);
+        (_, Some(_)) => {
+            lines.add(&[
+                Line("why"),
+                Text("what it calls comes to "),
+                Address(at),
+                Text(": "),
+            ]);
             push_maker_why(lines, rom, account)
         }
     }

@@ -1,7 +1,7 @@
 //! The word that a call outside the ROM may mean.
 
 ghost use Rattle.std.specs.Prelude.{◌≡◌, ◌↔◌, IsTrue, IfOk};
-ghost use Rattle.dvg_account.specs.Meant.{byte_word, is_outside, outside_call, MeansByte, IsMeant, meant_line};
+ghost use Rattle.dvg_account.specs.Making.{byte_word, is_outside, outside_call, MeansByte, IsMeant, meant_line};
 ghost use Rattle.dvg_account.specs.Told.{one};
 ghost use Rattle.dvg_account.specs.Building.{Adds};
 

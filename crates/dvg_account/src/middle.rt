@@ -4,7 +4,7 @@ ghost use Rattle.std.specs.Prelude.{◌≡◌, ◌+◌, IfSome, option_copied};
 ghost use Rattle.dvg_words.specs.Decoding.{cell_at};
 ghost use Rattle.dvg_words.specs.declared.instruction.Cell.TheVariants.{Holds};
 ghost use Rattle.dvg_words.specs.declared.instruction.Format.TheVariants.{Long};
-ghost use Rattle.dvg_account.specs.Middle.{IsMiddle, IsMiddleOf, middle_line};
+ghost use Rattle.dvg_account.specs.Making.{IsMiddle, IsMiddleOf, middle_line};
 ghost use Rattle.dvg_account.specs.Told.{one};
 ghost use Rattle.dvg_account.specs.Building.{Adds};
 

@@ -46,8 +46,10 @@ pub enum Piece {
     /// A scale that is known, or that it is not.
     Scale(Key),
     Point(Point),
-    /// The corner that is past an edge of this, where the edge is, and by how much.
-    Past(Leaving, Bounds),
+    /// The corner that is past an edge of the window, where the edge is, and by how much.
+    PastWindow(Leaving),
+    /// The same of an edge of the claimed box.
+    PastBox(Leaving),
     /// The coordinates between which a box lies.
     Within(LitBox),
     Distance(u64),
@@ -83,11 +85,4 @@ impl Role {
             Role::Stop => Piece::There(key),
         }
     }
-}
-
-/// What has edges.
-#[derive(Clone, Copy)]
-pub enum Bounds {
-    Window,
-    ClaimedBox,
 }

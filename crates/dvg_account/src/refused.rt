@@ -10,7 +10,7 @@ ghost use Rattle.dvg_make.specs.Made.{HasEntry};
 ghost use Rattle.dvg_account.specs.Told.{told, Line};
 ghost use Rattle.dvg_account.specs.Refused.{FrameLines, IsFurthest, ShapeLines, TellsChain, TellsBesideFrame, TellsBesideShape, frame_cure, key_at, keys_at};
 ghost use Rattle.dvg_account.specs.Items.{callee_of};
-ghost use Rattle.dvg_account.specs.Machines.{other_machine_lines};
+ghost use Rattle.dvg_account.specs.Refused.{other_machine_lines};
 ghost use Rattle.dvg_account.specs.Building.{Adds, Tells};
 
 use crate::accepted::{board_answer, push_board};

@@ -3,11 +3,52 @@
 use crate::beginnings::{Beginning, Beginnings};
 use crate::inputs::Inputs;
 use crate::piece::Piece::{self, Address, Line, Name, Number, Text};
-use crate::shape_items::from_address;
-use crate::shape_walk::ShapeWalk;
-use dvg_cert::{Cert, Entries, Key};
+use crate::shape_items::{ShapeItems, from_address};
+use dvg_cert::{Cert, Entries, Entry, Key};
+use dvg_survey::is_faint;
 use dvg_words::RomImage;
 use std::alloc::{AllocError, Global};
+
+/// What is noted of the items of an entry's shape.
+#[derive(Clone, Copy)]
+struct ShapeWalk {
+    /// The word address of the first lit draw at an effective scale of 10 to 15, and how many there are.
+    first_faint: Option<u16>,
+    faint: usize,
+    /// The word address to which the shape runs on, where something else begins: the first other shape, or without one the first
+    /// label.
+    into: Option<(u16, Beginning)>,
+}
+
+impl ShapeWalk {
+    /// The walk over the shape of an entry. `later` are the entries of its certificate that begin behind it, and maybe some before.
+    fn over<E: Entries>(
+        entries: &E,
+        entry: &Entry,
+        later: &[Entry],
+        beginnings: &Beginnings,
+    ) -> ShapeWalk {
+        let mut walk = ShapeWalk {
+            first_faint: None,
+            faint: 0,
+            into: None,
+        };
+        let mut items = ShapeItems::of(entry, later);
+        while let Some(next) = items.next(entries, beginnings) {
+            if is_faint(&next.item.instr, next.scale) {
+                walk.first_faint = walk.first_faint.or(Some(next.item.at));
+                walk.faint = walk.faint.saturating_add(1);
+            }
+            match (walk.into, next.meets) {
+                (_, None)
+                | (Some((_, Beginning::Entry)), _)
+                | (Some(_), Some((_, Beginning::Label))) => {}
+                (_, meets) => walk.into = meets,
+            }
+        }
+        walk
+    }
+}
 
 /// The lines of what is remarked on a frame, whose faint draws stand at these word addresses, and on the shapes of a certificate over a
 /// ROM, by the labels and the other frames of these inputs.

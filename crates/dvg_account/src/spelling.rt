@@ -3,7 +3,7 @@
 ghost use Rattle.std.specs.Prelude.{◌≡◌};
 ghost use Rattle.dvg_words.specs.Beam.{signed_field};
 
-use crate::piece::{Bounds, Piece};
+use crate::piece::Piece;
 use crate::swapped::Swapped;
 use crate::text::Text;
 use dvg_check::{Edge, Leaving, Yes};
@@ -112,7 +112,8 @@ fn push_piece(text: &mut Text, telling: Telling, piece: &Piece) {
         Piece::Place(place) => text.push_place(*place),
         Piece::Scale(scale) => text.push_scale(*scale),
         Piece::Point(point) => text.push_point(point.x, point.y),
-        Piece::Past(leaving, bounds) => push_past(text, leaving, *bounds),
+        Piece::PastWindow(leaving) => push_past(text, leaving, " edge of the window, "),
+        Piece::PastBox(leaving) => push_past(text, leaving, " edge of the claimed box, "),
         Piece::Within(lit) => text.push_extent(lit),
         Piece::Distance(distance) => text.push_distance(*distance),
         Piece::Rule(number) => push_rule(text, telling, *number),
@@ -270,8 +271,8 @@ fn push_fields(text: &mut Text, scale: u8, y: i16, intensity: u8, x: i16) {
     text.push_number(", X ", x);
 }
 
-/// A corner, which edge it is past, where the edge is, and by how much.
-fn push_past(text: &mut Text, leaving: &Leaving, bounds: Bounds) {
+/// A corner, which edge it is past, of what, where the edge is, and by how much.
+fn push_past(text: &mut Text, leaving: &Leaving, edge_of: &str) {
     let Leaving { corner, edge, by } = *leaving;
     let size = i64::try_from(by).unwrap_or(i64::MAX);
     let (past, at) = match edge {
@@ -282,10 +283,7 @@ fn push_past(text: &mut Text, leaving: &Leaving, bounds: Bounds) {
     };
     text.push_point(corner.x, corner.y);
     text.push(past);
-    text.push(match bounds {
-        Bounds::Window => " edge of the window, ",
-        Bounds::ClaimedBox => " edge of the claimed box, ",
-    });
+    text.push(edge_of);
     text.push(match edge {
         Edge::Left | Edge::Right => "X ",
         Edge::Bottom | Edge::Top => "Y ",

@@ -1,16 +1,16 @@
 //! Whether inputs that are refused are accepted with the bytes of each word swapped.
 
-ghost use Rattle.std.specs.Prelude.{◌≡◌, length, Ok, IfOk, IfSome};
-ghost use Rattle.dvg_words.specs.Memory.{IsRomLength, rom_on, words_of};
-ghost use Rattle.dvg_make.specs.Judging.{VerdictByMade};
+ghost use Rattle.std.specs.Prelude.{◌≡◌, Some, Ok, IfOk, IfSome};
+ghost use Rattle.dvg_words.specs.Memory.{words_of};
+ghost use Rattle.dvg_account.specs.Accepted.{IsOwnAnswer};
 ghost use Rattle.dvg_check.specs.Verdict.{InRange, RomVerdict};
 ghost use Rattle.dvg_account.specs.Swapped.{swapped, IsAcceptedSwapped, AreAccepted};
 
+use crate::accepted::own_answer;
 use crate::inputs::Inputs;
 use dvg_cert::Cert;
 use dvg_check::{Refusal, Yes, check_rom, frame_of};
-use dvg_make::{FrameRefusal, judge};
-use dvg_words::{RomImage, RomMap};
+use dvg_words::RomMap;
 use std::alloc::{AllocError, Global};
 
 /// Of which input the two bytes of each word are swapped.
@@ -66,12 +66,29 @@ fn accepted(
     rom: &[u8],
     frame: &[u8],
 ) -> Result<Option<Yes>, AllocError>
-    ensures { IfOk result (λ counts. IfSome counts (AreAccepted inputs.now rom.now frame.now)) }
+    ensures { IfOk result (λ counts. IfSome counts (AreAccepted inputs.now inputs.now.cert inputs.now.map rom.now frame.now)) }
 {
     match (inputs.cert, inputs.map) {
         (Some(cert), _) => accepted_by(alloc, inputs, cert, rom, frame),
         (None, Some(map)) => accepted_own(alloc, inputs, map, rom, frame),
         (None, None) => Ok(None),
+    }
+}
+
+/// Their counts, if they are accepted by the frame's own certificate, where the ROM lies here.
+fn accepted_own(
+    alloc: Global,
+    inputs: &Inputs,
+    map: RomMap,
+    rom: &[u8],
+    frame: &[u8],
+) -> Result<Option<Yes>, AllocError>
+    ensures { IfOk result (λ counts. IfSome counts (λ yes.
+        IsOwnAnswer inputs.now.machine inputs.now map rom.now frame.now (Some (Ok yes)))) }
+{
+    match own_answer(inputs.machine, alloc, inputs, map, rom, frame)? {
+        Some(Ok(yes)) => Ok(Some(yes)),
+        _ => Ok(None),
     }
 }
 
@@ -85,8 +102,7 @@ fn accepted_by(
 ) -> Result<Option<Yes>, AllocError>
     ensures range { IfOk result (λ counts. IfSome counts (λ _. InRange frame.now inputs.now.budget)) }
     ensures yes { IfOk result (λ counts. IfSome counts (λ yes. RomVerdict inputs.now.machine inputs.now.mode inputs.now.window
-        rom.now cert.now
-        (words_of frame.now) inputs.now.budget (Ok yes))) }
+        rom.now cert.now (words_of frame.now) inputs.now.budget (Ok yes))) }
 {
     let Inputs {
         machine,
@@ -101,32 +117,6 @@ fn accepted_by(
     match check_rom(machine, alloc, rom, &frame, cert, budget, window, mode) {
         Ok(yes) => Ok(Some(yes)),
         Err(Refusal::IndexMemory) => Err(AllocError),
-        Err(_) => Ok(None),
-    }
-}
-
-/// Their counts, if they are accepted by the frame's own certificate, where the ROM lies here.
-fn accepted_own(
-    alloc: Global,
-    inputs: &Inputs,
-    map: RomMap,
-    rom: &[u8],
-    frame: &[u8],
-) -> Result<Option<Yes>, AllocError>
-    ensures range { IfOk result (λ counts. IfSome counts (λ _. InRange frame.now inputs.now.budget)) }
-    ensures rom { IfOk result (λ counts. IfSome counts (λ _. IsRomLength map (length rom.now))) }
-    ensures yes { IfOk result (λ counts. IfSome counts (λ yes. VerdictByMade (rom_on inputs.now.machine map rom.now) (words_of frame.now)
-        inputs.now.window inputs.now.budget (Ok yes))) }
-{
-    let Ok(rom) = RomImage::from_bytes_on(inputs.machine, rom, map) else {
-        return Ok(None);
-    };
-    let Ok(frame) = frame_of(frame, inputs.budget) else {
-        return Ok(None);
-    };
-    match judge(alloc, &rom, &frame, inputs.budget, inputs.window) {
-        Ok(yes) => Ok(Some(yes)),
-        Err(FrameRefusal::NoMemory | FrameRefusal::Check(Refusal::IndexMemory)) => Err(AllocError),
         Err(_) => Ok(None),
     }
 }

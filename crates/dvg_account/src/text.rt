@@ -155,10 +155,7 @@ impl<'a> Text<'a> {
 
     /// A key as a certificate spells it.
     pub fn push_key(&mut self, key: Key) {
-        match key {
-            Key::At(scale) => self.push_decimal(scale),
-            Key::Any => self.push("any"),
-        }
+        self.push_scale_or(key, "any");
     }
 
     /// The name of an entry: its address and its key.
@@ -225,9 +222,14 @@ impl<'a> Text<'a> {
 
     /// A scale that is known, or that it is not.
     pub fn push_scale(&mut self, scale: Key) {
+        self.push_scale_or(scale, "unknown");
+    }
+
+    /// A scale, or else these words.
+    fn push_scale_or(&mut self, scale: Key, any: &str) {
         match scale {
             Key::At(scale) => self.push_decimal(scale),
-            Key::Any => self.push("unknown"),
+            Key::Any => self.push(any),
         }
     }
 

@@ -7,7 +7,7 @@ use crate::spelling::{CertificateOf, text_of};
 use crate::swapped::{Swapped, find_swapped};
 use crate::text::Text;
 use crate::time::{slow_lines, time_lines};
-use crate::verdicts::{frame_lines, own_lines};
+use crate::verdicts::{own_lines, verdict_lines};
 use dvg_cert::Cert;
 use dvg_check::{Finding, Refusal, Yes};
 use dvg_clocks::{FrameTime, TimedJudging, TimedRefusal};
@@ -44,7 +44,7 @@ pub fn verdict_text(
     text_by(alloc, CertificateOf::User, inputs, &verdict, cause)
 }
 
-/// The account of [`frame_lines`] as a text. Of a refusal because of an item, or by the maker, it tells first what [`find_swapped`]
+/// The account of [`verdict_lines`] of a frame as a text. Of a refusal because of an item, or by the maker, it tells first what [`find_swapped`]
 /// finds.
 pub fn frame_text(
     alloc: Global,
@@ -67,7 +67,7 @@ fn text_by(
     verdict: &Result<Yes, FrameRefusal>,
     cause: Option<&Finding>,
 ) -> Result<String, AllocError> {
-    let lines = frame_lines(alloc, inputs, verdict, cause)?;
+    let lines = verdict_lines(alloc, inputs, verdict, cause)?;
     let swapped = swapped_for(alloc, inputs, verdict)?;
     text_of(alloc, cert, swapped, &lines, inputs.labels)
 }

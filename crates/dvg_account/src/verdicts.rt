@@ -4,24 +4,25 @@ ghost use Rattle.std.specs.Prelude.{◌≡◌, IfOk, option_copied};
 ghost use Rattle.dvg_account.specs.Plain.{plain_lines};
 ghost use Rattle.dvg_account.specs.declared.inputs.PlainWhy.TheVariants.{Nothing};
 ghost use Rattle.dvg_account.specs.Told.{told};
-ghost use Rattle.dvg_account.specs.Verdicts.{FrameVerdictLines, JudgedLines, LinesBy, OwnLines, VerdictLines};
+ghost use Rattle.dvg_account.specs.Verdicts.{JudgedLines, LinesBy, OwnLines, VerdictLines};
 
 use crate::accepted::accepted_lines;
 use crate::inputs::{Inputs, PlainWhy, plain_lines};
 use crate::making::unmade_lines;
 use crate::piece::Piece;
 use crate::refused::refused_lines;
-use dvg_check::{Finding, Mode, Refusal, Yes};
+use dvg_check::{Finding, Mode, Yes};
 use dvg_make::{EntryCause, FrameRefusal, JudgedFrame, MakeAccount, MakeFault};
 use dvg_words::{FrameImage, RomImage};
 use std::alloc::{AllocError, Global};
 use std::slice;
 
-/// The lines of a verdict on these inputs (this project's own). A refusal because of an item has a cause.
+/// The lines of a verdict on these inputs (this project's own). A refusal because of an item has a cause. A refusal of the maker has the
+/// lines of one for memory: `own_lines` has its own.
 pub fn verdict_lines(
     alloc: Global,
     inputs: &Inputs,
-    verdict: &Result<Yes, Refusal>,
+    verdict: &Result<Yes, FrameRefusal>,
     cause: Option<&Finding>,
 ) -> Result<Vec<Piece>, AllocError>
     ensures { IfOk result (λ lines. VerdictLines inputs.now verdict.now (option_copied cause.entry) (told lines.items)) }
@@ -34,23 +35,9 @@ pub fn verdict_lines(
     let (rom, frame) = (rom.as_ref(), frame.as_ref());
     match verdict {
         Ok(yes) => accepted_lines(alloc, inputs, rom, frame, *yes),
-        Err(refusal) => refused_lines(alloc, inputs, rom, frame, refusal, cause),
-    }
-}
-
-/// The lines of a verdict on a frame (this project's own). A refusal because of an item has a cause. A
-/// refusal of the maker has the lines of one for memory: `own_lines` has its own.
-pub fn frame_lines(
-    alloc: Global,
-    inputs: &Inputs,
-    verdict: &Result<Yes, FrameRefusal>,
-    cause: Option<&Finding>,
-) -> Result<Vec<Piece>, AllocError>
-    ensures { IfOk result (λ lines. FrameVerdictLines inputs.now verdict.now (option_copied cause.entry) (told lines.items)) }
-{
-    match verdict {
-        Ok(yes) => verdict_lines(alloc, inputs, &Ok(*yes), None),
-        Err(FrameRefusal::Check(refusal)) => { verdict_lines(alloc, inputs, &Err(*refusal), cause) }
+        Err(FrameRefusal::Check(refusal)) => {
+            refused_lines(alloc, inputs, rom, frame, refusal, cause)
+        }
         Err(_) => memory_lines(alloc, inputs),
     }
 }

@@ -1,14 +1,14 @@
 //! The sentences that tell why an item is refused.
 
-ghost use Rattle.std.specs.Prelude.{◌≡◌};
+ghost use Rattle.std.specs.Prelude.{◌≡◌, ◌++◌};
+ghost use Rattle.dvg_account.specs.Told.{number, one};
 ghost use Rattle.dvg_account.specs.Items.{words_at};
-ghost use Rattle.dvg_account.specs.Why.{frame_why, shape_why, claim_why, missing_word, odd_field, odd_fields, odd_labs, no_entry, leaves_box, words_with, words_over, past};
+ghost use Rattle.dvg_account.specs.Why.{frame_why, shape_why, claim_why, missing_word, odd_field, odd_labs, no_entry, leaves_box, words_with, words_over, past_window};
 ghost use Rattle.dvg_account.specs.Building.{Adds};
 
-use crate::item::{ItemWords, words_at};
+use crate::item::words_at;
 use crate::lines::Lines;
-use crate::piece::Bounds;
-use crate::piece::Piece::{self, Address, Number, Past, Place, Scale, Text};
+use crate::piece::Piece::{self, Address, Number, PastBox, PastWindow, Place, Scale, Text};
 use dvg_cert::{End, Entry, Key};
 use dvg_check::{BoxLeaving, Found, FrameCause, FrameFinding, Leaving, ShapeCause, ShapeFinding};
 use dvg_items::{LitExtent, Seen};
@@ -57,17 +57,18 @@ fn odd_field(word: u16) -> Option<u16>
 pub fn push_odd<F: Fetch>(lines: &mut Lines, memory: &F, at: u16)
     ensures { Adds lines.old lines.new (odd_labs (words_at (F.words memory.now) at)) }
 {
-    let (y, x) = match words_at(memory, at) {
-        ItemWords::Nothing => (None, None),
-        ItemWords::One(first) => (odd_field(first), None),
-        ItemWords::Two(first, second) => (odd_field(first), odd_field(second)),
-    };
-    push_odd_fields(lines, y, x);
+    match words_at(memory, at) {
+        None => {}
+        Some((first, None)) => push_odd_fields(lines, odd_field(first), None),
+        Some((first, Some(second))) => {
+            push_odd_fields(lines, odd_field(first), odd_field(second))
+        }
+    }
 }
 
 /// Adds these fields of a LABS, which are over 1023.
 fn push_odd_fields(lines: &mut Lines, y: Option<u16>, x: Option<u16>)
-    ensures { Adds lines.old lines.new (odd_fields y x) }
+    ensures { Adds lines.old lines.new (one number y ++ one number x) }
 {
     let most = Text(", at most 1023");
     match (y, x) {
@@ -144,11 +145,11 @@ fn corner(found: &Found, point: Point) -> &'static str {
     }
 }
 
-/// Adds which corner of what an item lights is past an edge.
-fn push_past(lines: &mut Lines, found: &Found, leaving: Leaving, bounds: Bounds)
-    ensures { Adds lines.old lines.new (past leaving bounds) }
+/// Adds which corner of what an item lights is past an edge of the window.
+fn push_past(lines: &mut Lines, found: &Found, leaving: Leaving)
+    ensures { Adds lines.old lines.new (past_window leaving) }
 {
-    lines.add(&[Text(corner(found, leaving.corner)), Past(leaving, bounds)]);
+    lines.add(&[Text(corner(found, leaving.corner)), PastWindow(leaving)]);
 }
 
 /// Adds how the claimed box is left.
@@ -161,7 +162,9 @@ fn push_leaves_box(lines: &mut Lines, found: &Found, leaving: BoxLeaving)
             Piece::Point(at),
             Text(" is lit, and the entry claims box none"),
         ]),
-        BoxLeaving::Past(leaving) => push_past(lines, found, leaving, Bounds::ClaimedBox),
+        BoxLeaving::Past(leaving) => {
+            lines.add(&[Text(corner(found, leaving.corner)), PastBox(leaving)])
+        }
     }
 }
 
@@ -248,7 +251,7 @@ pub fn push_frame_why(
         ]),
         FrameCause::BeamUnknown => lines.add(&[Text(lost_place(found))]),
         FrameCause::ScaleUnknown => lines.add(&[Text(AT_UNKNOWN_SCALE)]),
-        FrameCause::OffScreen(leaving) => push_past(lines, found, leaving, Bounds::Window),
+        FrameCause::OffScreen(leaving) => push_past(lines, found, leaving),
         FrameCause::NoEntry { to, scale } => push_no_entry(lines, to, scale),
         FrameCause::Budget(over) => {
             let words = words_with(found);
@@ -277,7 +280,7 @@ pub fn push_shape_why(lines: &mut Lines, finding: &ShapeFinding, rom: &RomImage)
         ShapeCause::HaltInShape => lines.add(&[Text(HALT_IN_SHAPE)]),
         ShapeCause::BeamUnknown => lines.add(&[Text(lost_place(found))]),
         ShapeCause::ScaleUnknown => lines.add(&[Text(AT_UNKNOWN_SCALE)]),
-        ShapeCause::OffScreen(leaving) => push_past(lines, found, leaving, Bounds::Window),
+        ShapeCause::OffScreen(leaving) => push_past(lines, found, leaving),
         ShapeCause::NoEntry { to, scale } => push_no_entry(lines, to, scale),
         ShapeCause::BoxTooSmall(leaving) => push_leaves_box(lines, found, leaving),
         claim => push_claim(lines, claim, &finding.entry, words_with(found)),

@@ -1,6 +1,6 @@
 //! The items that lead to an item: the one right before it, and zeros.
 
-use crate::item::{ItemWords, words_at};
+use crate::item::words_at;
 use dvg_items::{Item, Items, Kind};
 use dvg_words::Fetch;
 
@@ -50,17 +50,14 @@ impl Way {
 
 /// Whether a VCTR of zeros stands at an address, or its first word alone where there is no second.
 fn are_zeros<F: Fetch>(words: &F, at: u16) -> bool {
-    matches!(
-        words_at(words, at),
-        ItemWords::One(0) | ItemWords::Two(0, 0)
-    )
+    matches!(words_at(words, at), Some((0, None | Some(0))))
 }
 
 /// The last of the zeros that lead to the item at a word address: its own last word if it is of zeros, or the word before it.
 fn last_zero<F: Fetch>(words: &F, at: u16) -> u16 {
     match words_at(words, at) {
-        ItemWords::One(0) => at,
-        ItemWords::Two(0, 0) => at.saturating_add(1),
+        Some((0, None)) => at,
+        Some((0, Some(0))) => at.saturating_add(1),
         _ => at.saturating_sub(1),
     }
 }

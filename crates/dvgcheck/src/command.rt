@@ -45,15 +45,6 @@ pub enum FrameNames<'a> {
     Records(Vec<Named<'a>>, RecordLength),
 }
 
-/// What is written behind the line of a frame.
-#[derive(Clone, Copy)]
-pub enum Wanted<'a> {
-    /// What the detail asks for.
-    Answer(Detail<'a>),
-    /// The remarks on an accepted frame.
-    Remarks,
-}
-
 /// What is asked of frames, whatever frames they are, and what is written of them.
 #[derive(Drop)]
 pub struct Asked<'a> {
@@ -61,25 +52,26 @@ pub struct Asked<'a> {
     pub certificates: Certificates<'a>,
     pub options: FrameOptions,
     pub labels: Option<&'a Labels>,
-    pub listing: Listing<Wanted<'a>>,
+    /// With the detail of answers, or `None` where remarks on accepted frames are wanted in their place.
+    pub listing: Listing<Option<Detail<'a>>>,
 }
 
 impl<'a> Asked<'a> {
     /// Whether accounts are written.
     pub fn has_account(&self) -> bool {
-        matches!(self.listing.detail, Wanted::Answer(Detail::Account(_)))
+        matches!(self.listing.detail, Some(Detail::Account(_)))
     }
 }
 
 /// What is written of frames, where remarks are found so.
 pub fn listing_by<'a>(
-    wanted: Listing<Wanted<'a>>,
+    wanted: Listing<Option<Detail<'a>>>,
     remarking: &'a Remarking<'a>,
 ) -> Listing<FrameDetail<'a>> {
     Listing {
         detail: match wanted.detail {
-            Wanted::Answer(detail) => FrameDetail::Answer(detail),
-            Wanted::Remarks => FrameDetail::Remarks(remarking),
+            Some(detail) => FrameDetail::Answer(detail),
+            None => FrameDetail::Remarks(remarking),
         },
         lines: wanted.lines,
         summary: wanted.summary,
@@ -355,9 +347,9 @@ impl<'a> Arguments<'a> {
             None => Certificates::Made(map, self.clocks()?),
         };
         let wanted = if self.matches.get_flag("remarks") {
-            Wanted::Remarks
+            None
         } else {
-            Wanted::Answer(self.detail())
+            Some(self.detail())
         };
         let asked = Asked {
             rom: self.file("ROM"),

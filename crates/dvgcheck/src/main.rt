@@ -26,10 +26,10 @@ mod together;
 use command::{Arguments, Asked, Certificates, MakeArgs, Named, listing_by};
 use dvg_cmd::{
     ASTEROIDS, ClockOptions, Counted, CountedRead, CountedWrite, KeptCertificates, Labels,
-    MakeAnswer, MakeRunFault, NamedReader, Outcome, OwnCertificates, Remarking, RomMap, Rule,
-    RunFault, ShapeStarts, TimedCertificates, Window, all_rules, load_cert, load_rom,
-    make_status_of, message_of, run_check_in, run_comparison, run_explain_diff, run_explain_make,
-    run_frames, run_frames_given, run_make_frames, run_places, run_rule, run_rules, status_of,
+    MakeRunFault, NamedReader, Outcome, OwnCertificates, Remarking, RomMap, Rule, RunFault,
+    ShapeStarts, TimedCertificates, Window, all_rules, load_cert, load_rom, make_status_of,
+    message_of, run_check_in, run_comparison, run_explain_diff, run_explain_make, run_frames,
+    run_frames_given, run_make_frames, run_places, run_rule, run_rules, status_of,
     write_make_answer, write_make_fault, write_message, write_text,
 };
 use input::{Input, Source};
@@ -312,14 +312,15 @@ fn compare_dumps(
     )
 }
 
-/// Opens the files as [`make`] does, and answers the maker's answer with its account.
-fn make_answer(
+/// Opens the files as [`make`] does, writes the maker's answer with its account, and answers the exit status.
+#[inline(never)]
+fn explain_make(
     rt: &HostRuntime,
     args: &MakeArgs,
     labels: Option<&Labels>,
-) -> Result<MakeAnswer, MakeRunFault> {
+) -> Result<u8, MakeRunFault> {
     let (mut rom, mut frames) = open_all(rt, args)?;
-    run_explain_make(
+    let answer = run_explain_make(
         args.machine,
         rt.alloc(),
         &mut rom,
@@ -327,17 +328,7 @@ fn make_answer(
         &args.roots,
         &mut frames,
         labels,
-    )
-}
-
-/// Writes the maker's answer with its account, and answers the exit status.
-#[inline(never)]
-fn explain_make(
-    rt: &HostRuntime,
-    args: &MakeArgs,
-    labels: Option<&Labels>,
-) -> Result<u8, MakeRunFault> {
-    let answer = make_answer(rt, args, labels)?;
+    )?;
     let name = name_of(&args.frames, answer.frame());
     let end = write_make_answer(name, &answer, &mut standard_output(rt));
     Ok(tell_end(rt, &end))

@@ -1,6 +1,7 @@
 //! The options of the subcommands.
 
 use crate::form::Form;
+use crate::subcommand::Task;
 use clap::{Arg, arg, value_parser};
 use dvg_cmd::MOST_WORDS;
 use std::alloc::{AllocError, Global};
@@ -37,21 +38,13 @@ use CommandOption::{
     Print, Records, Remarks, Start, Summary, Window, Within,
 };
 
-/// What a subcommand is about. Recipes always take the board.
-#[derive(Clone, Copy)]
-pub enum Subject {
-    Frames,
-    Recipes,
-}
-
 impl CommandOption {
-    /// The option of a subcommand about this, as `clap` takes it.
-    pub fn arg<'a>(self, alloc: Global, subject: Subject) -> Result<Arg<'a>, AllocError> {
-        let arg = match subject {
-            Subject::Frames => self.text(alloc),
-            Subject::Recipes => self.text_of_recipes(alloc),
-        };
-        self.bounded(subject, arg)
+    /// The option of this task, as `clap` takes it.
+    pub fn arg<'a>(self, alloc: Global, task: Task) -> Result<Arg<'a>, AllocError> {
+        match task {
+            Task::Recipe | Task::Belongs => self.bounded(self.text_of_recipes(alloc)),
+            _ => self.bounded(self.bounded_of_frames(self.text(alloc))?),
+        }
     }
 
     /// Its names, how the help names its value, and what it says of the option.
@@ -75,34 +68,29 @@ impl CommandOption {
             List =>
                 arg!(in alloc; --list <FILE> "Judges the frames that this file names, one a line, in place of FRAME"),
             Map => arg!(in alloc; --rom <MAP>
-                "The word addresses of the ROM's first and last word, within 400 to BFF [default: 800/BFF]")
-            .value_name(Form::Map.pattern()),
+                "The word addresses of the ROM's first and last word, within 400 to BFF [default: 800/BFF]"),
             Null => arg!(in alloc; --null "Names in the list end with NUL, not LF"),
             Output => arg!(in alloc; -o --output <FILE>
                 "Writes the certificate to this file, which keeps what it holds until the new one is whole"),
             Print =>
                 arg!(in alloc; --print <RECIPE> "Prints the one spelling of this recipe, in place of judging any"),
             Records => arg!(in alloc; --records <LENGTH>
-                "Takes each FRAME as records of so many bytes, one behind another, each of which is a frame")
-            .value_name(Form::Records.pattern()),
+                "Takes each FRAME as records of so many bytes, one behind another, each of which is a frame"),
             OnlyBad => arg!(in alloc; --"only-refused" "Leaves out the lines of accepted frames"),
             Remarks =>
                 arg!(in alloc; --remarks "Writes remarks on accepted frames, each as a line"),
             Start => arg!(in alloc; --start <START>
-                "Judges each frame as though its word 000 were the jump to this word address, or to this label of --labels")
-            .value_name(Form::Start.pattern()),
+                "Judges each frame as though its word 000 were the jump to this word address, or to this label of --labels"),
             Summary =>
                 arg!(in alloc; --summary "Ends with a line that counts the frames by what is said of them"),
             Window => arg!(in alloc; --window <WINDOW>
-                "Where the screen may be lit: from X0 to X1 across, from Y0 to Y1 up [default: 0,1023,0,1023]")
-            .value_name(Form::Window.pattern()),
+                "Where the screen may be lit: from X0 to X1 across, from Y0 to Y1 up [default: 0,1023,0,1023]"),
             Within => arg!(in alloc; --within <LIMIT>
-                "Refuses frames that may take the board more than so many milliseconds to draw")
-            .value_name(Form::Within.pattern()),
+                "Refuses frames that may take the board more than so many milliseconds to draw"),
         }
     }
 
-    /// The same of a subcommand about recipes.
+    /// The same of a task about recipes.
     fn text_of_recipes<'a>(self, alloc: Global) -> Arg<'a> {
         match self {
             Board =>
@@ -116,29 +104,40 @@ impl CommandOption {
             Output => arg!(in alloc; -o --output <FRAME>
                 "Writes a frame that shows why the recipe is refused to this file, which keeps what it holds if there is none"),
             Within => arg!(in alloc; --within <LIMIT>
-                "Refuses recipes of which some frame may take the board more than so many milliseconds to draw")
-            .value_name(Form::Within.pattern()),
+                "Refuses recipes of which some frame may take the board more than so many milliseconds to draw"),
             _ => self.text(alloc),
         }
     }
 
-    /// With what bounds its value, and which options it requires or conflicts with.
-    fn bounded<'a>(self, subject: Subject, arg: Arg<'a>) -> Result<Arg<'a>, AllocError> {
-        match (self, subject) {
-            (Budget, _) => {
-                Ok(arg.value_parser(value_parser!(u32).range(1..=i64::from(MOST_WORDS))))
-            }
-            (Cert, _) => arg.conflicts_with("rom"),
-            (Clip, Subject::Frames) => arg.conflicts_with("window")?.requires_arg("board"),
-            (Clip, Subject::Recipes) => arg.conflicts_with("window"),
-            (Clocks | Within, Subject::Frames) => arg.requires_arg("board")?.conflicts_with("cert"),
-            (Null, _) => arg.requires_arg("list")?.conflicts_with("FRAME"),
-            (Print, _) => {
+    /// With the form of its value or what bounds it, and which options it requires or conflicts with.
+    fn bounded<'a>(self, arg: Arg<'a>) -> Result<Arg<'a>, AllocError> {
+        match self {
+            Map => Ok(arg.value_name(Form::Map.pattern())),
+            Start => Ok(arg.value_name(Form::Start.pattern())),
+            Window => Ok(arg.value_name(Form::Window.pattern())),
+            Within => Ok(arg.value_name(Form::Within.pattern())),
+            Budget => Ok(arg.value_parser(value_parser!(u32).range(1..=i64::from(MOST_WORDS)))),
+            Cert => arg.conflicts_with("rom"),
+            Clip => arg.conflicts_with("window"),
+            Null => arg.requires_arg("list")?.conflicts_with("FRAME"),
+            Print => {
                 arg.conflicts_with("ROM")?
                     .conflicts_with("RECIPE")?
                     .conflicts_with("output")
             }
-            (Records, _) => arg.conflicts_with("list"),
+            Records => {
+                arg.value_name(Form::Records.pattern())
+                    .conflicts_with("list")
+            }
+            _ => Ok(arg),
+        }
+    }
+
+    /// With what it requires or conflicts with in a task about frames besides. Recipes always take the board.
+    fn bounded_of_frames<'a>(self, arg: Arg<'a>) -> Result<Arg<'a>, AllocError> {
+        match self {
+            Clip => arg.requires_arg("board"),
+            Clocks | Within => arg.requires_arg("board")?.conflicts_with("cert"),
             _ => Ok(arg),
         }
     }

@@ -1,10 +1,10 @@
 //! The subcommands, and what `clap` knows of them.
 
+use crate::options::CommandOption;
 use crate::options::CommandOption::{
     Board, Budget, Cert, Clip, Clocks, Exact, Frame, Labels, List, Map, Null, OnlyBad, Output,
     Print, Records, Remarks, Start, Summary, Window, Within,
 };
-use crate::options::{CommandOption, Subject};
 use clap::{Arg, Command, value_parser};
 use std::alloc::{AllocError, Global};
 
@@ -248,14 +248,6 @@ impl Task {
         }
     }
 
-    /// What it is about.
-    fn subject(self) -> Subject {
-        match self {
-            Task::Recipe | Task::Belongs => Subject::Recipes,
-            _ => Subject::Frames,
-        }
-    }
-
     /// What the help says behind its arguments and options.
     fn after_help<'a>(self) -> &'a str {
         match self {
@@ -268,7 +260,6 @@ impl Task {
 impl<'a> Syntax<'a> {
     /// Its command, with its arguments and these of its options.
     fn command(&self, alloc: Global, options: &[CommandOption]) -> Result<Command<'a>, AllocError> {
-        let subject = self.task.subject();
         let mut command = Command::new(alloc, self.task.name())
             .about(self.about)
             .after_help(self.task.after_help());
@@ -276,7 +267,7 @@ impl<'a> Syntax<'a> {
             command = command.arg(argument.arg(alloc)?)?;
         }
         for option in options {
-            command = command.arg(option.arg(alloc, subject)?)?;
+            command = command.arg(option.arg(alloc, self.task)?)?;
         }
         Ok(command)
     }

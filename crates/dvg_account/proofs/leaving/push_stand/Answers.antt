@@ -1,5 +1,5 @@
 use Rattle.dvg_account.proofs.Building.{each}
-use Rattle.dvg_account.specs.Leaving.{stand_line}
+use Rattle.dvg_account.specs.Items.{stand_line}
 use Rattle.dvg_account.proofs.leaving.push_stand.Goals as goal
 
 pub loop-line-preserved : goal.loop-line-preserved

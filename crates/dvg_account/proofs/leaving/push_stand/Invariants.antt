@@ -1,6 +1,6 @@
 use Rattle.dvg_account.proofs.Common.{take, flat_map}
 use Rattle.dvg_account.specs.Building.{Adds}
-use Rattle.dvg_account.specs.Leaving.{stand_line}
+use Rattle.dvg_account.specs.Items.{stand_line}
 use Rattle.dvg_account.proofs.leaving.push_stand.Given as goal
 
 abbrev pub invariant-loop-line : goal.invariant-loop-line

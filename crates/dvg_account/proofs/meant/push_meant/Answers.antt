@@ -1,6 +1,6 @@
 use Rattle.dvg_account.proofs.Common.{ap, sym}
 use Rattle.dvg_account.specs.Told.{one}
-use Rattle.dvg_account.specs.Meant.{meant_line}
+use Rattle.dvg_account.specs.Making.{meant_line}
 use Rattle.dvg_account.proofs.Building.{told_as}
 use Rattle.dvg_account.proofs.meant.push_meant.Goals as goal
 

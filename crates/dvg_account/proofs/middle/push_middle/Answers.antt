@@ -1,6 +1,6 @@
 use Rattle.dvg_account.proofs.Common.{ap, sym}
 use Rattle.dvg_account.specs.Told.{one}
-use Rattle.dvg_account.specs.Middle.{middle_line}
+use Rattle.dvg_account.specs.Making.{middle_line}
 use Rattle.dvg_account.proofs.Building.{told_as}
 use Rattle.dvg_account.proofs.middle.push_middle.Goals as goal
 

@@ -1,11 +1,11 @@
-use Rattle.dvg_account.proofs.Common.{ap, rules, ◌∙◌, frame_word, Frame, IsItem, rule_and_why}
+use Rattle.dvg_account.proofs.Common.{ap, rules, ◌∙◌, frame_word, Frame, IsItem, Some, rule_and_why}
 use Rattle.dvg_account.proofs.Building.{then, told_as, whole, if_ok}
 use Rattle.dvg_account.proofs.refused.frame_lines.Goals as goal
 
 pub returns : goal.returns
 returns c =
     let framed : IsItem Frame (frame_word c.args.inputs.now.machine c.args.frame.now) c.args.finding.now.fault.word
-    c.args.finding.now.before c.callee_of-callee.result c.new-2.result =
+    (Some c.args.finding.now.before) c.callee_of-callee.result c.new-2.result =
     rw c.new-framed.ensures at c.new-2.ensures in
     if_ok c.finish.result c.finish.ensures (λ lines all. record {
       item = record c.new-2.result { losses = c.frame_losses.result };
