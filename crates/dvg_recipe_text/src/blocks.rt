@@ -40,8 +40,7 @@ fn whole(alloc: Global, inner: Sequence) -> Result<Part, RecipeTextWhy> {
 /// The part of a block whose last branch, or whose body, this is.
 fn closed(alloc: Global, kind: BlockKind, last: Part) -> Result<Part, AllocError> {
     match kind {
-        BlockKind::Either(branches) => {
-            let mut branches = branches;
+        BlockKind::Either(mut branches) => {
             branches.push(alloc, last)?;
             branches.into_part(alloc)
         }
@@ -94,16 +93,14 @@ impl Blocks {
 
     /// Ends a branch of alternatives, behind which another follows.
     pub fn next_branch(&mut self, alloc: Global) -> Result<(), RecipeTextWhy> {
-        let Some(Block { kind, before }) = self.open.pop() else {
+        let Some(block) = self.open.last_mut() else {
             return Err(RecipeTextWhy::Form);
         };
-        let BlockKind::Either(mut branches) = kind else {
+        let BlockKind::Either(branches) = &mut block.kind else {
             return Err(RecipeTextWhy::Form);
         };
         let inner = mem::replace(&mut self.here, Sequence::new(alloc));
         branches.push(alloc, whole(alloc, inner)?)?;
-        let kind = BlockKind::Either(branches);
-        self.open.push(Block { kind, before })?;
         Ok(())
     }
 

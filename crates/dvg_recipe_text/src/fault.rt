@@ -93,13 +93,6 @@ pub struct RecipeTextFault {
 }
 
 impl RecipeTextFault {
-    /// This is wrong with a line.
-    pub(crate) fn at(line: u32, why: RecipeTextWhy) -> RecipeTextFault
-        ensures { result ≡ record { line = line; why = why } }
-    {
-        RecipeTextFault { line, why }
-    }
-
     /// The number of the refusal, 51 to 56.
     pub fn number(self) -> u8
         ensures { result ≡ text_number self.why }

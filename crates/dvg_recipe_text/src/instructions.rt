@@ -1,71 +1,60 @@
 //! Instructions that a recipe gives word by word.
 
+ghost use Rattle.std.specs.Prelude.{◌<◌, IfSome};
+
 use crate::fault::RecipeTextWhy;
-use crate::numerals::word_of;
 use crate::words::Words;
 use dvg_recipe::PieceKind;
-use dvg_words::{Instr, Machine, decode_on, is_long};
+use dvg_text::read_address;
+use dvg_words::{ADDRESS_END, Instr, Machine, decode_on, is_long};
 use std::alloc::Global;
 
-/// Whether the instruction of two words is a draw, a LABS or a JSRL, behind which the next one stands.
-fn is_straight(first: u16, second: u16) -> bool {
-    matches!(
-        decode_on(Machine::Board, first, second),
-        Some(Instr::Draw(_) | Instr::Labs { .. } | Instr::Jsrl { .. })
-    )
-}
-
-/// The instruction of two words, as a piece, if another one may follow it.
-fn piece_of(first: u16, second: u16) -> Option<PieceKind> {
-    if is_straight(first, second) {
-        Some(PieceKind::Fixed { first, second })
-    } else {
-        None
+/// The value of a capital hexadecimal digit.
+fn value_of(digit: u8) -> Option<u16>
+    ensures { IfSome result (λ value. value < 16) }
+{
+    match digit {
+        b'0'..=b'9' => Some(u16::from(digit - b'0')),
+        b'A'..=b'F' => Some(u16::from(digit - b'A' + 10)),
+        _ => None,
     }
 }
 
-/// Instructions that are read word by word.
-#[derive(Drop)]
-struct Instructions {
-    kinds: Vec<PieceKind>,
-    /// The first word of an instruction of two words, whose second is next.
-    begun: Option<u16>,
+/// The word that four hexadecimal digits in capitals spell.
+fn word_of(digits: &[u8]) -> Option<u16> {
+    let (first, rest) = digits.split_first()?;
+    Some(ADDRESS_END * value_of(*first)? + read_address(rest)?)
 }
 
-impl Instructions {
-    /// Takes the word that these digits spell.
-    fn take(&mut self, digits: &[u8]) -> Result<(), RecipeTextWhy> {
-        let Some(word) = word_of(digits) else {
-            return Err(RecipeTextWhy::Form);
-        };
-        let kind = match self.begun {
-            Some(first) => piece_of(first, word),
-            None if is_long(word) => {
-                self.begun = Some(word);
-                return Ok(());
-            }
-            None => piece_of(word, 0),
-        };
-        let Some(kind) = kind else {
-            return Err(RecipeTextWhy::Form);
-        };
-        self.kinds.push(kind)?;
-        self.begun = None;
-        Ok(())
+/// The piece of a draw, a LABS or a JSRL, behind which the next one stands; `None` for what else two words may be.
+fn piece_of(first: u16, second: u16) -> Option<PieceKind> {
+    match decode_on(Machine::Board, first, second)? {
+        Instr::Draw(_) | Instr::Labs { .. } | Instr::Jsrl { .. } => {
+            Some(PieceKind::Fixed { first, second })
+        }
+        _ => None,
     }
 }
 
 /// The instructions that words spell, at least one.
 pub fn read_instructions(alloc: Global, words: Words<'_>) -> Result<Vec<PieceKind>, RecipeTextWhy> {
-    let mut taken = Instructions {
-        kinds: Vec::new(alloc),
-        begun: None,
-    };
+    let mut kinds = Vec::new(alloc);
+    let mut begun = None;
     for digits in words {
-        taken.take(digits)?;
+        let word = word_of(digits).ok_or(RecipeTextWhy::Form)?;
+        let kind = match begun {
+            Some(first) => piece_of(first, word),
+            None if is_long(word) => {
+                begun = Some(word);
+                continue;
+            }
+            None => piece_of(word, 0),
+        };
+        kinds.push(kind.ok_or(RecipeTextWhy::Form)?)?;
+        begun = None;
     }
-    if taken.kinds.is_empty() || taken.begun.is_some() {
+    if kinds.is_empty() || begun.is_some() {
         return Err(RecipeTextWhy::Form);
     }
-    Ok(taken.kinds)
+    Ok(kinds)
 }

@@ -7,14 +7,11 @@
 
 mod blocks;
 mod fault;
-mod head;
 mod instructions;
 mod limits;
 mod line;
 mod lines;
 mod names;
-mod numbering;
-mod numerals;
 mod printing;
 mod reader;
 mod reading;

@@ -1,6 +1,5 @@
 //! What a line says.
 
-use crate::head::{Head, head_of};
 use crate::names::is_name;
 use crate::words::Words;
 use dvg_recipe::{Area, DrawRange, MOST_TURNS, PlaceRange, PlaceSpan, Span};
@@ -26,25 +25,14 @@ pub enum Line<'a> {
     Halt,
 }
 
-/// A line of one word, if no word is left.
-fn alone<'a>(words: &Words<'a>, line: Line<'a>) -> Option<Line<'a>> {
-    words.end()?;
-    Some(line)
-}
-
 fn area(words: &mut Words<'_>) -> Option<Area> {
     let area = words.area()?;
-    words.end()?;
-    Some(area)
+    words.ended(area)
 }
 
 fn shapes<'a>(words: &mut Words<'a>) -> Option<Line<'a>> {
     let name = words.next()?;
-    if is_name(name) {
-        Some(Line::Shapes(name, *words))
-    } else {
-        None
-    }
+    is_name(name).then_some(Line::Shapes(name, *words))
 }
 
 fn take_places(words: &mut Words<'_>) -> Option<PlaceSpan> {
@@ -119,8 +107,7 @@ fn draw_range(words: &mut Words<'_>, format: Format) -> Option<DrawRange> {
 
 fn svec<'a>(words: &mut Words<'a>) -> Option<Line<'a>> {
     let range = draw_range(words, Format::Short)?;
-    words.end()?;
-    Some(Line::Draw(range))
+    words.ended(Line::Draw(range))
 }
 
 fn vctr<'a>(words: &mut Words<'a>) -> Option<Line<'a>> {
@@ -130,37 +117,33 @@ fn vctr<'a>(words: &mut Words<'a>) -> Option<Line<'a>> {
     }
     words.literal(b"to")?;
     let to = Some(take_places(words)?);
-    words.end()?;
-    Some(Line::Draw(DrawRange { to, ..range }))
+    words.ended(Line::Draw(DrawRange { to, ..range }))
 }
 
 fn repeat<'a>(words: &mut Words<'a>) -> Option<Line<'a>> {
     let least = words.natural(MOST_TURNS)?;
     let most = words.natural(MOST_TURNS)?;
-    words.end()?;
-    if least <= most && 0 < most {
-        Some(Line::Repeat { least, most })
-    } else {
-        None
-    }
+    let line = words.ended(Line::Repeat { least, most })?;
+    (least <= most && 0 < most).then_some(line)
 }
 
 /// What a line says, without the spaces before it. `None` if it is of none of the forms.
 pub fn read_line(line: &[u8]) -> Option<Line<'_>> {
     let mut words = Words::of(line);
-    match head_of(words.next()?)? {
-        Head::List => Some(Line::List(area(&mut words)?)),
-        Head::Shapes => shapes(&mut words),
-        Head::Place => place(&mut words),
-        Head::Call => Some(Line::Call(words)),
-        Head::Words => Some(Line::Words(words)),
-        Head::Vctr => vctr(&mut words),
-        Head::Svec => svec(&mut words),
-        Head::Either => alone(&words, Line::Either),
-        Head::Or => alone(&words, Line::Or),
-        Head::End => alone(&words, Line::End),
-        Head::Repeat => repeat(&mut words),
-        Head::Jump => Some(Line::Jump(area(&mut words)?)),
-        Head::Halt => alone(&words, Line::Halt),
+    match words.next()? {
+        b"list" => Some(Line::List(area(&mut words)?)),
+        b"shapes" => shapes(&mut words),
+        b"place" => place(&mut words),
+        b"call" => Some(Line::Call(words)),
+        b"words" => Some(Line::Words(words)),
+        b"vctr" => vctr(&mut words),
+        b"svec" => svec(&mut words),
+        b"either" => words.ended(Line::Either),
+        b"or" => words.ended(Line::Or),
+        b"end" => words.ended(Line::End),
+        b"repeat" => repeat(&mut words),
+        b"jump" => Some(Line::Jump(area(&mut words)?)),
+        b"halt" => words.ended(Line::Halt),
+        _ => None,
     }
 }

@@ -15,29 +15,15 @@ pub fn cut_line(text: &[u8]) -> Option<(&[u8], &[u8])>
 
 /// Whether all bytes are printable ASCII characters.
 pub fn are_printable(bytes: &[u8]) -> bool {
-    for byte in bytes {
-        if *byte != SPACE && !byte.is_ascii_graphic() {
-            return false;
-        }
-    }
-    true
-}
-
-/// A line without the spaces before its first word.
-fn without_indent(line: &[u8]) -> &[u8] {
-    for (at, byte) in line.iter().enumerate() {
-        if *byte != SPACE {
-            return &line[at..];
-        }
-    }
-    &[]
+    bytes
+        .iter()
+        .all(|byte| *byte == SPACE || byte.is_ascii_graphic())
 }
 
 /// What a line says, without the spaces before it. `None` for an empty line and a remark, which mean nothing.
 pub fn meaning(line: &[u8]) -> Option<&[u8]> {
-    let text = without_indent(line);
-    match text {
+    match line.trim_ascii_start() {
         [] | [REMARK, ..] => None,
-        _ => Some(text),
+        text => Some(text),
     }
 }

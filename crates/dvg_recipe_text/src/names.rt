@@ -5,28 +5,25 @@ ghost use Rattle.dvg_words.specs.declared.map.TheConstants.{ADDRESS_END};
 
 use crate::fault::RecipeTextWhy;
 use crate::limits::LONGEST_NAME;
-use crate::numerals::address_of;
 use crate::words::Words;
 use dvg_labels::{Labels, Unnamed};
+use dvg_text::read_address;
 use dvg_words::ADDRESS_END;
 use std::alloc::{AllocError, Global};
 use std::collections::BTreeMap;
 
 /// Whether all bytes are letters, digits and `_`.
 fn are_of_names(bytes: &[u8]) -> bool {
-    for byte in bytes {
-        if *byte != b'_' && !byte.is_ascii_alphanumeric() {
-            return false;
-        }
-    }
-    true
+    bytes
+        .iter()
+        .all(|byte| *byte == b'_' || byte.is_ascii_alphanumeric())
 }
 
 /// Whether a word is a name: a letter or `_`, then letters, digits and `_`, few in all, and no address.
 pub fn is_name(word: &[u8]) -> bool {
     match word {
         [] | [b'0'..=b'9', ..] => false,
-        _ => { word.len() <= LONGEST_NAME && are_of_names(word) && address_of(word).is_none() }
+        _ => { word.len() <= LONGEST_NAME && are_of_names(word) && read_address(word).is_none() }
     }
 }
 
@@ -100,7 +97,7 @@ impl<'a> Names<'a> {
 
     /// Adds what a word stands for: an address, or those of a name.
     fn add_word(&self, targets: &mut Targets, word: &[u8]) -> Result<(), RecipeTextWhy> {
-        if let Some(addr) = address_of(word) {
+        if let Some(addr) = read_address(word) {
             targets.add(addr)?;
             return Ok(());
         }

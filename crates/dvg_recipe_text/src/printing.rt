@@ -4,13 +4,13 @@ ghost use Rattle.std.specs.Prelude.{◌≤◌, OnOk};
 ghost use Rattle.dvg_recipe_text.specs.declared.limits.TheConstants.{MOST_LINES};
 
 use crate::fault::{RecipeTextFault, RecipeTextWhy};
-use crate::head::{Head, head_of};
 use crate::limits::{LINE_FEED, LONGEST_LINE, SPACE};
+use crate::line::{Line, read_line};
 use crate::lines::{cut_line, meaning};
-use crate::numerals::address_digits;
 use crate::reader::Reader;
 use crate::words::Words;
 use dvg_labels::Labels;
+use dvg_text::address_digits;
 use std::alloc::{AllocError, Global};
 
 /// What stands before a line for each block around it.
@@ -37,47 +37,26 @@ fn push_targets(
     Ok(())
 }
 
-/// Puts what a line says behind the spaces before it.
-fn push_text(out: &mut Vec<u8>, reader: &Reader<'_>, text: &[u8]) -> Result<(), AllocError> {
-    let mut words = Words::of(text);
-    let Some(first) = words.next() else {
-        return Ok(());
-    };
-    match head_of(first) {
-        Some(Head::Call) => {
-            out.extend_from_slice(first)?;
-            push_targets(out, reader, words)
-        }
-        Some(Head::Shapes) => {
-            out.extend_from_slice(first)?;
-            if let Some(name) = words.next() {
-                push_word(out, name)?;
-            }
-            push_targets(out, reader, words)
-        }
-        _ => out.extend_from_slice(text),
-    }
-}
-
-/// How many blocks stand around a line, where so many are open before it.
-fn blocks_around(text: &[u8], open: usize) -> usize {
-    let head = match Words::of(text).next() {
-        Some(first) => head_of(first),
-        None => None,
-    };
-    match head {
-        Some(Head::Or | Head::End) => open.saturating_sub(1),
-        _ => open,
-    }
-}
-
-/// The spelling of a line that means something, with its LF.
+/// The spelling of a line that means something, with its LF. One that says nothing stays as it is: it will be refused.
 fn spelled(alloc: Global, reader: &Reader<'_>, text: &[u8]) -> Result<Vec<u8>, AllocError> {
     let mut out = Vec::new(alloc);
-    for _ in 0..blocks_around(text, reader.depth()) {
+    let line = read_line(text);
+    let outside = usize::from(matches!(line, Some(Line::Or | Line::End)));
+    for _ in outside..reader.depth() {
         out.extend_from_slice(INDENT)?;
     }
-    push_text(&mut out, reader, text)?;
+    match line {
+        Some(Line::Call(words)) => {
+            out.extend_from_slice(b"call")?;
+            push_targets(&mut out, reader, words)?;
+        }
+        Some(Line::Shapes(name, words)) => {
+            out.extend_from_slice(b"shapes")?;
+            push_word(&mut out, name)?;
+            push_targets(&mut out, reader, words)?;
+        }
+        _ => out.extend_from_slice(text)?,
+    }
     out.push(LINE_FEED)?;
     Ok(out)
 }
@@ -122,7 +101,10 @@ impl<'a> Printer<'a> {
         } = self;
         reader.finish(number, rest)?;
         match too_long {
-            Some(line) => Err(RecipeTextFault::at(line, RecipeTextWhy::LineTooLong)),
+            Some(line) => Err(RecipeTextFault {
+                line,
+                why: RecipeTextWhy::LineTooLong,
+            }),
             None => Ok(out),
         }
     }
@@ -146,7 +128,7 @@ pub fn print_recipe(
     let mut line = 1;
     'printing: while let Some((bytes, behind)) = cut_line(rest) {
         if let Err(why) = printer.take_line(line, bytes) {
-            return Err(RecipeTextFault::at(line, why));
+            return Err(RecipeTextFault { line, why });
         }
         rest = behind;
         line += 1;

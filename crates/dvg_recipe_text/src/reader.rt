@@ -11,12 +11,12 @@ use crate::limits::{FIRST_LINE, LONGEST_LINE, MOST_LINES};
 use crate::line::{Line, read_line};
 use crate::lines::{are_printable, meaning};
 use crate::names::Names;
-use crate::numbering::Numbering;
 use crate::sequence::{Balanced, Joint};
 use crate::words::Words;
 use dvg_labels::Labels;
 use dvg_recipe::{
-    Area, Jump, MOST_LISTS, MOST_OPTIONS, Part, Piece, PieceKind, Recipe, piece_options,
+    Area, Jump, MOST_LISTS, MOST_OPTIONS, MOST_PIECES, Part, Piece, PieceKind, Recipe,
+    piece_options,
 };
 use dvg_words::RAM_WORDS;
 use std::alloc::Global;
@@ -51,6 +51,13 @@ pub struct ReadRecipe {
     pub lines: Vec<u16>,
 }
 
+/// The number of the last piece, by the lines of all.
+fn last_of(lines: &[u16]) -> Option<u16>
+    ensures { IfSome result (λ number. length lines.now ≡ number + 1) }
+{
+    u16::try_from(lines.len().checked_sub(1)?).ok()
+}
+
 /// What the lines so far say.
 #[derive(Drop)]
 pub struct Reader<'a> {
@@ -67,7 +74,8 @@ pub struct Reader<'a> {
     /// The jump in whose area the next line stands.
     ahead: Option<Ahead>,
     blocks: Blocks,
-    numbering: Numbering,
+    /// The line of each piece so far, in the order of their numbers.
+    lines: Vec<u16>,
     /// How many instructions there are to choose from so far, the repeats written out.
     options: u64,
 }
@@ -85,7 +93,7 @@ impl<'a> Reader<'a> {
             jumps: Vec::new(alloc),
             ahead: None,
             blocks: Blocks::new(alloc),
-            numbering: Numbering::new(alloc),
+            lines: Vec::new(alloc),
             options: 0,
         }
     }
@@ -198,8 +206,18 @@ impl<'a> Reader<'a> {
         }
     }
 
+    /// Gives a piece at a line the next number.
+    fn take_number(&mut self, line: u16) -> Result<u16, RecipeTextWhy> {
+        if self.lines.len() >= usize::from(MOST_PIECES) {
+            return Err(RecipeTextWhy::TooManyPieces);
+        }
+        let number = self.lines.len() as u16;
+        self.lines.push(line)?;
+        Ok(number)
+    }
+
     fn take_piece(&mut self, line: u16, kind: PieceKind) -> Result<(), RecipeTextWhy> {
-        let number = self.numbering.take(line)?;
+        let number = self.take_number(line)?;
         self.count_options(&kind)?;
         self.blocks.push_piece(Piece { number, kind })?;
         Ok(())
@@ -235,45 +253,47 @@ impl<'a> Reader<'a> {
     fn take_jump(&mut self, line: u16, area: Area) -> Result<(), RecipeTextWhy> {
         self.end_area()?;
         self.take_area(area)?;
-        let number = self.numbering.take(line)?;
+        let number = self.take_number(line)?;
         self.ahead = Some(Ahead { number, area });
         Ok(())
     }
 
     fn take_halt(&mut self, line: u16) -> Result<(), RecipeTextWhy> {
         self.end_area()?;
-        self.numbering.take(line)?;
+        self.take_number(line)?;
         self.stage = Stage::Halted;
         Ok(())
     }
 
-    /// The recipe of a text whose last line with an LF was taken. `number` is that of the line behind it, which is to have no byte.
-    pub fn finish(self, number: u32, rest: &[u8]) -> Result<ReadRecipe, RecipeTextFault>
+    /// The recipe of a text whose last line with an LF was taken. `line` is that behind it, which is to have no byte.
+    pub fn finish(self, line: u32, rest: &[u8]) -> Result<ReadRecipe, RecipeTextFault>
         ensures lines { IfOk result (λ read. length read.lines.items ≡ read.recipe.halt + 1) }
-        ensures line { IfErr result (λ fault. (fault.line ≡ 1) ⊎ (fault.line ≡ number)) }
+        ensures line { IfErr result (λ fault. (fault.line ≡ 1) ⊎ (fault.line ≡ line)) }
     {
         let Reader {
             stage,
             lists,
             body,
             jumps,
-            numbering,
+            lines,
             ..
         } = self;
-        if rest.len() >= LONGEST_LINE {
-            return Err(RecipeTextFault::at(number, RecipeTextWhy::LineTooLong));
-        }
-        let (Stage::Halted, [], Some(body)) = (stage, rest, body) else {
-            return Err(RecipeTextFault::at(number, RecipeTextWhy::Unended));
+        let why = if rest.len() >= LONGEST_LINE {
+            RecipeTextWhy::LineTooLong
+        } else {
+            RecipeTextWhy::Unended
         };
-        let Some(halt) = numbering.last() else {
-            return Err(RecipeTextFault::at(number, RecipeTextWhy::Unended));
+        let (Stage::Halted, [], Some(body), Some(halt)) = (stage, rest, body, last_of(&lines))
+        else {
+            return Err(RecipeTextFault { line, why });
         };
-        let Some(recipe) = Recipe::new(lists, body, jumps, halt) else {
+        match Recipe::new(lists, body, jumps, halt) {
+            Some(recipe) => Ok(ReadRecipe { recipe, lines }),
             // no text comes here, by tests: each limit of a recipe was asked for at its line
-            return Err(RecipeTextFault::at(1, RecipeTextWhy::Form));
-        };
-        let lines = numbering.into_lines();
-        Ok(ReadRecipe { recipe, lines })
+            None => Err(RecipeTextFault {
+                line: 1,
+                why: RecipeTextWhy::Form,
+            }),
+        }
     }
 }

@@ -25,7 +25,7 @@ pub fn read_recipe(
     let mut line = 1;
     'reading: while let Some((bytes, behind)) = cut_line(rest) {
         if let Err(why) = reader.take_line(line, bytes) {
-            return Err(RecipeTextFault::at(line, why));
+            return Err(RecipeTextFault { line, why });
         }
         rest = behind;
         line += 1;

@@ -5,9 +5,20 @@ ghost use Rattle.std.specs.Iterator.{at_most};
 ghost use Rattle.dvg_recipe_text.specs.Words.{left_of};
 
 use crate::limits::SPACE;
-use crate::numerals::{address_of, integer_of, natural_of};
 use dvg_recipe::{Area, Span};
+use dvg_text::{read_address, read_decimal};
 use memchr::memchr;
+
+/// The greatest size of a number that is read.
+const MOST_NUMBER: u16 = 9999;
+
+/// The number below zero that decimal digits without a leading zero spell behind `-`.
+fn below_zero(digits: &[u8]) -> Option<i16> {
+    match read_decimal(digits, MOST_NUMBER)? {
+        0 => None,
+        size => Some(-(size as i16)),
+    }
+}
 
 /// The words of a line that are not taken yet.
 #[derive(Clone, Copy)]
@@ -47,26 +58,26 @@ impl<'a> Words<'a> {
         self.rest.is_none()
     }
 
-    /// Asks that no word is left.
-    pub fn end(&self) -> Option<()> {
-        if self.is_done() { Some(()) } else { None }
+    /// What was read of a line, if no word is left.
+    pub fn ended<T: Copy>(&self, read: T) -> Option<T> {
+        self.is_done().then_some(read)
     }
 
     /// Takes this word.
     pub fn literal(&mut self, text: &[u8]) -> Option<()> {
-        if self.next()? == text { Some(()) } else { None }
+        (self.next()? == text).then_some(())
     }
 
     /// Takes a word address: three hexadecimal digits in capitals.
     fn address(&mut self) -> Option<u16> {
-        address_of(self.next()?)
+        read_address(self.next()?)
     }
 
     /// Takes a number from 0 to `most`.
     pub fn natural(&mut self, most: u16) -> Option<u16>
         ensures { IfSome result (λ n. n ≤ most) }
     {
-        natural_of(self.next()?, most)
+        read_decimal(self.next()?, most)
     }
 
     /// Takes a number from `low` to `high`.
@@ -74,12 +85,11 @@ impl<'a> Words<'a> {
         ensures least { IfSome result (λ n. low ≤ℤ n) }
         ensures most { IfSome result (λ n. n ≤ℤ high) }
     {
-        let number = integer_of(self.next()?)?;
-        if low <= number && number <= high {
-            Some(number)
-        } else {
-            None
-        }
+        let number = match self.next()? {
+            [b'-', digits @ ..] => below_zero(digits)?,
+            digits => read_decimal(digits, MOST_NUMBER)? as i16,
+        };
+        (low <= number && number <= high).then_some(number)
     }
 
     /// Takes the ends of a range of numbers from `low` to `high`.
@@ -90,14 +100,10 @@ impl<'a> Words<'a> {
     {
         let first = self.integer(low, high)?;
         let last = self.integer(low, high)?;
-        if first <= last {
-            Some(Span {
-                low: first,
-                high: last,
-            })
-        } else {
-            None
-        }
+        (first <= last).then_some(Span {
+            low: first,
+            high: last,
+        })
     }
 
     /// Takes the addresses of the first and of the last word of an area.
