@@ -18,8 +18,7 @@ use Rattle.dvg_recipe_cmd.specs.declared.judging.Witness.{Witness}
 use Rattle.dvg_recipe_cmd.specs.declared.judging.Witness.TheVariants as found
 use Rattle.dvg_recipe_cmd.specs.declared.membership.Membership.{Membership}
 use Rattle.dvg_recipe_cmd.specs.declared.membership.Membership.TheVariants as member
-use Rattle.dvg_recipe_cmd.specs.Frames.{RefusesRecipe, TakesRecipe}
-use Rattle.dvg_recipe_cmd.specs.Meanings.{IsMembership}
+use Rattle.dvg_recipe_cmd.specs.Frames.{IsMembership, RefusesRecipe, TakesRecipe}
 use Rattle.dvg_recipe_cmd.specs.Recipes.{IsVerdict}
 use Rattle.dvg_c.specs.declared.answer.OutOfRange.{OutOfRange}
 use Rattle.dvg_c.specs.declared.answer.TheConstants.{BAD_MAP, NO_TEXT_MEMORY}

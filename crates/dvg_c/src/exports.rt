@@ -215,9 +215,10 @@ pub extern "C" fn dvgcheck_recipe(
             let explained = Explained {
                 rom,
                 text: recipe,
+                labels: None,
                 options,
             };
-            let judged = judge_text(alloc, &explained, None, Wanted::Witness);
+            let judged = judge_text(alloc, &explained, Wanted::Witness);
             put_witness(&judged.witness, recipe_answer_of(&judged.verdict), frame)
         }
         Err(bad) => recipe_numbered(bad.number()),

@@ -48,10 +48,6 @@ membership_text member.WrongLength = codes ": refused 2"
 membership_text member.NoMemory = codes ": out of memory"
 membership_text member.Unread = codes ": cannot read"
 
--- the line from behind the frame's name on
-abbrev pub membership_line_text : Membership → List ℕ
-membership_line_text membership = membership_text membership ++ codes "\n"
-
 -- what the line comes to
 abbrev pub membership_outcome : Membership → Outcome
 membership_outcome member.Belongs = outcome.Accepted

@@ -2,10 +2,11 @@
 use Rattle.std.specs.Prelude.{◌≡◌, ℕ, Bool, true, false, List, [], ◌∷◌, ◌++◌, codes, length, Option, None, Some, Result, Ok, Err, string_bytes}
 use Rattle.std.specs.Io.KnownBytes.{Appends}
 use Rattle.dvg_words.specs.Values.{MemoryMap}
-use Rattle.dvg_words.specs.Memory.{Rom, IsRomLength}
+use Rattle.dvg_words.specs.Memory.{Rom, IsFrameLength, IsRomLength, words_of}
 use Rattle.dvg_text.specs.Devices.{AppendsPrefix, TakesOneWrite, count_after}
 use Rattle.dvg_recipe.specs.Recipes.{Recipe}
 use Rattle.dvg_recipe.specs.Lengths.{FitsAreas}
+use Rattle.dvg_recipe.specs.Members.{IsMember}
 use Rattle.dvg_recipe_text.specs.declared.reader.ReadRecipe.{ReadRecipe}
 use Rattle.dvg_recipe_text.specs.declared.fault.RecipeTextFault.{RecipeTextFault}
 use Rattle.dvg_cmd.specs.Frames.{Outcome, ReadsFrame}
@@ -20,14 +21,21 @@ use Rattle.dvg_recipe_cmd.specs.declared.answer.RecipeNo.TheVariants as no
 use Rattle.dvg_recipe_cmd.specs.declared.membership.Membership.{Membership}
 use Rattle.dvg_recipe_cmd.specs.declared.membership.Membership.TheVariants as member
 use Rattle.dvg_recipe_cmd.specs.declared.tally.BelongsTally.{BelongsTally}
-use Rattle.dvg_recipe_cmd.specs.Answers.{no_outcome, recipe_no_text, membership_line_text, membership_outcome, with_membership, belongs_summary_text}
-use Rattle.dvg_recipe_cmd.specs.Meanings.{IsMembership}
+use Rattle.dvg_recipe_cmd.specs.Answers.{no_outcome, recipe_no_text, membership_text, membership_outcome, with_membership, belongs_summary_text}
 use Rattle.dvg_cmd.specs.Telling.{Line, Telling, layout_of}
 
 -- the answer is that the frame could not be read
 abbrev pub is_unread : Membership → Bool
 is_unread member.Unread = true
 is_unread membership = false
+
+-- what is said of the bytes of a frame is so, over this ROM
+abbrev pub IsMembership : Rom → Recipe → List ℕ → Membership → Type 0
+IsMembership rom recipe bytes member.Belongs = IsFrameLength (length bytes) × IsMember rom recipe (words_of bytes)
+IsMembership rom recipe bytes (member.Outside at) = IsFrameLength (length bytes) × (IsMember rom recipe (words_of bytes) → ⊥)
+IsMembership rom recipe bytes member.WrongLength = IsFrameLength (length bytes) → ⊥
+IsMembership rom recipe bytes member.NoMemory = IsFrameLength (length bytes)
+IsMembership rom recipe bytes member.Unread = ⊥
 
 -- what an answer says of what a reader held: it was read to its end or to one byte past the limit, and of these bytes the answer is so
 pub record SaysOf (rom : Rom) (recipe : Recipe) (old new : Option (List ℕ)) (bytes : List ℕ) (membership : Membership) : Type 0 where
@@ -51,18 +59,14 @@ module _ {R : Type 0} (remaining : R → Option (List ℕ)) (failures : R → �
     pub answers : AnswersFrame frame.reader line.answer.0
     pub asked : IsBehind listing.detail line.answer.1
 
--- the tally of no line
-abbrev pub no_frames : BelongsTally
-no_frames = record { belongs = 0; outside = 0; refused = 0; unread = 0; no_memory = 0 }
-
 -- how it is told of frames
 abbrev pub of_frames : Listing Detail → Telling (Membership × Behind) BelongsTally
 of_frames listing =
     record {
-      text = λ answer. membership_line_text answer.0 ++ behind_text answer.1;
+      text = λ answer. (membership_text answer.0 ++ codes "\n") ++ behind_text answer.1;
       outcome = λ answer. outcome_behind answer.1 (membership_outcome answer.0);
       layout = layout_of listing (has_account listing.detail);
-      none = no_frames;
+      none = record { belongs = 0; outside = 0; refused = 0; unread = 0; no_memory = 0 };
       add = λ tally line. with_membership tally line.answer.0;
       last = λ tally. belongs_summary_text tally ∷ [];
     }
@@ -86,9 +90,12 @@ pub record TakesRecipe (rom : List ℕ) (map : MemoryMap) (given : Result ReadRe
 abbrev pub refusal_text : RecipeNo → Behind → List ℕ
 refusal_text refusal what = recipe_no_text refusal ++ codes "\n" ++ behind_text what
 
--- they were written, and nothing else, by one write if they fit one
-pub record WritesRefusal
-    (detail : Detail) (refusal : RecipeNo) (old new : Option (List ℕ)) (writes writes_after : ℕ) (end : Outcome) : Type 0 where
+-- those of such a refusal were written, and nothing else, by one write if they fit one
+pub record ReportsRefusal
+    (rom : List ℕ) (map : MemoryMap) (given : Result ReadRecipe RecipeTextFault) (detail : Detail) (old new : Option (List ℕ))
+    (writes writes_after : ℕ) (end : Outcome) : Type 0 where
+  pub refusal : RecipeNo
+  pub refuses : RefusesRecipe rom map given refusal
   pub behind : Behind
   pub asked : IsBehind detail behind
   pub written : Appends old new (refusal_text refusal behind)
@@ -96,23 +103,11 @@ pub record WritesRefusal
   pub outcome_is : end ≡ outcome_behind behind (no_outcome refusal)
 
 -- a prefix of them was written
-pub record WritesRefusalPrefix (detail : Detail) (refusal : RecipeNo) (old new : Option (List ℕ)) : Type 0 where
-  pub behind : Behind
-  pub asked : IsBehind detail behind
-  pub written : AppendsPrefix old new (refusal_text refusal behind)
-
--- such a refusal was written
-pub record ReportsRefusal
-    (rom : List ℕ) (map : MemoryMap) (given : Result ReadRecipe RecipeTextFault) (detail : Detail) (old new : Option (List ℕ))
-    (writes writes_after : ℕ) (end : Outcome) : Type 0 where
-  pub refusal : RecipeNo
-  pub refuses : RefusesRecipe rom map given refusal
-  pub writes_it : WritesRefusal detail refusal old new writes writes_after end
-
--- a prefix of one was written
 pub record ReportsRefusalPrefix
     (rom : List ℕ) (map : MemoryMap) (given : Result ReadRecipe RecipeTextFault) (detail : Detail)
     (old new : Option (List ℕ)) : Type 0 where
   pub refusal : RecipeNo
   pub refuses : RefusesRecipe rom map given refusal
-  pub writes_it : WritesRefusalPrefix detail refusal old new
+  pub behind : Behind
+  pub asked : IsBehind detail behind
+  pub written : AppendsPrefix old new (refusal_text refusal behind)

@@ -85,14 +85,10 @@ IsTimedAnswer rom options clocks (Slow at) = Unit {0}
 IsTimedAnswer rom options clocks Unread = ⊥
 IsTimedAnswer rom options clocks NoMemory = ⊥
 
--- what is said where none are asked: the verdict
-abbrev pub IsPlainAnswer : List ℕ → RecipeOptions → RecipeAnswer → Type 0
-IsPlainAnswer rom options (Judged verdict) = IsVerdict rom options verdict
-IsPlainAnswer rom options answer = ⊥
-
--- what is said of the text of a recipe
+-- what is said of the text of a recipe: where no clocks are asked, the verdict
 abbrev pub IsAnswer : List ℕ → RecipeOptions → Option ClockOptions → RecipeAnswer → Type 0
-IsAnswer rom options None answer = IsPlainAnswer rom options answer
+IsAnswer rom options None (Judged verdict) = IsVerdict rom options verdict
+IsAnswer rom options None answer = ⊥
 IsAnswer rom options (Some clocks) answer = IsTimedAnswer rom options clocks answer
 
 -- the answer is that a recipe's reader failed

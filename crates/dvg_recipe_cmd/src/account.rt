@@ -1,32 +1,18 @@
 //! The account of a verdict on a recipe: the room in its areas, and what is known before its lines, or a frame that shows why it is refused.
 
-ghost use Rattle.std.specs.Prelude.{◌≡◌, ◌≤◌, None};
-ghost use Rattle.dvg_words.specs.declared.machine.Machine.TheVariants.{Board};
-ghost use Rattle.dvg_cert.specs.declared.limits.TheConstants.{MOST_WORDS};
-ghost use Rattle.dvg_cmd.specs.Detail.{IsBehind};
-ghost use Rattle.dvg_cmd.specs.declared.detail.Detail.TheVariants as details;
+ghost use Rattle.dvg_recipe_cmd.specs.Private.Judging.{IsReady};
 
-use crate::judging::{RecipeOptions, line_of_piece};
-use crate::text_lines::repeats_around;
+use crate::judging::{Ready, RecipeOptions, line_of_piece, piece_of};
+use crate::text_lines::blocks_around;
 use dvg_account::{KnownBefore, RecipeLine, recipe_text};
 use dvg_cert::LitBox;
 use dvg_cmd::{Behind, Detail, OwnCertificates, PlainWhy, plain_account};
 use dvg_labels::Labels;
 use dvg_make::FrameRefusal;
-use dvg_recipe::{
-    Hull, Places, RecipeRefusal, RefusedFrame, SeenPiece, SurveyedRecipe, find_refused, rooms,
-};
+use dvg_recipe::{Hull, Places, RecipeRefusal, SeenPiece, SurveyedRecipe, find_refused, rooms};
 use dvg_recipe_text::ReadRecipe;
-use dvg_words::{Machine, RomImage};
+use dvg_words::Machine;
 use std::alloc::{AllocError, Global};
-
-/// What an account is about: the bytes of a ROM and of a recipe's text, and what is asked of its frames.
-#[derive(Clone, Copy)]
-pub struct Explained<'a> {
-    pub rom: &'a [u8],
-    pub text: &'a [u8],
-    pub options: RecipeOptions,
-}
 
 /// Adds a line for the area of each list, and of each jump.
 fn push_rooms(
@@ -112,91 +98,29 @@ fn takes_most(read: &ReadRecipe, seen: &[SeenPiece]) -> Option<RecipeLine> {
     Some(RecipeLine::TakesMost { line, words })
 }
 
-/// The account of an accepted recipe.
-fn accepted_text(
-    alloc: Global,
-    read: &ReadRecipe,
+/// Adds the lines of an accepted recipe.
+fn push_accepted(
+    ready: &Ready,
     seen: &[SeenPiece],
-) -> Result<String, AllocError> {
-    let mut lines = Vec::new(alloc);
-    push_rooms(alloc, read, &mut lines)?;
-    if let Some(line) = takes_most(read, seen) {
+    lines: &mut Vec<RecipeLine>,
+) -> Result<(), AllocError> {
+    push_rooms(ready.alloc, &ready.read, lines)?;
+    if let Some(line) = takes_most(&ready.read, seen) {
         lines.push(line)?;
     }
-    push_known(read, seen, &mut lines)?;
-    recipe_text(alloc, &lines)
-}
-
-/// The text behind a line, if there was memory for it.
-fn text_behind(behind: &Behind) -> Result<&str, AllocError> {
-    match behind {
-        Behind::Nothing | Behind::Account(_) => Ok(behind.text()),
-        Behind::NoMemory => Err(AllocError),
-    }
-}
-
-/// The account of a recipe that is refused with a number which is not about a frame: these lines, and behind them the number's rule.
-fn plain_text(
-    alloc: Global,
-    lines: &[RecipeLine],
-    number: u8,
-    labels: Option<&Labels>,
-) -> Result<String, AllocError> {
-    let mut text = recipe_text(alloc, lines)?;
-    let detail = Detail::Account(labels);
-    let behind = plain_account(Machine::Board, alloc, number, PlainWhy::Nothing, detail);
-    text.push_str(text_behind(&behind)?)?;
-    Ok(text)
-}
-
-/// The account of a recipe whose longest list doesn't fit.
-fn too_long_text(
-    alloc: Global,
-    read: &ReadRecipe,
-    labels: Option<&Labels>,
-) -> Result<String, AllocError> {
-    let mut lines = Vec::new(alloc);
-    push_rooms(alloc, read, &mut lines)?;
-    plain_text(alloc, &lines, 57, labels)
-}
-
-/// The account of a recipe that is stuck at this piece: what may be known before it.
-fn stuck_text(
-    alloc: Global,
-    read: &ReadRecipe,
-    seen: &[SeenPiece],
-    piece: u16,
-    labels: Option<&Labels>,
-) -> Result<String, AllocError> {
-    let mut lines = Vec::new(alloc);
-    if let Some(seen) = seen.get(usize::from(piece)) {
-        push_before(line_of_piece(read, piece), seen, &mut lines)?;
-    }
-    plain_text(alloc, &lines, 59, labels)
-}
-
-/// The line of the piece by which a recipe is refused, if it is known.
-fn refused_line(read: &ReadRecipe, refusal: &RecipeRefusal) -> Option<u32> {
-    match *refusal {
-        RecipeRefusal::Make(unmade) => Some(line_of_piece(read, unmade.piece)),
-        RecipeRefusal::Frame(fault) => Some(line_of_piece(read, fault.piece?)),
-        RecipeRefusal::TooLong { .. }
-        | RecipeRefusal::Stuck { .. }
-        | RecipeRefusal::Shape(_)
-        | RecipeRefusal::Memory => None,
-    }
+    push_known(&ready.read, seen, lines)
 }
 
 /// Adds a line for each repeat around the piece by which a recipe is refused, the outermost first.
 fn push_turns(
-    alloc: Global,
-    explained: &Explained,
-    line: u32,
+    ready: &Ready,
+    piece: u16,
     turns: &[u16],
     lines: &mut Vec<RecipeLine>,
 ) -> Result<(), AllocError> {
-    let repeats = repeats_around(alloc, explained.text, line)?;
-    for (turn, line) in turns.iter().zip(repeats.iter()) {
+    let line = line_of_piece(&ready.read, piece);
+    let blocks = blocks_around(ready.alloc, ready.explained.text, line)?;
+    for (turn, line) in turns.iter().zip(blocks.iter().flatten()) {
         lines.push(RecipeLine::Turn {
             turn: *turn,
             line: *line,
@@ -205,89 +129,92 @@ fn push_turns(
     Ok(())
 }
 
-/// The account of a recipe that is refused, by a frame that shows why.
-fn shown_text(
-    alloc: Global,
-    explained: &Explained,
-    read: &ReadRecipe,
+/// Adds the lines of a frame that shows why a recipe is refused, and answers the account of that frame; or tells that none shows it.
+fn push_shown(
+    ready: &Ready,
     refusal: &RecipeRefusal,
-    shown: &RefusedFrame,
-    labels: Option<&Labels>,
-) -> Result<String, AllocError> {
-    let mut lines = Vec::new(alloc);
-    if let Some(line) = refused_line(read, refusal) {
-        push_turns(alloc, explained, line, &shown.turns, &mut lines)?;
+    detail: Detail,
+    lines: &mut Vec<RecipeLine>,
+) -> Result<Behind, AllocError>
+    requires { IsReady ready.now }
+{
+    let RecipeOptions {
+        map,
+        budget,
+        window,
+    } = ready.explained.options;
+    let recipe = &ready.read.recipe;
+    let Some(shown) = find_refused(ready.alloc, &ready.image, recipe, budget, window, refusal)?
+    else {
+        lines.push(RecipeLine::NothingShown)?;
+        return Ok(Behind::Nothing);
+    };
+    if let Some(piece) = piece_of(refusal) {
+        push_turns(ready, piece, &shown.turns, lines)?;
     }
     lines.push(RecipeLine::Shown {
         words: shown.frame.len() / 2,
     })?;
-    let mut text = recipe_text(alloc, &lines)?;
     let judge = OwnCertificates {
         machine: Machine::Board,
-        rom: explained.rom,
-        map: explained.options.map,
-        budget: explained.options.budget,
-        window: explained.options.window,
+        rom: ready.explained.rom,
+        map,
+        budget,
+        window,
         others: None,
     };
-    let (verdict, behind) = judge.verdict(alloc, &shown.frame, Detail::Account(labels));
-    if let Err(FrameRefusal::NoMemory) = verdict {
-        return Err(AllocError);
+    match judge.verdict(ready.alloc, &shown.frame, detail) {
+        (Err(FrameRefusal::NoMemory), _) => Err(AllocError),
+        (_, behind) => Ok(behind),
     }
-    text.push_str(text_behind(&behind)?)?;
-    Ok(text)
 }
 
-/// The account of a recipe that is refused so; of its pieces this is seen.
-fn refused_text(
-    alloc: Global,
-    explained: &Explained,
-    image: &RomImage,
-    read: &ReadRecipe,
-    refusal: &RecipeRefusal,
-    seen: &[SeenPiece],
-    labels: Option<&Labels>,
-) -> Result<String, AllocError>
-    requires budget { explained.now.options.budget ≤ MOST_WORDS }
-    requires board { image.now.machine ≡ Board }
+/// Adds the lines of what was seen of a recipe, and answers what follows behind them: the rule of a number that is not about a frame, or
+/// the account of a frame that shows why the recipe is refused.
+fn push_surveyed(
+    ready: &Ready,
+    surveyed: &SurveyedRecipe,
+    detail: Detail,
+    lines: &mut Vec<RecipeLine>,
+) -> Result<Behind, AllocError>
+    requires { IsReady ready.now }
 {
-    let RecipeOptions { budget, window, .. } = explained.options;
-    match refusal {
-        RecipeRefusal::Memory => return Err(AllocError),
-        RecipeRefusal::TooLong { .. } => return too_long_text(alloc, read, labels),
-        RecipeRefusal::Stuck { piece } => return stuck_text(alloc, read, seen, *piece, labels),
-        RecipeRefusal::Make(_) | RecipeRefusal::Shape(_) | RecipeRefusal::Frame(_) => {}
-    }
-    match find_refused(alloc, image, &read.recipe, budget, window, refusal)? {
-        Some(shown) => shown_text(alloc, explained, read, refusal, &shown, labels),
-        None => recipe_text(alloc, &[RecipeLine::NothingShown]),
-    }
+    let number = match &surveyed.verdict {
+        Ok(_) => {
+            push_accepted(ready, &surveyed.seen, lines)?;
+            return Ok(Behind::Nothing);
+        }
+        Err(RecipeRefusal::Memory) => return Err(AllocError),
+        Err(RecipeRefusal::TooLong { .. }) => {
+            push_rooms(ready.alloc, &ready.read, lines)?;
+            57
+        }
+        Err(RecipeRefusal::Stuck { piece }) => {
+            if let Some(seen) = surveyed.seen.get(usize::from(*piece)) {
+                push_before(line_of_piece(&ready.read, *piece), seen, lines)?;
+            }
+            59
+        }
+        Err(refusal) => return push_shown(ready, refusal, detail, lines),
+    };
+    let why = PlainWhy::Nothing;
+    Ok(plain_account(Machine::Board, ready.alloc, number, why, detail))
 }
 
-/// The account of the verdict on a recipe that was read; addresses are named by these labels, if there are any. There may be no memory for
-/// it.
-pub fn account_of(
-    alloc: Global,
-    explained: &Explained,
-    image: &RomImage,
-    read: &ReadRecipe,
+/// The account of the verdict on a recipe that was read; addresses are named by these labels, if there are any.
+pub fn account_text(
+    ready: &Ready,
     surveyed: &SurveyedRecipe,
     labels: Option<&Labels>,
-) -> Behind
-    requires budget { explained.now.options.budget ≤ MOST_WORDS }
-    requires board { image.now.machine ≡ Board }
-    ensures { IsBehind (details.Account None) result }
+) -> Result<String, AllocError>
+    requires { IsReady ready.now }
 {
-    Behind::of(match &surveyed.verdict {
-        Ok(_) => accepted_text(alloc, read, &surveyed.seen),
-        Err(refusal) => refused_text(
-            alloc,
-            explained,
-            image,
-            read,
-            refusal,
-            &surveyed.seen,
-            labels,
-        ),
-    })
+    let mut lines = Vec::new(ready.alloc);
+    let behind = push_surveyed(ready, surveyed, Detail::Account(labels), &mut lines)?;
+    let mut text = recipe_text(ready.alloc, &lines)?;
+    match behind {
+        Behind::NoMemory => return Err(AllocError),
+        Behind::Nothing | Behind::Account(_) => text.push_str(behind.text())?,
+    }
+    Ok(text)
 }

@@ -84,14 +84,7 @@ impl Why for RecipeNo {
                 ..
             } => Outcome::NoMemory,
             RecipeNo::NoMemory => Outcome::NoMemory,
-            RecipeNo::Text(_)
-            | RecipeNo::BudgetRange
-            | RecipeNo::RomLength
-            | RecipeNo::TooLong { .. }
-            | RecipeNo::Make { .. }
-            | RecipeNo::Stuck { .. }
-            | RecipeNo::Shape(_)
-            | RecipeNo::Frame { .. } => Outcome::Refused,
+            _ => Outcome::Refused,
         }
     }
 }

@@ -8,8 +8,7 @@ ghost use Rattle.dvg_text.specs.Devices.{count_after};
 ghost use Rattle.dvg_cmd.specs.Telling.{HoldsOfAll, HoldsOfTaken, Reports, ReportsPrefix, no_line};
 ghost use Rattle.dvg_cmd.specs.Detail.{IsBehind};
 ghost use Rattle.dvg_recipe_text.specs.declared.reader.ReadRecipe.{ReadRecipe};
-ghost use Rattle.dvg_recipe_cmd.specs.Meanings.{IsMembership};
-ghost use Rattle.dvg_recipe_cmd.specs.Frames.{AnswersFrame, IsLineOfFrame, RefusesRecipe, TakesRecipe, ReportsRefusal, ReportsRefusalPrefix, WritesRefusal, WritesRefusalPrefix, is_unread, of_frames};
+ghost use Rattle.dvg_recipe_cmd.specs.Frames.{AnswersFrame, IsLineOfFrame, IsMembership, RefusesRecipe, TakesRecipe, ReportsRefusal, ReportsRefusalPrefix, is_unread, of_frames};
 
 use crate::answer::{RecipeNo, refusal_line_of};
 use crate::judging::{board_image, line_of_piece};
@@ -21,7 +20,7 @@ use dvg_cmd::{
     read_started, run_each, unread_account,
 };
 use dvg_labels::Labels;
-use dvg_recipe::{Leaving, NotMember, belongs, too_long};
+use dvg_recipe::{NotMember, belongs, too_long};
 use dvg_recipe_text::{ReadRecipe, RecipeTextFault};
 use dvg_spelling::{Outcome, RunFault, Why};
 use dvg_text::{CountedRead, CountedWrite, WriteFault, write_lines};
@@ -55,39 +54,24 @@ pub fn ready<'a>(given: &Recorded<'a>) -> Result<(&'a ReadRecipe, RomImage<'a>),
     }
 }
 
-/// The account of a frame that leaves a recipe: the item there, and the lines of the recipe that allow an item there.
-fn leaving_account(
+/// The account of a frame: if it leaves the recipe, the item there, and the lines of the recipe that allow an item there.
+fn account_text(
     alloc: Global,
     read: &ReadRecipe,
     frame: &FrameImage,
-    leaving: &Leaving,
+    found: &Result<(), NotMember>,
     labels: Option<&Labels>,
 ) -> Result<String, AllocError> {
+    let leaving = match found {
+        Ok(()) => return Ok(String::new(alloc)),
+        Err(NotMember::Leaves(leaving)) => leaving,
+        Err(NotMember::Memory) => return Err(AllocError),
+    };
     let mut lines = Vec::new(alloc);
     for piece in &leaving.pieces {
         lines.push(line_of_piece(read, *piece))?;
     }
     leaving_text(alloc, frame, leaving.at, lines, labels)
-}
-
-/// What the detail asks for behind the line of a frame with this membership.
-fn account_of(
-    alloc: Global,
-    read: &ReadRecipe,
-    frame: &FrameImage,
-    found: &Result<(), NotMember>,
-    detail: Detail,
-) -> Behind
-    ensures { IsBehind detail.entry result }
-{
-    let Detail::Account(labels) = detail else {
-        return Behind::Nothing;
-    };
-    Behind::of(match found {
-        Ok(()) => Ok(String::new(alloc)),
-        Err(NotMember::Leaves(leaving)) => leaving_account(alloc, read, frame, leaving, labels),
-        Err(NotMember::Memory) => Err(AllocError),
-    })
 }
 
 /// What is said of the bytes of a frame, and what the detail asks for behind its line.
@@ -108,7 +92,10 @@ pub fn membership_of(
         return (Membership::WrongLength, behind);
     };
     let found = belongs(alloc, image, &read.recipe, &frame);
-    let behind = account_of(alloc, read, &frame, &found, detail);
+    let behind = match detail {
+        Detail::Line => Behind::Nothing,
+        Detail::Account(labels) => { Behind::of(account_text(alloc, read, &frame, &found, labels)) }
+    };
     let membership = match found {
         Ok(()) => Membership::Belongs,
         Err(NotMember::Leaves(leaving)) => Membership::Outside { at: leaving.at },
@@ -126,33 +113,34 @@ fn unread(alloc: Global, detail: Detail) -> (Membership, Behind)
     (Membership::Unread, behind)
 }
 
-/// What is said of a frame whose turn it is, and what the detail asks for behind its line.
-fn membership_read<R: CountedRead + Drop>(
-    alloc: Global,
-    image: &RomImage,
-    read: &ReadRecipe,
-    reader: Option<R>,
-    detail: Detail,
-) -> (Membership, Behind)
-    ensures answers { AnswersFrame R.remaining R.failures image.now read.now.recipe reader result.0 }
-    ensures behind { IsBehind detail.entry result.1 }
-{
-    let Some(mut reader) = reader else {
-        return unread(alloc, detail);
-    };
-    let mut buffer = [0; FRAME_READ];
-    match read_started(&mut reader, None, &mut buffer) {
-        Ok(len) => membership_of(alloc, image, read, &buffer[..len], detail),
-        Err(_) => unread(alloc, detail),
-    }
-}
-
 /// A recipe over a ROM, and what tells of frames whether they are the recipe's.
 #[derive(Drop)]
 struct MemberTeller<'a> {
     image: RomImage<'a>,
     read: &'a ReadRecipe,
     listing: Listing<Detail<'a>>,
+}
+
+impl<'a> MemberTeller<'a> {
+    /// What is said of a frame whose turn it is, and what the detail asks for behind its line.
+    fn membership_read<R: CountedRead + Drop>(
+        &self,
+        alloc: Global,
+        reader: Option<R>,
+    ) -> (Membership, Behind)
+        ensures answers { AnswersFrame R.remaining R.failures self.now.image self.now.read.now.recipe reader result.0 }
+        ensures behind { IsBehind self.now.listing.detail result.1 }
+    {
+        let detail = self.listing.detail;
+        let Some(mut reader) = reader else {
+            return unread(alloc, detail);
+        };
+        let mut buffer = [0; FRAME_READ];
+        match read_started(&mut reader, None, &mut buffer) {
+            Ok(len) => membership_of(alloc, &self.image, self.read, &buffer[..len], detail),
+            Err(_) => unread(alloc, detail),
+        }
+    }
 }
 
 impl<'a, R: CountedRead + Drop> Tell<NamedReader<R>> for MemberTeller<'a> {
@@ -174,13 +162,7 @@ impl<'a, R: CountedRead + Drop> Tell<NamedReader<R>> for MemberTeller<'a> {
         out: &mut W,
     ) -> Result<(), WriteFault> {
         let NamedReader { name, reader } = thing;
-        let (membership, behind) = membership_read(
-            alloc,
-            &self.image,
-            self.read,
-            reader,
-            self.listing.detail,
-        );
+        let (membership, behind) = self.membership_read(alloc, reader);
         let outcome = behind.outcome_with(membership_outcome_of(membership));
         let line = membership_line_of(membership);
         progress.write_line(outcome, name.as_str(), line.as_bytes(), behind.text(), out)?;
@@ -201,23 +183,21 @@ fn no_frame(listing: Listing<Detail>) -> Progress<BelongsTally>
 /// Writes the line of a refusal for which no frame is taken, and what the detail asks for behind it.
 fn write_refusal<W: CountedWrite>(
     alloc: Global,
+    given: &Recorded,
     no: &RecipeNo,
     detail: Detail,
     out: &mut W,
 ) -> Result<Outcome, RunFault>
-    ensures ok { IfOk result (λ end. WritesRefusal detail.entry no.now (W.contents out.old) (W.contents out.new)
-        (W.whole_writes out.old) (W.whole_writes out.new) end) }
-    ensures prefix { OnErr result (WritesRefusalPrefix detail.entry no.now (W.contents out.old) (W.contents out.new)) }
+    requires { RefusesRecipe given.now.rom.now given.now.map given.now.recipe.now no.now }
+    ensures report { IfOk result (ReportsRefusal given.now.rom.now given.now.map given.now.recipe.now detail.entry
+        (W.contents out.old) (W.contents out.new) (W.whole_writes out.old) (W.whole_writes out.new)) }
+    ensures prefix { OnErr result (ReportsRefusalPrefix given.now.rom.now given.now.map given.now.recipe.now detail.entry
+        (W.contents out.old) (W.contents out.new)) }
     ensures fault { IfErr result (λ fault. fault ≡ RunFault.Write) }
     ensures count { W.failures out.new ≡ count_after (is_err result) (W.failures out.old) }
 {
-    let behind = plain_account(
-        Machine::Board,
-        alloc,
-        no.number(),
-        PlainWhy::Nothing,
-        detail,
-    );
+    let why = PlainWhy::Nothing;
+    let behind = plain_account(Machine::Board, alloc, no.number(), why, detail);
     let line = refusal_line_of(no);
     write_lines(line.as_bytes(), behind.text().as_bytes(), &[], out)?;
     Ok(behind.outcome_with(no.outcome()))
@@ -272,6 +252,6 @@ pub fn run_belongs<
             };
             Ok(run_each(alloc, &mut teller, no_frame(listing), frames, out)?)
         }
-        Err(no) => write_refusal(alloc, &no, listing.detail, out),
+        Err(no) => write_refusal(alloc, given, &no, listing.detail, out),
     }
 }

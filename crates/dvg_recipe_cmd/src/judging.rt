@@ -1,20 +1,17 @@
 //! The answer to the text of a recipe, and a frame that shows why it is refused.
 
-ghost use Rattle.std.specs.Prelude.{◌≡◌, ◌≤◌, ◌<◌, length, None, Some, IfOk, IfErr, Ok, Err};
+ghost use Rattle.std.specs.Prelude.{◌≡◌, ◌≤◌, ◌<◌, length, None, Some, IfOk, IfErr, Err};
 ghost use Rattle.dvg_words.specs.declared.machine.Machine.TheVariants.{Board};
 ghost use Rattle.dvg_words.specs.Memory.{IsRomLength, rom_on};
 ghost use Rattle.dvg_cert.specs.declared.limits.TheConstants.{MOST_WORDS};
-ghost use Rattle.dvg_recipe.specs.Means.{AllMean};
-ghost use Rattle.dvg_recipe.specs.Lengths.{FitsAreas};
-ghost use Rattle.dvg_recipe_cmd.specs.Recipes.{IsAnswer, IsVerdict};
+ghost use Rattle.dvg_recipe_cmd.specs.Recipes.{IsAnswer, IsTimedAnswer, IsVerdict};
 ghost use Rattle.dvg_cmd.specs.Detail.{IsBehind};
 ghost use Rattle.dvg_cmd.specs.declared.detail.Detail.TheVariants as details;
+ghost use Rattle.dvg_recipe_cmd.specs.Private.Judging.{IsReady, wanted_detail};
 ghost use Rattle.dvg_cmd.specs.declared.detail.Behind.TheVariants as behinds;
-ghost use Rattle.dvg_recipe_cmd.specs.Private.Judging.{IsOfFrames, IsTimedRead, wanted_detail};
-ghost use Rattle.dvg_recipe_cmd.specs.declared.judging.Witness.TheVariants as witnesses;
 ghost use Rattle.dvg_recipe_cmd.specs.declared.answer.RecipeNo.TheVariants.{Text};
 
-use crate::account::{Explained, account_of};
+use crate::account::account_text;
 use crate::answer::{RecipeAnswer, RecipeNo};
 use crate::text_lines::line_of_list;
 use dvg_cert::MOST_WORDS;
@@ -40,6 +37,16 @@ pub struct RecipeOptions {
     pub budget: u32,
     /// Where strokes may be lit.
     pub window: Window,
+}
+
+/// The bytes of a ROM and of a recipe's text, and what is asked of its frames.
+#[derive(Clone, Copy)]
+pub struct Explained<'a> {
+    pub rom: &'a [u8],
+    pub text: &'a [u8],
+    /// What names of the recipe may stand for, besides those that it defines.
+    pub labels: Option<&'a Labels>,
+    pub options: RecipeOptions,
 }
 
 /// What is wanted of a recipe beside its verdict.
@@ -95,19 +102,6 @@ pub struct JudgedRecipe {
     pub behind: Behind,
 }
 
-impl JudgedRecipe {
-    /// A verdict alone.
-    fn plain(verdict: Result<Yes, RecipeNo>) -> JudgedRecipe
-        ensures { result ≡ record { verdict = verdict; witness = witnesses.Nothing; behind = behinds.Nothing } }
-    {
-        JudgedRecipe {
-            verdict,
-            witness: Witness::Nothing,
-            behind: Behind::Nothing,
-        }
-    }
-}
-
 impl From<RecipeTextFault> for RecipeNo {
     ghost from_gives = { λ fault no. no ≡ Text fault };
 
@@ -124,35 +118,13 @@ pub fn line_of_piece(read: &ReadRecipe, piece: u16) -> u32 {
     }
 }
 
-/// The line of a piece, or, without one, of the jump to a list.
-fn line_at(text: &[u8], read: &ReadRecipe, piece: Option<u16>) -> u32 {
-    match piece {
-        Some(piece) => line_of_piece(read, piece),
-        None => line_of_list(text),
-    }
-}
-
-/// Why a recipe is not accepted, by the lines of its text.
-fn told(text: &[u8], read: &ReadRecipe, refusal: &RecipeRefusal) -> RecipeNo
-    ensures { IsOfFrames result }
-{
+/// The piece by which a recipe is refused, if there is one.
+pub fn piece_of(refusal: &RecipeRefusal) -> Option<u16> {
     match *refusal {
-        RecipeRefusal::TooLong { piece } => RecipeNo::TooLong {
-            line: line_of_piece(read, piece),
-        },
-        RecipeRefusal::Make(unmade) => RecipeNo::Make {
-            why: unmade.why,
-            line: line_of_piece(read, unmade.piece),
-        },
-        RecipeRefusal::Stuck { piece } => RecipeNo::Stuck {
-            line: line_of_piece(read, piece),
-        },
-        RecipeRefusal::Shape(fault) => RecipeNo::Shape(fault),
-        RecipeRefusal::Frame(fault) => RecipeNo::Frame {
-            why: fault.why,
-            line: line_at(text, read, fault.piece),
-        },
-        RecipeRefusal::Memory => RecipeNo::NoMemory,
+        RecipeRefusal::TooLong { piece } | RecipeRefusal::Stuck { piece } => Some(piece),
+        RecipeRefusal::Make(unmade) => Some(unmade.piece),
+        RecipeRefusal::Frame(fault) => fault.piece,
+        RecipeRefusal::Shape(_) | RecipeRefusal::Memory => None,
     }
 }
 
@@ -167,98 +139,6 @@ pub fn board_image(rom: &[u8], map: RomMap) -> Result<RomImage<'_>, RecipeNo>
     }
 }
 
-/// A frame that shows why a recipe is refused.
-fn witness_of(
-    alloc: Global,
-    rom: &RomImage,
-    read: &ReadRecipe,
-    options: &RecipeOptions,
-    refusal: &RecipeRefusal,
-) -> Witness
-    requires budget { options.now.budget ≤ MOST_WORDS }
-    requires board { rom.now.machine ≡ Board }
-{
-    let RecipeOptions { budget, window, .. } = *options;
-    match find_refused(alloc, rom, &read.recipe, budget, window, refusal) {
-        Ok(Some(refused)) => Witness::Frame(refused.frame),
-        Ok(None) => Witness::Nothing,
-        Err(_) => Witness::NoMemory,
-    }
-}
-
-/// A verdict by the lines of the text.
-fn verdict_of(
-    text: &[u8],
-    read: &ReadRecipe,
-    verdict: &Result<Yes, RecipeRefusal>,
-) -> Result<Yes, RecipeNo>
-    ensures ok { IfOk result (λ yes. verdict.now ≡ Ok yes) }
-    ensures err { IfErr result IsOfFrames }
-{
-    match verdict {
-        Ok(yes) => Ok(*yes),
-        Err(refusal) => Err(told(text, read, refusal)),
-    }
-}
-
-/// The verdict on a recipe that was read, over the image of a ROM, and what shows why it is refused, if that is wanted.
-fn judge_read(
-    alloc: Global,
-    explained: &Explained,
-    image: &RomImage,
-    read: &ReadRecipe,
-    wanted: Wanted,
-) -> JudgedRecipe
-    requires budget { explained.now.options.budget ≤ MOST_WORDS }
-    requires board { image.now.machine ≡ Board }
-    ensures means { IfOk result.verdict (λ yes. AllMean image.now read.now.recipe explained.now.options.window yes.words yes.depth) }
-    ensures fits { IfOk result.verdict (λ yes. FitsAreas read.now.recipe) }
-    ensures err { IfErr result.verdict IsOfFrames }
-    ensures behind { result.behind ≡ behinds.Nothing }
-{
-    let RecipeOptions { budget, window, .. } = explained.options;
-    match judge_recipe(alloc, image, &read.recipe, budget, window) {
-        Ok(yes) => JudgedRecipe::plain(Ok(yes)),
-        Err(refusal) => {
-            let mut judged = JudgedRecipe::plain(Err(told(explained.text, read, &refusal)));
-            if let Wanted::Witness = wanted {
-                judged.witness = witness_of(alloc, image, read, &explained.options, &refusal);
-            }
-            judged
-        }
-    }
-}
-
-/// The verdict on a recipe that was read, over the image of a ROM, and an account of it.
-fn explain_read(
-    alloc: Global,
-    explained: &Explained,
-    image: &RomImage,
-    read: &ReadRecipe,
-    labels: Option<&Labels>,
-) -> JudgedRecipe
-    requires budget { explained.now.options.budget ≤ MOST_WORDS }
-    requires board { image.now.machine ≡ Board }
-    ensures means { IfOk result.verdict (λ yes. AllMean image.now read.now.recipe explained.now.options.window yes.words yes.depth) }
-    ensures fits { IfOk result.verdict (λ yes. FitsAreas read.now.recipe) }
-    ensures err { IfErr result.verdict IsOfFrames }
-    ensures behind { IsBehind (details.Account None) result.behind }
-{
-    let RecipeOptions { budget, window, .. } = explained.options;
-    let Ok(surveyed) = survey_recipe(alloc, image, &read.recipe, budget, window) else {
-        return JudgedRecipe {
-            verdict: Err(RecipeNo::NoMemory),
-            witness: Witness::Nothing,
-            behind: Behind::NoMemory,
-        };
-    };
-    JudgedRecipe {
-        verdict: verdict_of(explained.text, read, &surveyed.verdict),
-        witness: Witness::Nothing,
-        behind: account_of(alloc, explained, image, read, &surveyed, labels),
-    }
-}
-
 /// Refuses 49 unless a budget is one to 1,000,000 words.
 fn check_budget(budget: u32) -> Result<(), RecipeNo>
     ensures ok { IfOk result (λ _. budget ≤ MOST_WORDS) }
@@ -270,31 +150,163 @@ fn check_budget(budget: u32) -> Result<(), RecipeNo>
     Ok(())
 }
 
-/// The recipe of a text and the image of a ROM, or the first that applies of 51 to 56, 49 and 1.
-fn ready<'a>(
-    alloc: Global,
-    explained: &Explained<'a>,
-    labels: Option<&Labels>,
-) -> Result<(ReadRecipe, RomImage<'a>), RecipeNo>
-    ensures ok { IfOk result (λ ready. (ready.1 ≡ rom_on Board explained.now.options.map explained.now.rom.now)
-        × IsRomLength explained.now.options.map (length explained.now.rom.now) × (explained.now.options.budget ≤ MOST_WORDS)) }
-    ensures err { IfErr result (λ no. IsVerdict explained.now.rom.now explained.now.options (Err no)) }
-{
-    let read = read_recipe(alloc, explained.text, labels)?;
-    check_budget(explained.options.budget)?;
-    let image = board_image(explained.rom, explained.options.map)?;
-    Ok((read, image))
+/// A recipe that was read, and the image of the ROM over which it is judged.
+#[derive(Drop)]
+pub struct Ready<'a> {
+    pub alloc: Global,
+    pub explained: Explained<'a>,
+    pub read: ReadRecipe,
+    pub image: RomImage<'a>,
 }
 
-/// The answer of a refusal before the frames of a recipe were judged.
-fn plain_why(explained: &Explained, no: &RecipeNo) -> PlainWhy {
-    match no {
-        RecipeNo::BudgetRange => PlainWhy::Budget(explained.options.budget),
-        RecipeNo::RomLength => PlainWhy::RomLength {
-            bytes: explained.rom.len(),
-            map: explained.options.map,
-        },
-        _ => PlainWhy::Nothing,
+impl<'a> Ready<'a> {
+    /// The recipe of a text and the image of the ROM, or the first that applies of 51 to 56, 49 and 1.
+    fn new(alloc: Global, explained: &Explained<'a>) -> Result<Ready<'a>, RecipeNo>
+        ensures ok { IfOk result (λ ready. IsReady ready × (ready.explained ≡ explained.now)) }
+        ensures err { IfErr result (λ no. IsVerdict explained.now.rom.now explained.now.options (Err no)) }
+    {
+        let read = read_recipe(alloc, explained.text, explained.labels)?;
+        check_budget(explained.options.budget)?;
+        let image = board_image(explained.rom, explained.options.map)?;
+        Ok(Ready {
+            alloc,
+            explained: Explained {
+                rom: explained.rom,
+                text: explained.text,
+                labels: explained.labels,
+                options: explained.options,
+            },
+            read,
+            image,
+        })
+    }
+
+    /// The line of a piece, or, without one, of the jump to a list.
+    fn line_at(&self, piece: Option<u16>) -> u32 {
+        match piece {
+            Some(piece) => line_of_piece(&self.read, piece),
+            None => line_of_list(self.explained.text),
+        }
+    }
+
+    /// Why the recipe is not accepted, by the lines of its text.
+    fn told(&self, refusal: &RecipeRefusal) -> RecipeNo
+        ensures { IsVerdict self.now.explained.rom.now self.now.explained.options (Err result) }
+    {
+        let line = self.line_at(piece_of(refusal));
+        match *refusal {
+            RecipeRefusal::TooLong { .. } => RecipeNo::TooLong { line },
+            RecipeRefusal::Make(unmade) => RecipeNo::Make {
+                why: unmade.why,
+                line,
+            },
+            RecipeRefusal::Stuck { .. } => RecipeNo::Stuck { line },
+            RecipeRefusal::Shape(fault) => RecipeNo::Shape(fault),
+            RecipeRefusal::Frame(fault) => RecipeNo::Frame {
+                why: fault.why,
+                line,
+            },
+            RecipeRefusal::Memory => RecipeNo::NoMemory,
+        }
+    }
+
+    /// A frame that shows why the recipe is refused, if that is wanted.
+    fn witness(&self, refusal: &RecipeRefusal, wanted: Wanted) -> Witness
+        requires { IsReady self.now }
+    {
+        let Wanted::Witness = wanted else {
+            return Witness::Nothing;
+        };
+        let RecipeOptions { budget, window, .. } = self.explained.options;
+        let recipe = &self.read.recipe;
+        match find_refused(self.alloc, &self.image, recipe, budget, window, refusal) {
+            Ok(Some(refused)) => Witness::Frame(refused.frame),
+            Ok(None) => Witness::Nothing,
+            Err(_) => Witness::NoMemory,
+        }
+    }
+
+    /// The verdict, and what shows why the recipe is refused, if that is wanted.
+    #[tactic(auto, using(crate::proofs::Verdicts::accepted))]
+    fn judge(&self, wanted: Wanted) -> JudgedRecipe
+        requires { IsReady self.now }
+        ensures verdict { IsVerdict self.now.explained.rom.now self.now.explained.options result.verdict }
+        ensures behind { result.behind ≡ behinds.Nothing }
+    {
+        let RecipeOptions { budget, window, .. } = self.explained.options;
+        let (verdict, witness) = match judge_recipe(
+            self.alloc,
+            &self.image,
+            &self.read.recipe,
+            budget,
+            window,
+        ) {
+            Ok(yes) => (Ok(yes), Witness::Nothing),
+            Err(refusal) => (Err(self.told(&refusal)), self.witness(&refusal, wanted)),
+        };
+        JudgedRecipe {
+            verdict,
+            witness,
+            behind: Behind::Nothing,
+        }
+    }
+
+    /// The verdict, and an account of it.
+    #[tactic(auto, using(crate::proofs::Verdicts::accepted))]
+    fn explain(&self, labels: Option<&Labels>) -> JudgedRecipe
+        requires { IsReady self.now }
+        ensures verdict { IsVerdict self.now.explained.rom.now self.now.explained.options result.verdict }
+        ensures behind { IsBehind (details.Account None) result.behind }
+    {
+        let RecipeOptions { budget, window, .. } = self.explained.options;
+        let (verdict, behind) = match survey_recipe(
+            self.alloc,
+            &self.image,
+            &self.read.recipe,
+            budget,
+            window,
+        ) {
+            Ok(surveyed) => (
+                match &surveyed.verdict {
+                    Ok(yes) => Ok(*yes),
+                    Err(refusal) => Err(self.told(refusal)),
+                },
+                Behind::of(account_text(self, &surveyed, labels)),
+            ),
+            Err(_) => (Err(RecipeNo::NoMemory), Behind::NoMemory),
+        };
+        JudgedRecipe {
+            verdict,
+            witness: Witness::Nothing,
+            behind,
+        }
+    }
+
+    /// The answer with clocks, and what shows why the recipe is refused, if that is wanted. No frame is looked for that takes too long.
+    fn time(&self, clocks: &ClockOptions, wanted: Wanted) -> (RecipeAnswer, Witness)
+        requires { IsReady self.now }
+        ensures { IsTimedAnswer self.now.explained.rom.now self.now.explained.options clocks.now result.0 }
+    {
+        let RecipeOptions { budget, window, .. } = self.explained.options;
+        let recipe = &self.read.recipe;
+        match judge_recipe_timed(
+            self.alloc,
+            &self.image,
+            recipe,
+            budget,
+            window,
+            &clocks.timing,
+        ) {
+            Ok(timed) => (clocks.line.answer(timed), Witness::Nothing),
+            Err(TimedRecipeRefusal::Slow { piece }) => (
+                Answer::Slow(RecipeLine(self.line_at(piece))),
+                Witness::Nothing,
+            ),
+            Err(TimedRecipeRefusal::Judged(refusal)) => (
+                Answer::Judged(Err(self.told(&refusal))),
+                self.witness(&refusal, wanted),
+            ),
+        }
     }
 }
 
@@ -303,81 +315,33 @@ fn refused(alloc: Global, explained: &Explained, no: RecipeNo, wanted: Wanted) -
     ensures verdict { result.verdict ≡ Err no }
     ensures behind { IsBehind (wanted_detail wanted.entry) result.behind }
 {
-    let number = no.number();
-    let why = plain_why(explained, &no);
+    let why = match no {
+        RecipeNo::BudgetRange => PlainWhy::Budget(explained.options.budget),
+        RecipeNo::RomLength => PlainWhy::RomLength {
+            bytes: explained.rom.len(),
+            map: explained.options.map,
+        },
+        _ => PlainWhy::Nothing,
+    };
     JudgedRecipe {
         verdict: Err(no),
         witness: Witness::Nothing,
-        behind: plain_account(Machine::Board, alloc, number, why, wanted.detail()),
-    }
-}
-
-/// The verdict on a recipe that is ready to be judged, and what is wanted beside it.
-fn judge_ready(
-    alloc: Global,
-    explained: &Explained,
-    image: &RomImage,
-    read: &ReadRecipe,
-    wanted: Wanted,
-) -> JudgedRecipe
-    requires budget { explained.now.options.budget ≤ MOST_WORDS }
-    requires board { image.now.machine ≡ Board }
-    ensures means { IfOk result.verdict (λ yes. AllMean image.now read.now.recipe explained.now.options.window yes.words yes.depth) }
-    ensures fits { IfOk result.verdict (λ yes. FitsAreas read.now.recipe) }
-    ensures err { IfErr result.verdict IsOfFrames }
-    ensures behind { IsBehind (wanted_detail wanted.entry) result.behind }
-{
-    match wanted {
-        Wanted::Verdict | Wanted::Witness => judge_read(alloc, explained, image, read, wanted),
-        Wanted::Account(labels) => explain_read(alloc, explained, image, read, labels),
+        behind: plain_account(Machine::Board, alloc, no.number(), why, wanted.detail()),
     }
 }
 
 /// The verdict on the recipe of this text over the bytes of a ROM on the board: the first that applies of 51 to 56, 49 and 1, else that
 /// of `judge_recipe`; and what is wanted beside it.
-pub fn judge_text(
-    alloc: Global,
-    explained: &Explained,
-    labels: Option<&Labels>,
-    wanted: Wanted,
-) -> JudgedRecipe
+pub fn judge_text(alloc: Global, explained: &Explained, wanted: Wanted) -> JudgedRecipe
     ensures verdict { IsVerdict explained.now.rom.now explained.now.options result.verdict }
     ensures behind { IsBehind (wanted_detail wanted.entry) result.behind }
 {
-    match ready(alloc, explained, labels) {
-        Ok((read, image)) => judge_ready(alloc, explained, &image, &read, wanted),
+    match Ready::new(alloc, explained) {
+        Ok(ready) => match wanted {
+            Wanted::Verdict | Wanted::Witness => ready.judge(wanted),
+            Wanted::Account(labels) => ready.explain(labels),
+        },
         Err(no) => refused(alloc, explained, no, wanted),
-    }
-}
-
-/// The answer to a recipe that was read, with its clocks, over the image of a ROM, and what shows why it is refused, if that is wanted. No
-/// frame is looked for that takes too long.
-fn time_read(
-    alloc: Global,
-    explained: &Explained,
-    image: &RomImage,
-    read: &ReadRecipe,
-    clocks: &ClockOptions,
-    wanted: Wanted,
-) -> (RecipeAnswer, Witness)
-    requires budget { explained.now.options.budget ≤ MOST_WORDS }
-    requires board { image.now.machine ≡ Board }
-    ensures { IsTimedRead image.now read.now.recipe explained.now.options clocks.now result.0 }
-{
-    let RecipeOptions { budget, window, .. } = explained.options;
-    match judge_recipe_timed(alloc, image, &read.recipe, budget, window, &clocks.timing) {
-        Ok(timed) => (clocks.line.answer(timed), Witness::Nothing),
-        Err(TimedRecipeRefusal::Slow { piece }) => (
-            Answer::Slow(RecipeLine(line_at(explained.text, read, piece))),
-            Witness::Nothing,
-        ),
-        Err(TimedRecipeRefusal::Judged(refusal)) => (
-            Answer::Judged(Err(told(explained.text, read, &refusal))),
-            match wanted {
-                Wanted::Witness => witness_of(alloc, image, read, &explained.options, &refusal),
-                Wanted::Verdict | Wanted::Account(_) => Witness::Nothing,
-            },
-        ),
     }
 }
 
@@ -386,14 +350,13 @@ fn time_read(
 pub fn time_text(
     alloc: Global,
     explained: &Explained,
-    labels: Option<&Labels>,
     clocks: &ClockOptions,
     wanted: Wanted,
 ) -> (RecipeAnswer, Witness)
     ensures { IsAnswer explained.now.rom.now explained.now.options (Some clocks.now) result.0 }
 {
-    match ready(alloc, explained, labels) {
-        Ok((read, image)) => time_read(alloc, explained, &image, &read, clocks, wanted),
+    match Ready::new(alloc, explained) {
+        Ok(ready) => ready.time(clocks, wanted),
         Err(no) => (Answer::Judged(Err(no)), Witness::Nothing),
     }
 }

@@ -16,11 +16,10 @@ mod recipes;
 mod tally;
 mod text_lines;
 
-pub use account::Explained;
 pub use answer::{RecipeAnswer, RecipeNo};
 pub use dvg_recipe_text::{ReadRecipe, RecipeTextFault, RecipeTextWhy};
 pub use frames::{Recorded, membership_of, ready, run_belongs};
-pub use judging::{JudgedRecipe, RecipeOptions, Wanted, Witness, judge_text, time_text};
+pub use judging::{Explained, JudgedRecipe, RecipeOptions, Wanted, Witness, judge_text, time_text};
 pub use membership::{Membership, membership_line_of, membership_outcome_of};
 pub use printing::run_print;
 pub use reading::load_recipe;

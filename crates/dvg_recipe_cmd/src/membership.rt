@@ -1,7 +1,7 @@
 //! What is said of a frame and a recipe, and its line.
 
-ghost use Rattle.std.specs.Prelude.{◌≡◌};
-ghost use Rattle.dvg_recipe_cmd.specs.Answers.{membership_line_text, membership_outcome};
+ghost use Rattle.std.specs.Prelude.{◌≡◌, ◌++◌, codes};
+ghost use Rattle.dvg_recipe_cmd.specs.Answers.{membership_outcome, membership_text};
 
 use dvg_spelling::{Outcome, Report};
 
@@ -34,7 +34,7 @@ pub fn membership_outcome_of(membership: Membership) -> Outcome
 
 /// The line of an answer, from behind the frame's name on, with its LF: 96 bytes at most. Takes no memory.
 pub fn membership_line_of(membership: Membership) -> Report
-    ensures { result ≡ membership_line_text membership }
+    ensures { result ≡ membership_text membership ++ codes "\n" }
 {
     let mut line = Report::new();
     match membership {

@@ -11,9 +11,8 @@ ghost use Rattle.dvg_recipe_cmd.specs.Private.Judging.{wanted_detail};
 ghost use Rattle.dvg_cmd.specs.Detail.{IsBehind};
 ghost use Rattle.dvg_cmd.specs.declared.detail.Detail.TheVariants as details;
 
-use crate::account::Explained;
 use crate::answer::RecipeAnswer;
-use crate::judging::{RecipeOptions, Wanted, Witness, judge_text, time_text};
+use crate::judging::{Explained, RecipeOptions, Wanted, Witness, judge_text, time_text};
 use crate::reading::read_text;
 use dvg_cmd::{
     Behind, ClockOptions, Detail, Layout, Lines, NamedReader, Progress, Tell, run_each,
@@ -48,139 +47,6 @@ struct Answered {
     behind: Behind,
 }
 
-/// That a recipe can't be opened or read, and what is wanted beside it.
-fn unread(alloc: Global, wanted: Wanted) -> Answered
-    ensures answer { result.answer ≡ answers.Unread }
-    ensures behind { IsBehind (wanted_detail wanted.entry) result.behind }
-{
-    Answered {
-        answer: Answer::Unread,
-        witness: Witness::Nothing,
-        behind: unread_account(Machine::Board, alloc, wanted.detail()),
-    }
-}
-
-/// That there is no memory for the text of a recipe, and what is wanted beside it.
-fn no_memory(wanted: Wanted) -> Answered
-    ensures answer { result.answer ≡ answers.NoMemory }
-    ensures behind { IsBehind (wanted_detail wanted.entry) result.behind }
-{
-    Answered {
-        answer: Answer::NoMemory,
-        witness: Witness::Nothing,
-        behind: match wanted {
-            Wanted::Verdict | Wanted::Witness => Behind::Nothing,
-            Wanted::Account(_) => Behind::NoMemory,
-        },
-    }
-}
-
-/// The verdict on the text of a recipe, and what is wanted beside it.
-fn plain_answer(
-    alloc: Global,
-    explained: &Explained,
-    labels: Option<&Labels>,
-    wanted: Wanted,
-) -> Answered
-    ensures answer { IsAnswer explained.now.rom.now explained.now.options None result.answer }
-    ensures behind { IsBehind (wanted_detail wanted.entry) result.behind }
-{
-    let judged = judge_text(alloc, explained, labels, wanted);
-    Answered {
-        answer: Answer::Judged(judged.verdict),
-        witness: judged.witness,
-        behind: judged.behind,
-    }
-}
-
-/// The answer to the text of a recipe of which no account is wanted, with its clocks if these are asked for, and a frame that shows why it
-/// is refused, if that is wanted.
-fn line_answer(
-    alloc: Global,
-    explained: &Explained,
-    labels: Option<&Labels>,
-    clocks: &Option<ClockOptions>,
-    wanted: Wanted,
-) -> Answered
-    requires { wanted_detail wanted ≡ details.Line }
-    ensures answer { IsAnswer explained.now.rom.now explained.now.options clocks.now result.answer }
-    ensures behind { IsBehind details.Line result.behind }
-{
-    match clocks {
-        Some(clocks) => {
-            let (answer, witness) = time_text(alloc, explained, labels, clocks, wanted);
-            Answered {
-                answer,
-                witness,
-                behind: Behind::Nothing,
-            }
-        }
-        None => plain_answer(alloc, explained, labels, wanted),
-    }
-}
-
-/// The answer to the text of a recipe, with its clocks if these are asked for and no account is wanted, and what is wanted beside it.
-fn answer_text(
-    alloc: Global,
-    explained: &Explained,
-    labels: Option<&Labels>,
-    clocks: &Option<ClockOptions>,
-    wanted: Wanted,
-) -> Answered
-    ensures answer { IsAnswer explained.now.rom.now explained.now.options (clocks_with (wanted_detail wanted.entry) clocks.now) result.answer }
-    ensures behind { IsBehind (wanted_detail wanted.entry) result.behind }
-{
-    match wanted {
-        Wanted::Account(_) => plain_answer(alloc, explained, labels, wanted),
-        Wanted::Verdict | Wanted::Witness => line_answer(alloc, explained, labels, clocks, wanted),
-    }
-}
-
-/// The answer to the recipe whose text a reader holds, and what is wanted beside it.
-fn answer_read<R: CountedRead>(
-    alloc: Global,
-    rom: &[u8],
-    reader: &mut R,
-    asked: &RecipeAsked,
-    labels: Option<&Labels>,
-    wanted: Wanted,
-) -> Answered
-    ensures says { SaysOf rom.now asked.now.options (clocks_with (wanted_detail wanted.entry) asked.now.clocks) (R.remaining reader.old)
-        (R.remaining reader.new) result.answer }
-    ensures count { R.failures reader.new ≡ count_after (is_unread result.answer) (R.failures reader.old) }
-    ensures behind { IsBehind (wanted_detail wanted.entry) result.behind }
-{
-    let text = match read_text(alloc, reader) {
-        Ok(text) => text,
-        Err(RunFault::Memory) => return no_memory(wanted),
-        Err(_) => return unread(alloc, wanted),
-    };
-    let explained = Explained {
-        rom,
-        text: &text,
-        options: asked.options,
-    };
-    answer_text(alloc, &explained, labels, &asked.clocks, wanted)
-}
-
-/// The answer to a recipe whose turn it is, and what is wanted beside it.
-fn answer_opened<R: CountedRead + Drop>(
-    alloc: Global,
-    rom: &[u8],
-    reader: Option<R>,
-    asked: &RecipeAsked,
-    labels: Option<&Labels>,
-    wanted: Wanted,
-) -> Answered
-    ensures answers { AnswersRecipe R.remaining R.failures rom.now asked.now (wanted_detail wanted.entry) reader result.answer }
-    ensures behind { IsBehind (wanted_detail wanted.entry) result.behind }
-{
-    match reader {
-        Some(mut reader) => answer_read(alloc, rom, &mut reader, asked, labels, wanted),
-        None => unread(alloc, wanted),
-    }
-}
-
 /// What judges recipes over a ROM, and tells of them.
 #[derive(Drop)]
 struct RecipeTeller<'a> {
@@ -190,6 +56,101 @@ struct RecipeTeller<'a> {
     wanted: Wanted<'a>,
     /// What came with the last answer.
     witness: Witness,
+}
+
+impl<'a> RecipeTeller<'a> {
+    /// That a recipe can't be opened or read.
+    fn unread(&self, alloc: Global) -> Answered
+        ensures answer { result.answer ≡ answers.Unread }
+        ensures behind { IsBehind (wanted_detail self.now.wanted) result.behind }
+    {
+        Answered {
+            answer: Answer::Unread,
+            witness: Witness::Nothing,
+            behind: unread_account(Machine::Board, alloc, self.wanted.detail()),
+        }
+    }
+
+    /// That there is no memory for the text of a recipe.
+    fn no_memory(&self) -> Answered
+        ensures answer { result.answer ≡ answers.NoMemory }
+        ensures behind { IsBehind (wanted_detail self.now.wanted) result.behind }
+    {
+        Answered {
+            answer: Answer::NoMemory,
+            witness: Witness::Nothing,
+            behind: match self.wanted {
+                Wanted::Verdict | Wanted::Witness => Behind::Nothing,
+                Wanted::Account(_) => Behind::NoMemory,
+            },
+        }
+    }
+
+    /// The verdict on the text of a recipe.
+    fn judge(&self, alloc: Global, explained: &Explained) -> Answered
+        ensures answer { IsAnswer explained.now.rom.now explained.now.options None result.answer }
+        ensures behind { IsBehind (wanted_detail self.now.wanted) result.behind }
+    {
+        let judged = judge_text(alloc, explained, self.wanted);
+        Answered {
+            answer: Answer::Judged(judged.verdict),
+            witness: judged.witness,
+            behind: judged.behind,
+        }
+    }
+
+    /// The answer to the text of a recipe, with its clocks if these are asked for and no account is wanted.
+    fn answer_text(&self, alloc: Global, text: &[u8]) -> Answered
+        ensures answer { IsAnswer self.now.rom.now self.now.asked.now.options (clocks_with (wanted_detail self.now.wanted) self.now.asked.now.clocks)
+            result.answer }
+        ensures behind { IsBehind (wanted_detail self.now.wanted) result.behind }
+    {
+        let explained = Explained {
+            rom: self.rom,
+            text,
+            labels: self.labels,
+            options: self.asked.options,
+        };
+        match self.wanted {
+            Wanted::Account(_) => self.judge(alloc, &explained),
+            Wanted::Verdict | Wanted::Witness => match &self.asked.clocks {
+                Some(clocks) => {
+                    let (answer, witness) = time_text(alloc, &explained, clocks, self.wanted);
+                    Answered {
+                        answer,
+                        witness,
+                        behind: Behind::Nothing,
+                    }
+                }
+                None => self.judge(alloc, &explained),
+            },
+        }
+    }
+
+    /// The answer to the recipe whose text a reader holds.
+    fn answer_read<R: CountedRead>(&self, alloc: Global, reader: &mut R) -> Answered
+        ensures says { SaysOf self.now.rom.now self.now.asked.now.options (clocks_with (wanted_detail self.now.wanted) self.now.asked.now.clocks)
+            (R.remaining reader.old) (R.remaining reader.new) result.answer }
+        ensures count { R.failures reader.new ≡ count_after (is_unread result.answer) (R.failures reader.old) }
+        ensures behind { IsBehind (wanted_detail self.now.wanted) result.behind }
+    {
+        match read_text(alloc, reader) {
+            Ok(text) => self.answer_text(alloc, &text),
+            Err(RunFault::Memory) => self.no_memory(),
+            Err(_) => self.unread(alloc),
+        }
+    }
+
+    /// The answer to a recipe whose turn it is.
+    fn answer_opened<R: CountedRead + Drop>(&self, alloc: Global, reader: Option<R>) -> Answered
+        ensures answers { AnswersRecipe R.remaining R.failures self.now.rom.now self.now.asked.now (wanted_detail self.now.wanted) reader result.answer }
+        ensures behind { IsBehind (wanted_detail self.now.wanted) result.behind }
+    {
+        match reader {
+            Some(mut reader) => self.answer_read(alloc, &mut reader),
+            None => self.unread(alloc),
+        }
+    }
 }
 
 impl<'a, R: CountedRead + Drop> Tell<NamedReader<R>> for RecipeTeller<'a> {
@@ -215,14 +176,7 @@ impl<'a, R: CountedRead + Drop> Tell<NamedReader<R>> for RecipeTeller<'a> {
             answer,
             witness,
             behind,
-        } = answer_opened(
-            alloc,
-            self.rom,
-            reader,
-            self.asked,
-            self.labels,
-            self.wanted,
-        );
+        } = self.answer_opened(alloc, reader);
         self.witness = witness;
         let outcome = behind.outcome_with(answer.outcome());
         let line = answer.line();

@@ -20,17 +20,13 @@ pub fn line_of_list(text: &[u8]) -> u32 {
     1
 }
 
-/// A block that is open.
-#[derive(Clone, Copy)]
-enum Block {
-    Either,
-    /// A repeat, whose line this is.
-    Repeat(u32),
-}
-
-/// The lines, counted from 1, of the repeats around a line, the outermost first.
-pub fn repeats_around(alloc: Global, text: &[u8], line: u32) -> Result<Vec<u32>, AllocError> {
-    let mut open: Vec<Block> = Vec::new(alloc);
+/// The blocks around a line, the outermost first: of a repeat its line, counted from 1.
+pub fn blocks_around(
+    alloc: Global,
+    text: &[u8],
+    line: u32,
+) -> Result<Vec<Option<u32>>, AllocError> {
+    let mut open = Vec::new(alloc);
     let mut number = 0u32;
     for bytes in text.split(|byte| *byte == b'\n') {
         number = number.saturating_add(1);
@@ -39,18 +35,12 @@ pub fn repeats_around(alloc: Global, text: &[u8], line: u32) -> Result<Vec<u32>,
         }
         let words = bytes.trim_ascii_start();
         if words == b"either".as_slice() {
-            open.push(Block::Either)?;
+            open.push(None)?;
         } else if words.starts_with(b"repeat ") {
-            open.push(Block::Repeat(number))?;
+            open.push(Some(number))?;
         } else if words == b"end".as_slice() {
             open.pop();
         }
     }
-    let mut repeats = Vec::new(alloc);
-    for block in &open {
-        if let Block::Repeat(number) = block {
-            repeats.push(*number)?;
-        }
-    }
-    Ok(repeats)
+    Ok(open)
 }
