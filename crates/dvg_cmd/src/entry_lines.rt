@@ -32,7 +32,7 @@ impl HasLine for TouchedEntry {
     ghost text = { touched_line };
 
     fn write<W: CountedWrite>(&self, out: &mut W) -> Result<(), WriteFault> {
-        write_lines(touched_line_of(self).as_slice(), &[], &[], out)
+        write_lines(touched_line_of(self).as_bytes(), &[], &[], out)
     }
 }
 

@@ -7,7 +7,6 @@
 
 mod arguments;
 mod dumps;
-mod entry_line;
 mod fault;
 mod outcome;
 mod places;
@@ -23,10 +22,9 @@ mod within;
 
 pub use arguments::{map_of, root_of, start_of};
 pub use dumps::{DumpLine, dump_line_of};
-pub use entry_line::EntryLine;
 pub use fault::{MakeRunFault, RunFault};
 pub use outcome::{Answer, FrameAnswer, ItemPlace, Outcome, Why, outcome_of};
-pub use places::place_line_of;
+pub use places::{PlaceLine, place_line_of};
 pub use remark::{RemarkKind, RemarkTally, remarks_line_of};
 pub use report::{
     Report, entry_name, hex_address, hex_word, make_line_of, make_report_of, report_of,
