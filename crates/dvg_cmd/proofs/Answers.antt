@@ -1,5 +1,5 @@
 -- The answer to a frame, over plain values.
-use Rattle.dvg_cmd.proofs.Common.{◌≡◌, ℕ, List, ◌++◌, false, length, Option, None, Some, Result, IfErr, IfSome, HasCallCause, words_of, IsFrameLength, Means, Yes, FrameRefusal, IsReadTo, arith, MOST_FRAME_READ, Judged, Judging, ReadsFrame, AnswersFrame, started, take, drop, subst, sym, refl, ap, Ok, Err, FrameAnswer, common_steps, Machine, MemoryMap, Window, Rom, rom_on, IsPrefix, IsJudged, IsReadFrom, VerdictOnBytes, AreImages, InRange, RangeRefusal, limited}
+use Rattle.dvg_cmd.proofs.Common.{◌≡◌, ℕ, List, ◌++◌, false, length, Option, None, Some, Result, IfErr, IfSome, HasCallCause, words_of, IsFrameLength, Means, Yes, FrameRefusal, IsReadTo, arith, MOST_FRAME_READ, Judged, Judging, ReadsFrame, AnswersFrame, started, take, drop, subst, sym, refl, Ok, Err, FrameAnswer, common_steps, Machine, MemoryMap, Window, Rom, rom_on, IsPrefix, IsJudged, IsReadFrom, VerdictOnBytes, AreImages, InRange, RangeRefusal, limited}
 use Rattle.dvg_cmd.specs.declared.timed_judge.ClockOptions.{ClockOptions}
 use Rattle.dvg_cmd.specs.declared.timed_judge.LineClocks.{LineClocks}
 use Rattle.dvg_cmd.specs.declared.timed_judge.LineClocks.TheVariants as line
