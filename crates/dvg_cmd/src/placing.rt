@@ -9,8 +9,8 @@ ghost use Rattle.dvg_cmd.specs.Placing.{PlacesFor, WritesPlaces, WritesPlacesPre
 
 use crate::entry_lines::write_each;
 use crate::inputs::InputBytes;
-use dvg_cert::{HashIndex, Key};
-use dvg_make::{FramesFault, make_for_frames};
+use dvg_cert::Key;
+use dvg_make::{FramesFault, make_with_index};
 use dvg_spelling::MakeRunFault;
 use dvg_survey::entry_places;
 use dvg_text::{CountedRead, CountedWrite, WriteFault};
@@ -54,8 +54,7 @@ pub fn run_places<R1: CountedRead, R2: CountedRead, W: CountedWrite>(
 {
     let bytes = InputBytes::read(alloc, rom, frames)?;
     let images = bytes.images(machine, alloc, map)?;
-    let cert = make_for_frames(alloc, &images.rom, roots, &images.frames)?;
-    let entries = HashIndex::new(alloc, &cert)?;
-    let places = entry_places(alloc, &images.rom, &cert, &entries, &window)?;
+    let made = make_with_index(alloc, &images.rom, roots, &images.frames)?;
+    let places = entry_places(alloc, &images.rom, &made.cert, &made.entries, &window)?;
     Ok(write_each(&places, out)?)
 }

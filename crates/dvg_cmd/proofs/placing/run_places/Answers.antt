@@ -9,15 +9,15 @@ pub returns-in_err-images-clause-refused : goal.returns-in_err-images-clause-ref
 returns-in_err-images-clause-refused g c =
     grind (arith, told_err, make_run_number, of_each, (c.in_err-images.ensures.refused _ _ c.in_ok-bytes.ensures.bytes c.args.roots.now))
 
-pub returns-in_err-cert-clause-refused : goal.returns-in_err-cert-clause-refused
-returns-in_err-cert-clause-refused g c =
+pub returns-in_err-made-clause-refused : goal.returns-in_err-made-clause-refused
+returns-in_err-made-clause-refused g c =
     grind (
       arith,
-      (told_err c.from_residual-in_err-cert.result),
+      (told_err c.from_residual-in_err-made.result),
       make_run_number,
       of_each,
       (frames_refused c.in_ok-images.ensures.images c.in_ok-bytes.ensures.bytes c.deref.ensures.value c.args.roots.now
-          c.in_err-cert.field-0.0 c.in_err-cert.ensures.err c.in_err-cert.ensures.told),
+          c.in_err-made.field-0.0 c.in_err-made.ensures.err c.in_err-made.ensures.told),
     )
 
 pub returns-in_err-write_each-clause-prefix : goal.returns-in_err-write_each-clause-prefix
@@ -25,7 +25,7 @@ returns-in_err-write_each-clause-prefix g c =
     grind (
       arith,
       (places_made c.in_ok-images.ensures.images c.in_ok-bytes.ensures.bytes c.deref.ensures.value c.args.roots.now
-          c.args.window c.in_ok-cert.cert.entries c.in_ok-places.places.items c.in_ok-cert.ensures.ok c.in_ok-places.ensures),
+          c.args.window c.in_ok-made.made.cert.entries c.in_ok-places.places.items c.in_ok-made.ensures.ok.list c.in_ok-places.ensures),
       joined,
       of_each,
     )
@@ -35,7 +35,7 @@ returns-clause-text g c =
     grind (
       arith,
       (places_made c.in_ok-images.ensures.images c.in_ok-bytes.ensures.bytes c.deref.ensures.value c.args.roots.now
-          c.args.window c.in_ok-cert.cert.entries c.in_ok-places.places.items c.in_ok-cert.ensures.ok c.in_ok-places.ensures),
+          c.args.window c.in_ok-made.made.cert.entries c.in_ok-places.places.items c.in_ok-made.ensures.ok.list c.in_ok-places.ensures),
       joined,
       of_each,
     )
