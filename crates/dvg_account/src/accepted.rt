@@ -1,6 +1,6 @@
 //! The account of what is accepted.
 
-ghost use Rattle.std.specs.Prelude.{◌≡◌, IfOk, IfSome, option_copied, flat_map};
+ghost use Rattle.std.specs.Prelude.{IfOk, IfSome, option_copied, flat_map};
 ghost use Rattle.dvg_account.specs.Told.{told, one};
 ghost use Rattle.dvg_account.specs.Accepted.{Surveyed, IsExtent, IsClipped, IsOwnAnswer, IsBoard, board_line, AcceptedLines, counts_lines, call_line};
 ghost use Rattle.dvg_account.specs.Building.{Adds, Tells};

@@ -1,7 +1,7 @@
 //! The account of a refusal because of an item of a frame or of a shape.
 
 ghost use Rattle.dvg_account.specs.Verdicts.{RefusedLines};
-ghost use Rattle.std.specs.Prelude.{◌≡◌, ◌∷◌, codes, option_copied, IfOk, OnOk, IfSome, IfNone};
+ghost use Rattle.std.specs.Prelude.{◌∷◌, codes, option_copied, IfOk, OnOk, IfSome, IfNone};
 ghost use Rattle.dvg_words.specs.Memory.{rom_word};
 ghost use Rattle.dvg_items.specs.Known.{shape_context};
 ghost use Rattle.dvg_items.specs.declared.item.Kind.TheVariants.{Shape};

@@ -1,7 +1,6 @@
 //! A text that is put together, and how numbers, places and entries are spelled in it.
 
-ghost use Rattle.std.specs.Prelude.{◌≡◌, ◌<◌, ◌∷◌, [], Some, IfOk, string_bytes, decimal};
-ghost use Rattle.dvg_text.specs.Grammar.{key_token};
+ghost use Rattle.std.specs.Prelude.{◌≡◌, ◌<◌, [], Some, IfOk, string_bytes, decimal};
 ghost use Rattle.dvg_account.specs.Building.{Adds};
 
 use dvg_cert::{End, Entry, Key, LitBox};

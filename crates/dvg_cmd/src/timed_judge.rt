@@ -1,9 +1,8 @@
 //! The judge of each frame by its own certificate, with the clocks that it takes.
 
-ghost use Rattle.std.specs.Prelude.{◌≡◌, Ok, Err, None, IfSome, false};
+ghost use Rattle.std.specs.Prelude.{◌≡◌, Ok, Err, None, IfSome};
 ghost use Rattle.dvg_make.specs.declared.judging.FrameRefusal.TheVariants.{Check};
-ghost use Rattle.dvg_cmd.specs.Frames.{IsAnswerOf, JudgesAlike, Timed, judged_timed, timed_answer, told_with};
-ghost use Rattle.dvg_cmd.specs.declared.detail.Detail.{Detail as Asked};
+ghost use Rattle.dvg_cmd.specs.Frames.{IsAnswerOf, Timed, judged_timed, timed_answer, told_with};
 ghost use Rattle.dvg_cmd.specs.declared.detail.Detail.TheVariants as details;
 ghost use Rattle.dvg_cmd.specs.Kept.{IsTimedFor};
 

@@ -1,6 +1,6 @@
 //! Shapes that call nothing.
 
-ghost use Rattle.std.specs.Prelude.{◌≡◌, IfOk, IsTrue, length, slice_get, Some, true};
+ghost use Rattle.std.specs.Prelude.{◌≡◌, IfOk, IsTrue, slice_get, Some, true};
 ghost use Rattle.dvg_words.specs.Memory.{Rom};
 ghost use Rattle.dvg_kept.specs.Private.Leaves.{AreLeaves, IsLeaf};
 

@@ -1,6 +1,6 @@
 //! The words of a line, taken one by one.
 
-ghost use Rattle.std.specs.Prelude.{◌≡◌, ◌<◌, ◌≤◌, ◌≤ℤ◌, IfSome};
+ghost use Rattle.std.specs.Prelude.{◌<◌, ◌≤◌, ◌≤ℤ◌, IfSome};
 ghost use Rattle.std.specs.Iterator.{at_most};
 ghost use Rattle.dvg_recipe_text.specs.Words.{left_of};
 

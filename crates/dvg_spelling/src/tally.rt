@@ -1,6 +1,6 @@
 //! Counts the lines of frames by what they say, and spells the line with these counts.
 
-ghost use Rattle.std.specs.Prelude.{◌≡◌, ◌+◌, ◌≤◌, ◌<◌, ◌++◌, true, length, codes, decimal};
+ghost use Rattle.std.specs.Prelude.{◌≡◌, ◌+◌, ◌≤◌, ◌<◌, ◌++◌, true, length, decimal};
 ghost use Rattle.dvg_text.specs.Devices.{count_after};
 ghost use Rattle.dvg_spelling.specs.Tally.{answer_number, no_lines, with_answer, refused_text, refused_texts, summary_text};
 

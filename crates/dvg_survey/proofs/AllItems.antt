@@ -1,5 +1,5 @@
 -- All items from a place on are determined, and so are the calls among them.
-use Rattle.dvg_survey.proofs.Common.{Source, ◌≡◌, ℕ, ◌<◌, ◌≤◌, List, [], ◌∷◌, length, sym, subst, arith, ⊎_elim, cases_lt, cell_at, Item, LeadsTo, Stand, AreAll, Kind, item_same, same_lead, stand_before}
+use Rattle.dvg_survey.proofs.Common.{Source, ◌≡◌, ℕ, ◌<◌, ◌≤◌, List, [], ◌∷◌, length, sym, subst, arith, ⊎_elim, cases_lt, cell_at, Item, Stand, AreAll, Kind, item_same, same_lead, stand_before}
 
 module _ (kind : Kind) (word : Source) (first : ℕ) where
   -- as many items that stand are the same

@@ -1,5 +1,5 @@
 -- Which item of a shape reaches as far as its entry's box, and the stroke that is found from one shape to the next.
-use Rattle.dvg_survey.proofs.Common.{◌≡◌, ◌↔◌, Bool, false, ℕ, suc, ◌+◌, ◌-◌, ◌<◌, ◌≤◌, List, [], ◌∷◌, ◌++◌, Option, Some, None, inl, inr, refl, sym, ap, ◌∙◌, subst, arith, Rom, rom_word, Entry, Item, Shape, Seen, Point, IsClaim, IsCertificate, MemoryMap, Contains, Context, shape_context, target, scale_before, listed_claim, named_listed, Comes, comes_on, lit_points, relative_corners, IfSome, IfNone, LitBox}
+use Rattle.dvg_survey.proofs.Common.{◌≡◌, ◌↔◌, Bool, false, ℕ, suc, ◌+◌, ◌-◌, ◌<◌, ◌≤◌, List, [], ◌∷◌, ◌++◌, Option, Some, None, inl, inr, refl, sym, ap, ◌∙◌, subst, arith, Rom, Entry, Item, Shape, Seen, Point, IsClaim, IsCertificate, MemoryMap, Contains, Context, shape_context, target, scale_before, listed_claim, named_listed, Comes, comes_on, lit_points, relative_corners, IfSome, IfNone, LitBox}
 use Rattle.std.specs.Prelude.{IsTrue}
 use Rattle.dvg_check.specs.declared.leaving.Edge.{Edge}
 use Rattle.dvg_survey.specs.Furthest.{Reaches, FirstReaches, NoneReaches, IsLitDraw, FindsStroke}

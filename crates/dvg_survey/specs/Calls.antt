@@ -5,7 +5,6 @@ use Rattle.dvg_words.specs.Memory.{Rom, rom_word}
 use Rattle.dvg_cert.specs.declared.entry.Entry.{Entry}
 use Rattle.dvg_cert.specs.declared.entry.LitBox.{LitBox}
 use Rattle.dvg_items.specs.declared.item.Item.{Item}
-use Rattle.dvg_items.specs.declared.item.Kind.{Kind}
 use Rattle.dvg_items.specs.declared.item.Kind.TheVariants.{Shape}
 pub use Rattle.dvg_items.specs.Items.{Stand, AreAll}
 use Rattle.dvg_items.specs.Known.{Context, callee, shape_context}

@@ -1,7 +1,6 @@
 //! Shapes that read a word in which two ROMs differ.
 
 ghost use Rattle.std.specs.Prelude.{◌≡◌, ◌↔◌, ◌<◌, ℕ, Some, Contains, IsTrue, IfSome, IfNone, IfOk};
-ghost use Rattle.dvg_words.specs.declared.map.TheConstants.{ADDRESS_END};
 ghost use Rattle.dvg_survey.specs.Touched.{DiffersAt, taken_at, ReadsDiffering, IsTouched, AreTouched, ReachesTouched};
 
 use dvg_cert::Entry;

@@ -1,6 +1,4 @@
-use Rattle.std.proofs.Common.{rules, IfSome, IfOk, List, sym, subst}
-use Rattle.dvg_make.proofs.Common.{Entry}
-use Rattle.dvg_make.specs.Frames.{FrameMade}
+use Rattle.std.proofs.Common.{rules}
 use Rattle.dvg_kept.proofs.OwnList.{made_list}
 use Rattle.dvg_kept.proofs.own.frame_entries.Goals as goal
 

@@ -1,4 +1,4 @@
-use Rattle.dvg_survey.proofs.Common.{nat_tests, subst, IsSoundStep, ◌≡◌, ◌∙◌, ◌∷◌, Some, arith, rules, refl, sym, context_of, next_address, comes_first, next_is, all_given}
+use Rattle.dvg_survey.proofs.Common.{nat_tests, subst, IsSoundStep, ◌≡◌, ◌∷◌, Some, arith, rules, refl, sym, context_of, next_address, comes_first, next_is, all_given}
 use Rattle.dvg_survey.proofs.Walking.{lost_by, losses_on, none_lead}
 use Rattle.dvg_survey.proofs.losses.losses_before.Goals as goal
 

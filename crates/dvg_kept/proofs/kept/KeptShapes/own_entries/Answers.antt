@@ -1,6 +1,6 @@
 use Rattle.std.proofs.Common.{sym, subst}
 use Rattle.dvg_kept.specs.Kept.{Kept}
-use Rattle.dvg_kept.specs.Private.Own.{AreOwn, HasOwn}
+use Rattle.dvg_kept.specs.Private.Own.{HasOwn}
 use Rattle.dvg_kept.proofs.OwnList.{own_list}
 use Rattle.dvg_kept.proofs.kept.KeptShapes.own_entries.Goals as goal
 

@@ -1,4 +1,4 @@
-use Rattle.std.proofs.Common.{rules, arith, ◌≡◌, ◌∙◌, ◌<◌, ap, length, Bool, List, true, false, get_or, sym, subst}
+use Rattle.std.proofs.Common.{rules, ◌≡◌, ◌∙◌, ◌<◌, ap, length, Bool, List, true, false, get_or, sym, subst}
 use Rattle.dvg_kept.specs.Private.Marks.{Marks}
 use Rattle.dvg_kept.proofs.Picking.{read_at, picked_more, picked_same}
 use Rattle.dvg_kept.proofs.marks.MarkedEntries.marked.Goals as goal
