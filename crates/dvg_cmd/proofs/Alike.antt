@@ -1,15 +1,24 @@
 -- Judges that say the same.
-use Rattle.dvg_cmd.proofs.Common.{ℕ, List, Option, None, Some, FrameAnswer, Judged, Judging, AnswersFrame, FrameDetail}
-use Rattle.dvg_cmd.specs.Frames.{AnswerMeans, JudgesAlike, Slow, Timed, Unread}
+use Rattle.dvg_cmd.proofs.Common.{ℕ, List, Option, None, Some, IfSome, FrameAnswer, Judged, Judging, AnswersFrame, FrameDetail}
+use Rattle.dvg_cmd.specs.Frames.{AnswerMeans, JudgesAlike, Slow, Timed, Unread, refusal_in}
 use Rattle.dvg_spelling.specs.declared.outcome.Answer.TheVariants.{NoMemory}
 use Rattle.dvg_cmd.specs.SeveralFrames.{AnswersOpened, IsLineOfFrame}
 use Rattle.dvg_cmd.specs.Telling.{TellsAlike}
+
+if_some : {A : Type 0} (o : Option A) (P Q : A → Type 0) → ((x : A) → P x → Q x) → IfSome o P → IfSome o Q
+if_some None P Q step h = tt
+if_some (Some x) P Q step h = step x h
 
 module _ (first later : Judging) (alike : JudgesAlike first later) (start : Option ℕ) where
   answer_alike : (frame left : Option (List ℕ)) (answer : FrameAnswer) → AnswersFrame later start frame left answer
       → AnswersFrame first start frame left answer
   answer_alike frame left answer a =
-      record { bytes = a.bytes; answers = said answer a.answers; means = rw (alike.mode, alike.rom, alike.window) at a.means }
+      record {
+        bytes = a.bytes;
+        answers = said answer a.answers;
+        told = if_some (refusal_in answer) (later.is_told a.bytes) (first.is_told a.bytes) (alike.told a.bytes) a.told;
+        means = rw (alike.mode, alike.rom, alike.window) at a.means;
+      }
     where
       said : (answer : FrameAnswer) → AnswerMeans later.is_answer start frame left a.bytes answer
           → AnswerMeans first.is_answer start frame left a.bytes answer

@@ -1,5 +1,5 @@
 -- The answer to a frame, over plain values.
-use Rattle.dvg_cmd.proofs.Common.{◌≡◌, ℕ, List, ◌++◌, false, length, Option, None, Some, Result, IfErr, IfSome, HasCallCause, words_of, IsFrameLength, Means, Yes, FrameRefusal, IsReadTo, arith, MOST_FRAME_READ, Judged, Judging, ReadsFrame, AnswersFrame, started, take, drop, subst, sym, refl, Ok, Err, FrameAnswer, common_steps, Machine, MemoryMap, Window, Rom, rom_on, IsPrefix, IsJudged, IsReadFrom, VerdictOnBytes, AreImages, InRange, RangeRefusal, limited}
+use Rattle.dvg_cmd.proofs.Common.{◌≡◌, ℕ, List, ◌++◌, length, Option, Result, IfErr, IfSome, words_of, IsFrameLength, Means, HasCallCause, Yes, FrameRefusal, IsReadTo, arith, MOST_FRAME_READ, Judged, Judging, ReadsFrame, AnswersFrame, started, take, drop, subst, sym, refl, ap, Ok, Err, FrameAnswer, common_steps, Machine, MemoryMap, Window, Rom, rom_on, IsPrefix, IsJudged, IsReadFrom, VerdictOnBytes, AreImages, InRange, RangeRefusal, limited}
 use Rattle.dvg_cmd.specs.declared.timed_judge.ClockOptions.{ClockOptions}
 use Rattle.dvg_cmd.specs.declared.timed_judge.LineClocks.{LineClocks}
 use Rattle.dvg_cmd.specs.declared.timed_judge.LineClocks.TheVariants as line
@@ -9,12 +9,10 @@ use Rattle.dvg_clocks.specs.declared.judging.TimedYes.{TimedYes}
 use Rattle.dvg_check.specs.declared.verdict.Refusal.{Refusal}
 use Rattle.dvg_spelling.specs.declared.outcome.ItemPlace.TheVariants as place
 use Rattle.dvg_spelling.specs.declared.outcome.Answer.TheVariants.{NoMemory}
-use Rattle.dvg_make.specs.declared.judging.FrameRefusal.TheVariants.{Check, Make}
-use Rattle.dvg_check.specs.Judged.{Shapes}
-use Rattle.dvg_check.specs.declared.verdict.Refusal.TheVariants as refusal
-use Rattle.dvg_cmd.specs.Frames.{AnswerMeans, IsAnswerOf, Slow, Timed, TimedAnswer, Unread, VerdictOver, accepted_with, is_unread, judged_by_own, judged_over, judged_timed, timed_answer, told_with, yes_in}
+use Rattle.dvg_make.specs.declared.judging.FrameRefusal.TheVariants.{Check}
+use Rattle.dvg_cmd.specs.Frames.{Slow, Timed, TimedAnswer, Unread, judged_timed, refusal_in, timed_answer, told_with, yes_in}
 use Rattle.dvg_cmd.specs.Kept.{IsKeptFor, IsTimedFor}
-use Rattle.dvg_cmd.specs.SafeFrames.{MeansFrame}
+use Rattle.dvg_cmd.specs.Private.Judging.{IsAnswerOf}
 use Rattle.dvg_clocks.specs.Judging.{IsTimed}
 use Rattle.dvg_kept.specs.Timed.{TimedKept}
 use Rattle.dvg_kept.specs.Kept.{Kept}
@@ -29,25 +27,41 @@ of_all P reader start bytes reads long holds = grind (arith)
 module _ (j : Judging) (start : Option ℕ) (reader left : Option (List ℕ)) where
   -- what a judge says of bytes that were read is an answer to all that the reader held
   pub answers_judged : (a : FrameAnswer) (bytes slice : List ℕ) → IsReadTo MOST_FRAME_READ reader left → ReadsFrame reader start bytes
-      → slice ≡ bytes → IsAnswerOf j slice a → AnswersFrame j start reader left a
-  answers_judged a bytes slice read reads same said = record { bytes = slice; answers = of_answer a said.answer; means = held (yes_in a) said.whole said.means }
+      → slice ≡ bytes → j.is_answer slice a
+      → IfSome (yes_in a) (λ yes. IsFrameLength (length slice))
+      → IfSome (yes_in a) (λ yes. Means j.mode (record { frame = words_of slice; rom = j.rom }) j.window yes.words yes.depth)
+      → IfSome (refusal_in a) (j.is_told slice)
+      → AnswersFrame j start reader left a
+  answers_judged a bytes slice read reads same answer long means told = by a answer long means told
     where
       of : ReadsFrame reader start slice
       of = subst (ReadsFrame reader start) (sym same) reads
 
-      of_answer : (a : FrameAnswer) → j.is_answer slice a → AnswerMeans j.is_answer start reader left slice a
-      of_answer Unread answer = tt
-      of_answer (Judged v) answer = (read, of, answer)
-      of_answer (Timed t) answer = (read, of, answer)
-      of_answer (Slow at) answer = (read, of, answer)
-      of_answer NoMemory answer = (read, of, answer)
-
-      held : (yes : Option Yes) → IfSome yes (λ yes. IsFrameLength (length slice))
-          → IfSome yes (λ yes. Means j.mode (record { frame = words_of slice; rom = j.rom }) j.window yes.words yes.depth)
-          → IfSome yes (MeansFrame j.mode j.rom j.window start reader)
-      held None long means = tt
-      held (Some y) long means =
-          of_all (λ b. Means j.mode (record { frame = words_of b; rom = j.rom }) j.window y.words y.depth) reader start slice of long means
+      by : (a : FrameAnswer) → j.is_answer slice a → IfSome (yes_in a) (λ yes. IsFrameLength (length slice))
+          → IfSome (yes_in a) (λ yes. Means j.mode (record { frame = words_of slice; rom = j.rom }) j.window yes.words yes.depth)
+          → IfSome (refusal_in a) (j.is_told slice) → AnswersFrame j start reader left a
+      by (Judged (Ok y)) answer long means told =
+          record {
+            bytes = slice;
+            answers = (read, of, answer);
+            told = tt;
+            means =
+                of_all (λ b. Means j.mode (record { frame = words_of b; rom = j.rom }) j.window y.words y.depth) reader start slice of long
+                means;
+          }
+      by (Judged (Err r)) answer long means told = record { bytes = slice; answers = (read, of, answer); told = told; means = tt }
+      by (Timed t) answer long means told =
+          record {
+            bytes = slice;
+            answers = (read, of, answer);
+            told = tt;
+            means =
+                of_all (λ b. Means j.mode (record { frame = words_of b; rom = j.rom }) j.window t.yes.words t.yes.depth) reader start slice of
+                long means;
+          }
+      by (Slow at) answer long means told = record { bytes = slice; answers = (read, of, answer); told = tt; means = tt }
+      by Unread answer long means told = record { bytes = slice; answers = tt; told = tt; means = tt }
+      by NoMemory answer long means told = record { bytes = slice; answers = (read, of, answer); told = tt; means = tt }
 
 -- ---- what a frame comes to
 
@@ -68,40 +82,10 @@ module _ (machine : Machine) (rom : List ℕ) (map : MemoryMap) (bytes : List �
       (subst (λ y. IsJudged y words w budget v) a.rom_is said)
 
   pub own_verdict : VerdictOnBytes machine rom map bytes budget w v
-  own_verdict = by v on_bytes
-    where
-      by : (v : Result Yes FrameRefusal) → IsJudged (rom_on machine map rom) (words_of bytes) w budget v
-          → VerdictOnBytes machine rom map bytes budget w v
-      by (Err (Check (refusal.Image f))) h = absurd h.refused
-      by (Err (Check refusal.BudgetRange)) h = absurd h.refused
-      by v h =
-          record {
-            in_range = a.in_range;
-            rom_length = a.rom_length;
-            by_own = h.verdict;
-            means = h.means;
-            least = h.least;
-            refused = h.refused;
-            told = h.told;
-          }
+  own_verdict = grind (arith, on_bytes)
 
--- ---- what a judge answers without clocks
-
-module _ (machine : Machine) (rom : List ℕ) (map : MemoryMap) (bytes : List ℕ) (budget : ℕ) (w : Window) where
-  pub own_answer : (v : Result Yes FrameRefusal) → VerdictOnBytes machine rom map bytes budget w v
-      → IsAnswerOf (judged_by_own machine rom map budget w) bytes (Judged v)
-  own_answer (Ok y) h = record { answer = h; judged = refl; whole = h.in_range.frame_length; means = h.means }
-  own_answer (Err r) h = record { answer = h; judged = refl; whole = tt; means = tt }
-
-  pub cause_told : (v : Result Yes FrameRefusal) → VerdictOnBytes machine rom map bytes budget w v
-      → IfErr v (HasCallCause (rom_on machine map rom) (words_of bytes))
-  cause_told (Err (Make at why)) h = h.told
-  cause_told v h = tt
-
-pub over_answer : (shapes : Shapes) (count : ℕ) (bytes : List ℕ) (budget : ℕ) (v : Result Yes FrameRefusal)
-    → VerdictOver shapes count bytes budget v → IsAnswerOf (judged_over shapes count budget) bytes (Judged v)
-over_answer shapes count bytes budget (Ok y) h = record { answer = h; judged = refl; whole = h.0.in_range.frame_length; means = h.0.means }
-over_answer shapes count bytes budget (Err r) h = record { answer = h; judged = refl; whole = tt; means = tt }
+  pub own_told : IfErr v (HasCallCause (rom_on machine map rom) (words_of bytes))
+  own_told = on_bytes.told
 
 -- what is said over kept shapes
 module _ (machine : Machine) (rom : List ℕ) (map : MemoryMap) (bytes : List ℕ) (budget : ℕ) (w : Window) (words : List ℕ) (kept : Kept)
@@ -116,10 +100,8 @@ module _ (machine : Machine) (rom : List ℕ) (map : MemoryMap) (bytes : List �
   pub kept_verdict : VerdictOnBytes machine rom map bytes budget w v
   kept_verdict = own_verdict machine rom map bytes budget w words kept.rom images v in_window
 
--- the line of an accepted frame tells a yes, with its clocks or without
-accepted_shown : (l : LineClocks) (t : TimedYes) → (is_unread {R = FrameRefusal} (accepted_with l t) ≡ false) × (yes_in (accepted_with l t) ≡ Some t.yes)
-accepted_shown line.Told t = (refl, refl)
-accepted_shown line.LeftOut t = (refl, refl)
+  pub kept_told : IfErr v (HasCallCause (rom_on machine map rom) (words_of bytes))
+  kept_told = own_told machine rom map bytes budget w words kept.rom images v in_window
 
 -- what is said with clocks of the images of these bytes
 module _ (asked : ClockOptions) (machine : Machine) (rom : List ℕ) (map : MemoryMap) (bytes : List ℕ) (budget : ℕ) (w : Window)
@@ -140,29 +122,83 @@ module _ (asked : ClockOptions) (machine : Machine) (rom : List ℕ) (map : Memo
           (record { verdict = on.verdict; means = tt; least = tt; refused = on.refused.0; told = on.refused.1 })
 
       by : (v : Result TimedYes TimedRefusal) → IsTimed asked.timing (rom_on machine map rom) (words_of bytes) w budget v → Says v
-      by (Ok t) on =
-          let accepted : TimedAnswer asked.timing machine rom map budget w bytes (Timed t) = (
+      by (Ok t) on = shown asked.line refl
+        where
+          accepted : TimedAnswer asked.timing machine rom map budget w bytes (Timed t)
+          accepted = (
             record {
               in_range = a.in_range;
               rom_length = a.rom_length;
-              by_own = on.verdict.0;
               means = on.means;
               least = on.least;
-              refused = tt;
-              told = tt;
+              by_own =
+                  on.verdict.0;
             },
             record { sum = on.verdict.1; within = on.verdict.2; runs = on.clocks },
-          ) in
-          let shown = accepted_shown asked.line t in
-          record {
-            answer = (Timed t, accepted, refl);
-            judged = shown.0;
-            whole = rw shown.1 a.in_range.frame_length;
-            means = rw shown.1 on.means;
-          }
-      by (Err (timed.Judged r)) on = record { answer = (Judged (Err r), refused r on, refl); judged = refl; whole = tt; means = tt }
-      by (Err (timed.Slow at)) on =
-          record { answer = (Slow (place.Frame at), (a.in_range, a.rom_length, on.verdict), refl); judged = refl; whole = tt; means = tt }
+          )
+
+          shown : (l : LineClocks) → asked.line ≡ l → IsAnswerOf (judged_timed asked machine rom map budget w) bytes (told_with l (Timed t))
+          shown line.Told is =
+              record {
+                answer = (Timed t, accepted, ap (λ l. told_with l (Timed t)) (sym is));
+                judged = refl;
+                whole =
+                    a.in_range.frame_length;
+                means = on.means;
+                told = tt;
+              }
+          shown line.LeftOut is =
+              record {
+                answer = (Timed t, accepted, ap (λ l. told_with l (Timed t)) (sym is));
+                judged = refl;
+                whole =
+                    a.in_range.frame_length;
+                means = on.means;
+                told = tt;
+              }
+      by (Err (timed.Judged r)) on = shown asked.line refl
+        where
+          shown : (l : LineClocks) → asked.line ≡ l
+              → IsAnswerOf (judged_timed asked machine rom map budget w) bytes (told_with l (Judged (Err r)))
+          shown line.Told is =
+              record {
+                answer = (Judged (Err r), refused r on, ap (λ l. told_with l (Judged (Err r))) (sym is));
+                judged = refl;
+                whole =
+                    tt;
+                means = tt;
+                told = on.refused.1;
+              }
+          shown line.LeftOut is =
+              record {
+                answer = (Judged (Err r), refused r on, ap (λ l. told_with l (Judged (Err r))) (sym is));
+                judged = refl;
+                whole =
+                    tt;
+                means = tt;
+                told = on.refused.1;
+              }
+      by (Err (timed.Slow at)) on = shown asked.line refl
+        where
+          shown : (l : LineClocks) → asked.line ≡ l → IsAnswerOf (judged_timed asked machine rom map budget w) bytes (told_with l (Slow (place.Frame at)))
+          shown line.Told is =
+              record {
+                answer = (Slow (place.Frame at), (a.in_range, a.rom_length, on.verdict), ap (λ l. told_with l (Slow (place.Frame at))) (sym is));
+                judged =
+                    refl;
+                whole = tt;
+                means = tt;
+                told = tt;
+              }
+          shown line.LeftOut is =
+              record {
+                answer = (Slow (place.Frame at), (a.in_range, a.rom_length, on.verdict), ap (λ l. told_with l (Slow (place.Frame at))) (sym is));
+                judged =
+                    refl;
+                whole = tt;
+                means = tt;
+                told = tt;
+              }
 
 -- and over kept shapes
 module _ (asked : ClockOptions) (machine : Machine) (rom : List ℕ) (map : MemoryMap) (bytes : List ℕ) (budget : ℕ) (w : Window)
@@ -180,8 +216,27 @@ module _ (asked : ClockOptions) (machine : Machine) (rom : List ℕ) (map : Memo
 pub plain_answers : (asked : ClockOptions) (machine : Machine) (rom : List ℕ) (map : MemoryMap) (bytes : List ℕ) (budget : ℕ)
     (w : Window) (r : Refusal) → VerdictOnBytes machine rom map bytes budget w (Err (Check r))
     → IsAnswerOf (judged_timed asked machine rom map budget w) bytes (Judged (Err (Check r)))
-plain_answers asked machine rom map bytes budget w r said =
-    record { answer = (Judged (Err (Check r)), said, refl); judged = refl; whole = tt; means = tt }
+plain_answers asked machine rom map bytes budget w r said = shown asked.line refl
+  where
+    shown : (l : LineClocks) → asked.line ≡ l → IsAnswerOf (judged_timed asked machine rom map budget w) bytes (Judged (Err (Check r)))
+    shown line.Told is =
+        record {
+          answer = (Judged (Err (Check r)), said, ap (λ l. told_with l (Judged (Err (Check r)))) (sym is));
+          judged = refl;
+          whole =
+              tt;
+          means = tt;
+          told = tt;
+        }
+    shown line.LeftOut is =
+        record {
+          answer = (Judged (Err (Check r)), said, ap (λ l. told_with l (Judged (Err (Check r)))) (sym is));
+          judged = refl;
+          whole =
+              tt;
+          means = tt;
+          told = tt;
+        }
 
 -- such a one is 2 or 49
 pub range_answers : (asked : ClockOptions) (machine : Machine) (rom : List ℕ) (map : MemoryMap) (bytes : List ℕ) (budget : ℕ)

@@ -19,7 +19,7 @@ unfoldable pub use Rattle.dvg_make.proofs.Common.{instruction_of}
 pub use Rattle.dvg_cmd.specs.MakingFrames.{MakeRunFault, FailedAfter, blames_frames_rom, of_each, AreFrames, MakesForFrames, FramesFaultMeans, RefusesInputs, RefusesMemory, EachHeld, EachRead, FirstWrong, OneFailed, blames_a_frame}
 pub use Rattle.dvg_cmd.specs.Runs.{IsReadTo, RunFault, MOST_FRAME_READ, ReadsText, Judges, Outcome, Accepted, IsReadFor, outcome_of, WritesReport, Reports, ReportsAccepted, MeansRead, NeedsEnd, NoMemory}
 pub use Rattle.dvg_cmd.specs.Sent.{joined, TakeOneWriteEach, Sent}
-pub use Rattle.dvg_cmd.specs.Frames.{FrameAnswer, Judged, Judging, ReadsFrame, AnswersFrame, IsReadFrom, VerdictOnBytes, worse}
+pub use Rattle.dvg_cmd.specs.Frames.{FrameAnswer, Judged, Judging, ReadsFrame, AnswersFrame, IsReadFrom, VerdictOnBytes, IsRefused, IsJudgedRefusal, worse}
 pub use Rattle.dvg_cmd.specs.Private.Reading.{IsPrefix, ArePrefixes, RefusesLengths, taken_length}
 pub use Rattle.dvg_cmd.specs.Detail.{Detail, Behind, IsBehind, behind_text, outcome_behind}
 pub use Rattle.dvg_cmd.specs.Remarking.{FrameDetail}

@@ -1,5 +1,5 @@
 -- The verdict on a frame by its own certificate, or over judged shapes, and what a run writes of it. All of it is this project's own.
-use Rattle.std.specs.Prelude.{◌≡◌, ℕ, List, ◌≤◌, false, take, length, Option, Some, None, IfSome, Result, Ok, Err, IfOk, IfErr}
+use Rattle.std.specs.Prelude.{◌≡◌, ℕ, List, ◌≤◌, take, length, Option, Some, None, IfSome, Result, Ok, Err}
 use Rattle.dvg_words.specs.declared.machine.Machine.{Machine}
 use Rattle.dvg_words.specs.declared.machine.Machine.TheVariants.{Board}
 use Rattle.dvg_words.specs.Values.{MemoryMap, Window}
@@ -53,29 +53,35 @@ pub record ReadsFrame (reader : Option (List ℕ)) (start : Option ℕ) (bytes :
 
 -- ---- the verdict on bytes
 
--- the lengths and the budget are in range, and it is the verdict by the frame's own certificate
-pub record IsByOwn
-    (machine : Machine) (rom : List ℕ) (map : MemoryMap) (bytes : List ℕ) (budget : ℕ) (w : Window) (v : Result Yes FrameRefusal) : Type
-    0 where
+-- what a yes with exact counts means, and no certificate gets the frame accepted with fewer words or less depth
+pub record IsAccepted
+    (machine : Machine) (rom : List ℕ) (map : MemoryMap) (bytes : List ℕ) (budget : ℕ) (w : Window) (y : Yes) : Type 0 where
   pub in_range : InRange bytes budget
   pub rom_length : IsRomLength map (length rom)
-  pub by_own : VerdictByMade (rom_on machine map rom) (words_of bytes) w budget v
-  -- what a yes with exact counts means, and no certificate gets the frame accepted with fewer words or less depth
-  pub means : IfOk v (λ y. Means Exact (record { frame = words_of bytes; rom = rom_on machine map rom }) w y.words y.depth)
-  pub least : IfOk v (λ y. AreLeast (rom_on machine map rom) (words_of bytes) w y.words y.depth)
-  -- a refusal means what the judge's does, and where the maker stops at a call, a cause is known
-  pub refused : IfErr v (FrameRefused (rom_on machine map rom) (words_of bytes) w budget)
-  pub told : IfErr v (HasCallCause (rom_on machine map rom) (words_of bytes))
+  pub means : Means Exact (record { frame = words_of bytes; rom = rom_on machine map rom }) w y.words y.depth
+  pub least : AreLeast (rom_on machine map rom) (words_of bytes) w y.words y.depth
+  -- it is the verdict by the frame's own certificate
+  pub by_own : VerdictByMade (rom_on machine map rom) (words_of bytes) w budget (Ok y)
 
--- the verdict on a frame's bytes by its own certificate, over a ROM's bytes at this map on a machine: the first that applies of 2, 49
--- and 1, or the judge's
+-- the lengths and the budget are in range; it is the verdict by the frame's own certificate, and means what the judge's does
+pub record IsJudgedRefusal
+    (machine : Machine) (rom : List ℕ) (map : MemoryMap) (bytes : List ℕ) (budget : ℕ) (w : Window) (r : FrameRefusal) : Type 0 where
+  pub in_range : InRange bytes budget
+  pub rom_length : IsRomLength map (length rom)
+  pub by_own : VerdictByMade (rom_on machine map rom) (words_of bytes) w budget (Err r)
+  pub refused : FrameRefused (rom_on machine map rom) (words_of bytes) w budget r
+
+-- what a refusal means: the first that applies of 2, 49 and 1, or what the judge's does
+abbrev pub IsRefused : Machine → List ℕ → MemoryMap → List ℕ → ℕ → Window → FrameRefusal → Type 0
+IsRefused machine rom map bytes budget w (Check (refusal.Image FrameLength)) = RangeRefusal bytes budget (refusal.Image FrameLength)
+IsRefused machine rom map bytes budget w (Check refusal.BudgetRange) = RangeRefusal bytes budget refusal.BudgetRange
+IsRefused machine rom map bytes budget w (Check (refusal.Image RomLength)) = InRange bytes budget × (IsRomLength map (length rom) → ⊥)
+IsRefused machine rom map bytes budget w r = IsJudgedRefusal machine rom map bytes budget w r
+
+-- the verdict on a frame's bytes by its own certificate, over a ROM's bytes at this map on a machine
 abbrev pub VerdictOnBytes : Machine → List ℕ → MemoryMap → List ℕ → ℕ → Window → Result Yes FrameRefusal → Type 0
-VerdictOnBytes machine rom map bytes budget w (Err (Check (refusal.Image FrameLength))) =
-    RangeRefusal bytes budget (refusal.Image FrameLength)
-VerdictOnBytes machine rom map bytes budget w (Err (Check refusal.BudgetRange)) = RangeRefusal bytes budget refusal.BudgetRange
-VerdictOnBytes machine rom map bytes budget w (Err (Check (refusal.Image RomLength))) =
-    InRange bytes budget × (IsRomLength map (length rom) → ⊥)
-VerdictOnBytes machine rom map bytes budget w v = IsByOwn machine rom map bytes budget w v
+VerdictOnBytes machine rom map bytes budget w (Ok y) = IsAccepted machine rom map bytes budget w y
+VerdictOnBytes machine rom map bytes budget w (Err r) = IsRefused machine rom map bytes budget w r
 
 -- ---- the verdict over shapes that were judged
 
@@ -109,6 +115,11 @@ yes_in (Judged (Ok y)) = Some y
 yes_in (Timed t) = Some t.yes
 yes_in answer = None
 
+-- its refusal, but for 58
+abbrev pub refusal_in : FrameAnswer → Option FrameRefusal
+refusal_in (Judged (Err r)) = Some r
+refusal_in answer = None
+
 -- what an answer says of a frame's reader: it was read to its end or to one byte past the limit, and these bytes are judged, with
 -- this answer; `Unread` says nothing of the bytes
 abbrev pub AnswerMeans :
@@ -116,30 +127,26 @@ abbrev pub AnswerMeans :
 AnswerMeans IsAnswer start old new bytes Unread = Unit {0}
 AnswerMeans IsAnswer start old new bytes answer = IsReadTo MOST_FRAME_READ old new × ReadsFrame old start bytes × IsAnswer bytes answer
 
--- how frames are judged: what is an answer to the bytes of a frame; and of which ROM, which window and which mode of counts it speaks
+-- how frames are judged: what is an answer to the bytes of a frame, and why a refused one is refused; and of which ROM, which window
+-- and which mode of counts it speaks
 pub record Judging : Type 1 where
   pub is_answer : List ℕ → FrameAnswer → Type 0
+  pub is_told : List ℕ → FrameRefusal → Type 0
   pub rom : Rom
   pub window : Window
   pub mode : Mode
-
--- an answer to these bytes, and what a yes means
-pub record IsAnswerOf (j : Judging) (bytes : List ℕ) (a : FrameAnswer) : Type 0 where
-  pub answer : j.is_answer bytes a
-  pub judged : is_unread a ≡ false
-  pub whole : IfSome (yes_in a) (λ yes. IsFrameLength (length bytes))
-  pub means : IfSome (yes_in a) (λ yes. Means j.mode (record { frame = words_of bytes; rom = j.rom }) j.window yes.words yes.depth)
 
 -- an answer is a verdict, without clocks
 abbrev pub IsPlain : (Result Yes FrameRefusal → Type 0) → FrameAnswer → Type 0
 IsPlain IsVerdict (Judged v) = IsVerdict v
 IsPlain IsVerdict answer = ⊥
 
--- by the frame's own certificate, over a ROM's bytes at this map on a machine
+-- by the frame's own certificate, over a ROM's bytes at this map on a machine: where the maker stops at a call, a cause is known
 abbrev pub judged_by_own : Machine → List ℕ → MemoryMap → ℕ → Window → Judging
 judged_by_own machine rom map budget w =
     record {
       is_answer = λ bytes answer. IsPlain (VerdictOnBytes machine rom map bytes budget w) answer;
+      is_told = λ bytes refusal. HasCallCause (rom_on machine map rom) (words_of bytes) refusal;
       rom = rom_on machine map rom;
       window = w;
       mode = Exact;
@@ -169,15 +176,10 @@ TimedAnswer timing machine rom map budget w bytes (Slow (place.Frame at)) =
     InRange bytes budget × IsRomLength map (length rom) × IsSlow timing (rom_on machine map rom) (words_of bytes) w budget at
 TimedAnswer timing machine rom map budget w bytes answer = ⊥
 
--- what a line tells of an accepted frame with its clocks: all, or all but the clocks
-abbrev pub accepted_with : {R : Type 0} → LineClocks → TimedYes → Answer R
-accepted_with line.Told t = Timed t
-accepted_with line.LeftOut t = Judged (Ok t.yes)
-
--- what it tells of an answer
+-- what a line tells of an answer with clocks: all, or all but the clocks
 abbrev pub told_with : {R : Type 0} → LineClocks → Answer R → Answer R
-told_with clocks (Timed t) = accepted_with clocks t
-told_with clocks answer = answer
+told_with line.LeftOut (Timed t) = Judged (Ok t.yes)
+told_with shown answer = answer
 
 -- by the frame's own certificate, with its clocks, as lines tell them
 abbrev pub judged_timed : ClockOptions → Machine → List ℕ → MemoryMap → ℕ → Window → Judging
@@ -185,6 +187,7 @@ judged_timed asked machine rom map budget w =
     record {
       is_answer = λ bytes told. (answer : FrameAnswer) × TimedAnswer asked.timing machine rom map budget w bytes answer
           × (told ≡ told_with asked.line answer);
+      is_told = λ bytes refusal. HasCallCause (rom_on machine map rom) (words_of bytes) refusal;
       rom = rom_on machine map rom;
       window = w;
       mode = Exact;
@@ -195,6 +198,7 @@ abbrev pub judged_over : Shapes → ℕ → ℕ → Judging
 judged_over shapes count budget =
     record {
       is_answer = λ bytes answer. IsPlain (VerdictOver shapes count bytes budget) answer;
+      is_told = λ bytes refusal. Unit {0};
       rom = shapes.rom;
       window = shapes.window;
       mode = shapes.mode;
@@ -203,6 +207,7 @@ judged_over shapes count budget =
 -- what is said by the later one is said by the first, of the same ROM, window and mode
 pub record JudgesAlike (first later : Judging) : Type 0 where
   pub answer : (bytes : List ℕ) (a : FrameAnswer) → later.is_answer bytes a → first.is_answer bytes a
+  pub told : (bytes : List ℕ) (r : FrameRefusal) → later.is_told bytes r → first.is_told bytes r
   pub rom : later.rom ≡ first.rom
   pub window : later.window ≡ first.window
   pub mode : later.mode ≡ first.mode
@@ -211,5 +216,7 @@ pub record JudgesAlike (first later : Judging) : Type 0 where
 pub record AnswersFrame (j : Judging) (start : Option ℕ) (frame left : Option (List ℕ)) (answer : FrameAnswer) : Type 0 where
   pub bytes : List ℕ
   pub answers : AnswerMeans j.is_answer start frame left bytes answer
+  -- why it is refused
+  pub told : IfSome (refusal_in answer) (j.is_told bytes)
   -- what a yes means
   pub means : IfSome (yes_in answer) (MeansFrame j.mode j.rom j.window start frame)

@@ -1,19 +1,21 @@
 //! By which certificate a frame is judged: by its own, which is made for it, or by a given one, whose shapes were judged.
 
-ghost use Rattle.std.specs.Prelude.{◌≡◌, length, Err, None, IfOk, IfErr, IfSome};
-ghost use Rattle.dvg_words.specs.Memory.{rom_on, words_of};
+ghost use Rattle.std.specs.Prelude.{◌≡◌, false, length, Err, None, IfOk, IfErr, IfSome};
+ghost use Rattle.dvg_words.specs.Memory.{IsFrameLength, rom_on, words_of};
 ghost use Rattle.dvg_words.specs.Values.{Window as Places};
+ghost use Rattle.dvg_check.specs.Means.{Means};
+ghost use Rattle.dvg_check.specs.declared.fault.Mode.TheVariants.{Exact};
 ghost use Rattle.dvg_make.specs.Judging.{HasCallCause};
 ghost use Rattle.dvg_make.specs.declared.judging.FrameRefusal.TheVariants.{Check};
 ghost use Rattle.dvg_words.specs.declared.machine.Machine.TheVariants.{Board};
 ghost use Rattle.dvg_clocks.specs.Clocks.{TakenOnCircuit, clocks_of_instr};
 ghost use Rattle.dvg_cmd.specs.Detail.{IsBehind};
-ghost use Rattle.dvg_cmd.specs.Frames.{IsAnswerOf, JudgesAlike, Judging, MayJudgeOver, VerdictOnBytes, VerdictOver, judged_by_own, judged_over, judged_timed, timed_answer, told_with};
+ghost use Rattle.dvg_cmd.specs.Frames.{JudgesAlike, Judging, MayJudgeOver, VerdictOnBytes, VerdictOver, is_unread, judged_by_own, judged_over, judged_timed, refusal_in, timed_answer, told_with, yes_in};
 ghost use Rattle.dvg_cmd.specs.declared.detail.Detail.{Detail};
 ghost use Rattle.dvg_cmd.specs.declared.detail.Detail.TheVariants as details;
 ghost use Rattle.dvg_cmd.specs.declared.timed_judge.LineClocks.{LineClocks};
 ghost use Rattle.dvg_cmd.specs.Kept.{IsKeptFor};
-ghost use Rattle.dvg_cmd.specs.Private.Judging.{AreImages};
+ghost use Rattle.dvg_cmd.specs.Private.Judging.{AreImages, IsAnswerOf};
 
 use crate::detail::{Behind, Detail};
 use dvg_account::{Inputs, ShapeStarts, frame_text, timed_text};
@@ -38,8 +40,8 @@ pub trait FrameJudge {
     /// What must hold of it before it judges with this detail.
     ghost valid: { Self → Detail → Type 0 };
 
-    /// What is an answer to the bytes of a frame; which ROM frames call, which part of the screen may be lit, and in which mode counts
-    /// are judged.
+    /// What is an answer to the bytes of a frame, and what is known of why one is refused; which ROM frames call, which part of the
+    /// screen may be lit, and in which mode counts are judged.
     ghost judging: { Self → Judging };
 
     /// The machine that accounts name.
@@ -48,8 +50,13 @@ pub trait FrameJudge {
     /// The answer to the bytes of a frame, and what the detail asks for behind its line. It judges later frames in the same way.
     fn answer(&mut self, alloc: Global, frame: &[u8], detail: Detail) -> ToldAnswer
         requires { valid self.old detail }
-        ensures answer { IsAnswerOf (judging self.old) frame.now result.0 }
+        ensures answer { (judging self.old).is_answer frame.now result.0 }
+        ensures judged { is_unread result.0 ≡ false }
         ensures behind { IsBehind detail.entry result.1 }
+        ensures whole { IfSome (yes_in result.0) (λ yes. IsFrameLength (length frame.now)) }
+        ensures means { IfSome (yes_in result.0) (λ yes. Means (judging self.old).mode
+            (record { frame = words_of frame.now; rom = (judging self.old).rom }) (judging self.old).window yes.words yes.depth) }
+        ensures told { IfSome (refusal_in result.0) ((judging self.old).is_told frame.now) }
         ensures valid { valid self.new detail.entry }
         ensures same { JudgesAlike (judging self.old) (judging self.new) };
 }
@@ -81,7 +88,7 @@ impl<'a> FrameJudge for OwnCertificates<'a> {
     }
 
     fn answer(&mut self, alloc: Global, frame: &[u8], detail: Detail) -> ToldAnswer {
-        let (verdict, behind) = self.verdict(alloc, frame, detail);
+        let (verdict, behind) = told_by_own(alloc, self, frame, detail);
         (Answer::Judged(verdict), behind)
     }
 }
@@ -106,16 +113,14 @@ impl<'a> OwnCertificates<'a> {
     /// behind its line.
     pub fn verdict(&self, alloc: Global, frame: &'a [u8], detail: Detail<'a>) -> ToldVerdict
         ensures verdict { VerdictOnBytes self.now.machine self.now.rom.now self.now.map frame.now self.now.budget self.now.window result.0 }
+        ensures means { IfOk result.0 (λ yes. Means Exact (record {
+          frame = words_of frame.now;
+          rom = rom_on self.now.machine self.now.map self.now.rom.now;
+        }) self.now.window yes.words yes.depth) }
         ensures told { IfErr result.0 (HasCallCause (rom_on self.now.machine self.now.map self.now.rom.now) (words_of frame.now)) }
         ensures behind { IsBehind detail.entry result.1 }
     {
-        match detail {
-            Detail::Line => (verdict_by_own(alloc, self, frame), Behind::Nothing),
-            Detail::Account(labels) => {
-                let explained = explain_by_own(alloc, self, &UNLIMITED, frame, labels);
-                (explained.verdict, explained.behind)
-            }
-        }
+        told_by_own(alloc, self, frame, detail)
     }
 
     /// The verdict on the bytes of a frame, as [`verdict`](OwnCertificates::verdict) answers it, and how many clocks an accepted frame takes on
@@ -126,6 +131,10 @@ impl<'a> OwnCertificates<'a> {
         frame: &[u8],
     ) -> (Result<Yes, FrameRefusal>, Option<ClockRange>)
         ensures verdict { VerdictOnBytes self.now.machine self.now.rom.now self.now.map frame.now self.now.budget self.now.window result.0 }
+        ensures means { IfOk result.0 (λ yes. Means Exact (record {
+          frame = words_of frame.now;
+          rom = rom_on self.now.machine self.now.map self.now.rom.now;
+        }) self.now.window yes.words yes.depth) }
         ensures told { IfErr result.0 (HasCallCause (rom_on self.now.machine self.now.map self.now.rom.now) (words_of frame.now)) }
         ensures clocks { IfSome result.1 (λ clocks. (self.now.machine ≡ Board) × TakenOnCircuit (clocks_of_instr DVG_STATES) (record {
           frame = words_of frame.now;
@@ -168,9 +177,10 @@ impl<'a> OwnCertificates<'a> {
 }
 
 /// The verdict on the bytes of a frame by its own certificate: the first that applies of 2, 49 and 1, else that of [`judge`].
-#[tactic(auto, using(crate::proofs::Answers::own_verdict))]
+#[tactic(auto, using(crate::proofs::Answers::own_verdict, crate::proofs::Answers::own_told))]
 fn verdict_by_own(alloc: Global, own: &OwnCertificates, frame: &[u8]) -> Result<Yes, FrameRefusal>
-    ensures { VerdictOnBytes own.now.machine own.now.rom.now own.now.map frame.now own.now.budget own.now.window result }
+    ensures verdict { VerdictOnBytes own.now.machine own.now.rom.now own.now.map frame.now own.now.budget own.now.window result }
+    ensures told { IfErr result (HasCallCause (rom_on own.now.machine own.now.map own.now.rom.now) (words_of frame.now)) }
 {
     match images_for(own.machine, own.rom, own.map, frame, own.budget) {
         Ok((frame, rom)) => judge(alloc, &rom, &frame, own.budget, own.window),
@@ -186,6 +196,7 @@ fn timed_by_own(
 ) -> (Result<Yes, FrameRefusal>, Option<ClockRange>)
     requires { own.now.machine ≡ Board }
     ensures verdict { VerdictOnBytes own.now.machine own.now.rom.now own.now.map frame.now own.now.budget own.now.window result.0 }
+    ensures told { IfErr result.0 (HasCallCause (rom_on own.now.machine own.now.map own.now.rom.now) (words_of frame.now)) }
     ensures clocks { IfSome result.1 (TakenOnCircuit (clocks_of_instr DVG_STATES) (record {
       frame = words_of frame.now;
       rom = rom_on own.now.machine own.now.map own.now.rom.now;
@@ -224,6 +235,7 @@ pub fn explain_by_own<'a>(
     labels: Option<&'a Labels>,
 ) -> ExplainedFrame
     ensures verdict { VerdictOnBytes own.now.machine own.now.rom.now own.now.map frame.now own.now.budget own.now.window result.verdict }
+    ensures told { IfErr result.verdict (HasCallCause (rom_on own.now.machine own.now.map own.now.rom.now) (words_of frame.now)) }
     ensures answer { (line : LineClocks) → IsAnswerOf (judged_timed (record { timing = timing.now; line = line }) own.now.machine
         own.now.rom.now own.now.map own.now.budget own.now.window) frame.now (told_with line (timed_answer result.answer)) }
     ensures behind { IsBehind (details.Account None) result.behind }
@@ -265,6 +277,26 @@ const UNLIMITED: Timing = Timing {
     states: DVG_STATES,
     limit: u64::MAX,
 };
+
+/// The verdict on the bytes of a frame by its own certificate, and what the detail asks for behind its line.
+fn told_by_own<'a>(
+    alloc: Global,
+    own: &OwnCertificates<'a>,
+    frame: &'a [u8],
+    detail: Detail<'a>,
+) -> ToldVerdict
+    ensures verdict { VerdictOnBytes own.now.machine own.now.rom.now own.now.map frame.now own.now.budget own.now.window result.0 }
+    ensures told { IfErr result.0 (HasCallCause (rom_on own.now.machine own.now.map own.now.rom.now) (words_of frame.now)) }
+    ensures behind { IsBehind detail.entry result.1 }
+{
+    match detail {
+        Detail::Line => (verdict_by_own(alloc, own, frame), Behind::Nothing),
+        Detail::Account(labels) => {
+            let explained = explain_by_own(alloc, own, &UNLIMITED, frame, labels);
+            (explained.verdict, explained.behind)
+        }
+    }
+}
 
 /// The judge of each frame by its own certificate, as [`OwnCertificates`] judges. It keeps what it made for the frames that it
 /// accepted, so that a later one that calls the same shapes costs less.
@@ -321,7 +353,7 @@ impl<'a> KeptCertificates<'a> {
 }
 
 /// The verdict of [`verdict_by_own`], over kept shapes.
-#[tactic(auto, using(crate::proofs::Answers::kept_verdict))]
+#[tactic(auto, using(crate::proofs::Answers::kept_verdict, crate::proofs::Answers::kept_told))]
 fn verdict_by_kept(
     alloc: Global,
     own: &OwnCertificates,
@@ -330,6 +362,7 @@ fn verdict_by_kept(
 ) -> Result<Yes, FrameRefusal>
     requires { IsKeptFor own.now.machine own.now.rom.now own.now.map own.now.window kept.old }
     ensures verdict { VerdictOnBytes own.now.machine own.now.rom.now own.now.map frame.now own.now.budget own.now.window result }
+    ensures told { IfErr result (HasCallCause (rom_on own.now.machine own.now.map own.now.rom.now) (words_of frame.now)) }
     ensures kept { IsKeptFor own.now.machine own.now.rom.now own.now.map own.now.window kept.new }
 {
     match frame_of(frame, own.budget) {
@@ -348,23 +381,18 @@ impl<'a> FrameJudge for KeptCertificates<'a> {
     }
 
     fn answer(&mut self, alloc: Global, frame: &[u8], detail: Detail) -> ToldAnswer {
-        match (detail, &mut self.kept) {
-            (Detail::Line, Some(kept)) => {
-                let verdict = verdict_by_kept(alloc, &self.own, kept, frame);
-                (Answer::Judged(verdict), Behind::Nothing)
-            }
-            _ => {
-                let (verdict, behind) = self.own.verdict(alloc, frame, detail);
-                (Answer::Judged(verdict), behind)
-            }
-        }
+        let (verdict, behind) = match (detail, &mut self.kept) {
+            (Detail::Line, Some(kept)) => (
+                verdict_by_kept(alloc, &self.own, kept, frame),
+                Behind::Nothing,
+            ),
+            _ => told_by_own(alloc, &self.own, frame, detail),
+        };
+        (Answer::Judged(verdict), behind)
     }
 }
 
 /// The judge of frames over judged shapes: the shapes of a certificate over the bytes of a ROM.
-///
-/// Before it judges, they must be those of the certificate's entries over a ROM at its map; and for an account, they must be over these
-/// bytes of the ROM, and judged on this machine and in this mode.
 #[derive(Drop)]
 pub struct GivenCertificate<'a, E: Entries> {
     /// The machine on which the shapes were judged.
@@ -377,6 +405,37 @@ pub struct GivenCertificate<'a, E: Entries> {
     pub mode: Mode,
     /// How many words a frame may take at most.
     pub budget: u32,
+}
+
+impl<'a, E: Entries> GivenCertificate<'a, E> {
+    /// The judge over these shapes. Before it judges, they must be those of the certificate's entries over a ROM at its map; and for an
+    /// account, they must be over these bytes of the ROM, and judged on this machine and in this mode.
+    pub fn new(
+        machine: Machine,
+        rom: &'a [u8],
+        cert: &'a Cert,
+        shapes: &'a JudgedShapes<'a, E>,
+        mode: Mode,
+        budget: u32,
+    ) -> GivenCertificate<'a, E>
+        ensures { result ≡ record {
+          machine = machine;
+          rom = rom.entry;
+          cert = cert.entry;
+          shapes = shapes.entry;
+          mode = mode;
+          budget = budget;
+        } }
+    {
+        GivenCertificate {
+            machine,
+            rom,
+            cert,
+            shapes,
+            mode,
+            budget,
+        }
+    }
 }
 
 impl<'a, E: Entries> FrameJudge for GivenCertificate<'a, E> {

@@ -1,6 +1,6 @@
 //! Frames that are records of one length, one behind another in an input.
 
-ghost use Rattle.std.specs.Prelude.{◌≡◌, ℕ, decimal, string_bytes, IfSome, IfNone, IfOk, OnErr};
+ghost use Rattle.std.specs.Prelude.{◌≡◌, ◌≤◌, ℕ, decimal, string_bytes, IfSome, IfNone, IfOk, OnErr};
 ghost use Rattle.dvg_words.specs.Memory.{IsFrameLength};
 ghost use Rattle.dvg_cmd.specs.Records.{ReadsRecord, record_name};
 

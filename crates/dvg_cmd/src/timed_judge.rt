@@ -1,10 +1,12 @@
 //! The judge of each frame by its own certificate, with the clocks that it takes.
 
-ghost use Rattle.std.specs.Prelude.{◌≡◌, Ok, Err, None, IfSome};
+ghost use Rattle.std.specs.Prelude.{◌≡◌, Ok, Err, None, IfSome, false};
 ghost use Rattle.dvg_make.specs.declared.judging.FrameRefusal.TheVariants.{Check};
-ghost use Rattle.dvg_cmd.specs.Frames.{IsAnswerOf, Timed, judged_timed, timed_answer, told_with};
+ghost use Rattle.dvg_cmd.specs.Frames.{JudgesAlike, Timed, judged_timed, timed_answer, told_with};
+ghost use Rattle.dvg_cmd.specs.declared.detail.Detail.{Detail as Asked};
 ghost use Rattle.dvg_cmd.specs.declared.detail.Detail.TheVariants as details;
 ghost use Rattle.dvg_cmd.specs.Kept.{IsTimedFor};
+ghost use Rattle.dvg_cmd.specs.Private.Judging.{IsAnswerOf};
 
 use crate::detail::{Behind, Detail};
 use crate::frame_judge::{FrameJudge, OwnCertificates, ToldAnswer, explain_by_own, images_for};

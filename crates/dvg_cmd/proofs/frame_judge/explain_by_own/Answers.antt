@@ -1,5 +1,9 @@
-use Rattle.dvg_cmd.proofs.Common.{subst, sym}
-use Rattle.dvg_cmd.specs.Frames.{VerdictOnBytes}
+use Rattle.dvg_cmd.proofs.Common.{Err, subst, sym}
+use Rattle.dvg_make.specs.declared.judging.FrameRefusal.TheVariants.{Check}
+use Rattle.dvg_cmd.specs.Frames.{Judged, VerdictOnBytes, judged_timed, told_with}
+use Rattle.dvg_cmd.specs.Private.Judging.{IsAnswerOf}
+use Rattle.dvg_cmd.specs.declared.timed_judge.LineClocks.{LineClocks}
+use Rattle.dvg_cmd.specs.declared.timed_judge.LineClocks.TheVariants as line
 use Rattle.dvg_cmd.proofs.Answers.{own_verdict, plain_answers, timed_answers}
 use Rattle.dvg_cmd.proofs.frame_judge.explain_by_own.Goals as goal
 
@@ -7,10 +11,21 @@ pub returns-in-Err-clause-verdict : goal.returns-in-Err-clause-verdict
 returns-in-Err-clause-verdict c = c.in-Err.ensures.err c.args.own.now.window
 
 pub returns-in-Err-clause-answer : goal.returns-in-Err-clause-answer
-returns-in-Err-clause-answer c l =
-    let own = c.args.own.now in
-    plain_answers (record { timing = c.args.timing.now; line = l }) own.machine own.rom.now own.map c.args.frame.now own.budget own.window
-    c.in-Err.refusal (c.in-Err.ensures.err own.window)
+returns-in-Err-clause-answer c = by
+  where
+    said : (l : LineClocks) → IsAnswerOf
+        (judged_timed (record { timing = c.args.timing.now; line = l }) c.args.own.now.machine c.args.own.now.rom.now c.args.own.now.map
+        c.args.own.now.budget c.args.own.now.window) c.args.frame.now (Judged (Err (Check c.in-Err.refusal)))
+    said l = plain_answers (record { timing = c.args.timing.now; line = l }) c.args.own.now.machine c.args.own.now.rom.now
+        c.args.own.now.map c.args.frame.now c.args.own.now.budget c.args.own.now.window c.in-Err.refusal
+        (c.in-Err.ensures.err c.args.own.now.window)
+
+    by : (l : LineClocks)
+        → IsAnswerOf (judged_timed (record { timing = c.args.timing.now; line = l }) c.args.own.now.machine c.args.own.now.rom.now
+        c.args.own.now.map c.args.own.now.budget c.args.own.now.window) c.args.frame.now
+        (told_with l (Judged (Err (Check c.in-Err.refusal))))
+    by line.Told = said line.Told
+    by line.LeftOut = said line.LeftOut
 
 pub returns-in-Ok-clause-verdict : goal.returns-in-Ok-clause-verdict
 returns-in-Ok-clause-verdict c =

@@ -1,5 +1,6 @@
 use Rattle.dvg_cmd.proofs.Common.{subst, sym}
-use Rattle.dvg_cmd.specs.Frames.{IsAnswerOf, judged_timed}
+use Rattle.dvg_cmd.specs.Frames.{judged_timed}
+use Rattle.dvg_cmd.specs.Private.Judging.{IsAnswerOf}
 use Rattle.dvg_cmd.proofs.Answers.{kept_answers, range_answers}
 use Rattle.dvg_cmd.proofs.timed_judge.answer_by_kept.Goals as goal
 

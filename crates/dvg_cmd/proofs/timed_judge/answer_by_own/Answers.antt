@@ -1,6 +1,7 @@
 use Rattle.dvg_cmd.proofs.Common.{subst, sym}
 use Rattle.dvg_clocks.specs.Judging.{IsTimed}
-use Rattle.dvg_cmd.specs.Frames.{IsAnswerOf, judged_timed}
+use Rattle.dvg_cmd.specs.Frames.{judged_timed}
+use Rattle.dvg_cmd.specs.Private.Judging.{IsAnswerOf}
 use Rattle.dvg_cmd.proofs.Answers.{plain_answers, timed_answers}
 use Rattle.dvg_cmd.proofs.timed_judge.answer_by_own.Goals as goal
 
