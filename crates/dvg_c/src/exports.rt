@@ -197,11 +197,11 @@ pub extern "C" fn dvgcheck_make(
 /// too short for it, and 85 where there was no memory to look for it; with 84 and 85, and where there is none, nothing is written. Takes
 /// memory for the recipe, and for the certificate of its calls and its making, and gives it back.
 #[unsafe(no_mangle)]
-pub extern "C" fn dvgcheck_recipe(
+pub extern "C" fn dvgcheck_recipe<'a>(
     alloc: Global,
-    rom: &[u8],
+    rom: &'a [u8],
     map: MapEnds,
-    recipe: &[u8],
+    recipe: &'a [u8],
     budget: u32,
     window: WindowEnds,
     frame: &mut [u8],
