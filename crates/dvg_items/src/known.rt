@@ -1,6 +1,6 @@
 //! What is known before an item, and what an item does to it.
 
-ghost use Rattle.std.specs.Prelude.{◌≡◌, ◌≤◌, ◌<◌, ◌+◌, IfSome, unwrap_or};
+ghost use Rattle.std.specs.Prelude.{◌≡◌, ℕ, ◌≤◌, ◌<◌, ◌+◌, IfSome, unwrap_or};
 ghost use Rattle.dvg_words.specs.declared.map.TheConstants.{ADDRESS_END};
 ghost use Rattle.dvg_words.specs.Decoding.{InstrFits};
 ghost use Rattle.dvg_cert.specs.Entry.{IsKey, IsEnd, IsClaim};
@@ -60,7 +60,8 @@ pub fn stop_effect(stop: End) -> Effect
 pub fn place_past(effect: &Effect, place: &End) -> End
     requires place { IsNearPlace ADDRESS_END place.now }
     requires effect { IsNearEffect effect.now }
-    ensures { result ≡ place_past effect.now place.now }
+    ensures value { result ≡ place_past effect.now place.now }
+    ensures near { (at : ℕ) → IsNearPlace at place.now → IsNearPlace (at + 1) result }
 {
     match (effect, place) {
         (Effect::Sets(p), _) => End::Abs { x: p.x, y: p.y },

@@ -1,7 +1,7 @@
-use Rattle.dvg_items.proofs.Common.{◌+◌, arith, refl, sym, subst}
+use Rattle.dvg_items.proofs.Common.{arith}
 use Rattle.dvg_words.specs.declared.map.TheConstants.{ADDRESS_END}
-use Rattle.dvg_items.specs.Bounds.{ITEM_REACH, IsNearPlace}
-use Rattle.dvg_items.proofs.Reached.{place_more, place_after}
+use Rattle.dvg_items.specs.Bounds.{ITEM_REACH}
+use Rattle.dvg_items.proofs.Reached.{place_more}
 use Rattle.dvg_items.proofs.action.with_effect.Goals as goal
 
 pub place_past-requires-clause-place : goal.place_past-requires-clause-place
@@ -9,7 +9,4 @@ place_past-requires-clause-place c =
     place_more ITEM_REACH c.args.here.now.at ADDRESS_END c.args.here.now.known.place (omega (arith, c.requires.near)) c.requires.here.place
 
 pub returns-clause-near_place : goal.returns-clause-near_place
-returns-clause-near_place c =
-    subst (IsNearPlace (c.args.here.now.at + 1)) (sym c.place_past.ensures)
-    (place_after ITEM_REACH c.args.here.now.at 1 (c.args.here.now.at + 1) c.args.here.now.known.place c.args.effect refl c.requires.here.place
-    c.requires.effect)
+returns-clause-near_place c = c.place_past.ensures.near c.args.here.now.at c.requires.here.place
