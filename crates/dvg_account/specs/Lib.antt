@@ -1,12 +1,1 @@
-pub mod Building
-pub mod Told
-pub mod Items
-pub mod Why
-pub mod Plain
-pub mod Chains
-pub mod Refused
-pub mod Accepted
-pub mod Making
-pub mod Verdicts
 pub mod Swapped
-pub mod Private

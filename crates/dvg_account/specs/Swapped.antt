@@ -1,12 +1,14 @@
 -- Inputs that are accepted with the bytes of each word swapped. All of it is this project's own.
-use Rattle.std.specs.Prelude.{◌≢◌, ◌<◌, ℕ, List, [], ◌∷◌, Ok, Option, Some, None}
+use Rattle.std.specs.Prelude.{◌≢◌, ◌<◌, ℕ, List, [], ◌∷◌, length, Result, Ok, Option, Some, None}
 use Rattle.std.specs.Borrow.{Bor}
+use Rattle.dvg_words.specs.declared.machine.Machine.{Machine}
 use Rattle.dvg_words.specs.Values.{MemoryMap}
-use Rattle.dvg_words.specs.Memory.{words_of}
+use Rattle.dvg_words.specs.Memory.{words_of, rom_on, IsRomLength}
 use Rattle.dvg_cert.specs.Order.{Certificate}
 use Rattle.dvg_check.specs.Verdict.{InRange, RomVerdict}
 use Rattle.dvg_check.specs.declared.verdict.Yes.{Yes}
-use Rattle.dvg_account.specs.Accepted.{IsOwnAnswer}
+use Rattle.dvg_make.specs.Judging.{VerdictByMade}
+use Rattle.dvg_make.specs.declared.judging.FrameRefusal.{FrameRefusal}
 use Rattle.dvg_account.specs.declared.inputs.Inputs.{Inputs}
 use Rattle.dvg_account.specs.declared.swapped.Swapped.{Swapped}
 use Rattle.dvg_account.specs.declared.swapped.Swapped.TheVariants as of
@@ -26,6 +28,13 @@ rom_in other rom = swapped rom
 abbrev pub frame_in : Swapped → List ℕ → List ℕ
 frame_in of.Rom frame = frame
 frame_in other frame = swapped frame
+
+-- a machine's answer to these bytes of a ROM at this map and of a frame, by the frame's own certificate; none for bytes that can't be
+-- judged
+abbrev pub IsOwnAnswer : Machine → Inputs → MemoryMap → List ℕ → List ℕ → Option (Result Yes FrameRefusal) → Type 0
+IsOwnAnswer machine inputs map rom frame None = InRange frame inputs.budget → IsRomLength map (length rom) → ⊥
+IsOwnAnswer machine inputs map rom frame (Some answer) = InRange frame inputs.budget × IsRomLength map (length rom)
+    × VerdictByMade (rom_on machine map rom) (words_of frame) inputs.window inputs.budget answer
 
 -- these bytes in the place of those of the inputs are accepted with these counts: by the certificate that is given, or, without one, by
 -- that made for the frame

@@ -1,14 +1,12 @@
 //! The account of what is accepted.
 
-ghost use Rattle.std.specs.Prelude.{IfOk, IfSome, option_copied, flat_map};
-ghost use Rattle.dvg_account.specs.Told.{told, one};
-ghost use Rattle.dvg_account.specs.Accepted.{Surveyed, IsExtent, IsClipped, IsOwnAnswer, IsBoard, board_line, AcceptedLines, counts_lines, call_line};
-ghost use Rattle.dvg_account.specs.Building.{Adds, Tells};
+ghost use Rattle.std.specs.Prelude.{IfOk};
+ghost use Rattle.dvg_account.specs.Swapped.{IsOwnAnswer};
 
 use crate::inputs::Inputs;
 use crate::lines::Lines;
 use crate::piece::Piece::{self, Address, Answer, Distance, Line, Number, Text, Within};
-use crate::remarks::remarks_on;
+use crate::remarks::push_remarks;
 use dvg_cert::{HashIndex, LitBox};
 use dvg_check::{Refusal, Yes, frame_of};
 use dvg_make::{FrameRefusal, judge};
@@ -16,55 +14,8 @@ use dvg_survey::{Call, FrameSurvey, Margins, shapes_extent, survey_frame};
 use dvg_words::{CLIPPED, FrameImage, Machine, RomImage, RomMap, Window};
 use std::alloc::{AllocError, Global};
 
-/// What a frame's own items call and light, the least box of what the shapes light at absolute places, and what is worth a second
-/// look.
-#[derive(Drop)]
-pub struct Survey {
-    pub frame: FrameSurvey,
-    pub shapes: LitBox,
-    pub remarks: Vec<Piece>,
-}
-
-impl Survey {
-    /// The survey of inputs with these images, as far as their bytes are of the right length; nothing without a certificate.
-    fn of(
-        alloc: Global,
-        inputs: &Inputs,
-        rom: Option<&RomImage>,
-        frame: Option<&FrameImage>,
-    ) -> Result<Survey, AllocError>
-        ensures { IfOk result (λ s. IfSome inputs.now.cert (λ cert. Surveyed inputs.now.machine cert.now (option_copied rom.entry)
-            (option_copied frame.entry) s)) }
-    {
-        let Some(cert) = inputs.cert else {
-            return Ok(Survey {
-                frame: FrameSurvey::empty(alloc),
-                shapes: LitBox::Empty,
-                remarks: Vec::new(alloc),
-            });
-        };
-        let entries = HashIndex::new(alloc, cert)?;
-        let frame = match frame {
-            Some(frame) => survey_frame(inputs.machine, alloc, cert, &entries, frame)?,
-            None => FrameSurvey::empty(alloc),
-        };
-        let shapes = match rom {
-            Some(rom) => shapes_extent(rom, cert, &entries),
-            None => LitBox::Empty,
-        };
-        let remarks = remarks_on(alloc, inputs, cert, &entries, rom, &frame.faint)?;
-        Ok(Survey {
-            frame,
-            shapes,
-            remarks,
-        })
-    }
-}
-
 /// Adds the lines of the counts of a yes.
-fn push_counts(lines: &mut Lines, yes: Yes, budget: u32)
-    ensures { Adds lines.old lines.new (counts_lines yes budget) }
-{
+fn push_counts(lines: &mut Lines, yes: Yes, budget: u32) {
     lines.add(&[
         Line("shapes"),
         Number(yes.shapes as u64),
@@ -80,9 +31,7 @@ fn push_counts(lines: &mut Lines, yes: Yes, budget: u32)
 }
 
 /// Adds a line for each call of a frame.
-fn push_calls(lines: &mut Lines, calls: &[Call])
-    ensures { Adds lines.old lines.new (flat_map call_line calls.now) }
-{
+fn push_calls(lines: &mut Lines, calls: &[Call]) {
     for call in calls {
         lines.add(&[
             Line("call"),
@@ -100,9 +49,7 @@ fn push_extent(
     margins: &'static str,
     window: &Window,
     lit: &LitBox,
-)
-    ensures { Tells lines.old lines.new (IsExtent lights.now margins.now window.now lit.now) }
-{
+) {
     lines.add(&[Line(lights), Within(*lit)]);
     if let Some(distances) = Margins::within(window, lit) {
         lines.add(&[
@@ -120,9 +67,7 @@ fn push_extent(
 }
 
 /// Adds the line of the frame's items that light past the screen, where the window is the zone that a board clips.
-fn push_clipped(lines: &mut Lines, window: &Window, clipped: &[u16])
-    ensures { Tells lines.old lines.new (IsClipped window.now clipped.now) }
-{
+fn push_clipped(lines: &mut Lines, window: &Window, clipped: &[u16]) {
     if *window == CLIPPED {
         match clipped.first() {
             Some(first) => lines.add(&[
@@ -160,67 +105,83 @@ pub fn own_answer(
     }
 }
 
-/// What the board answers to the same inputs, by the frame's own certificate there, unless the board was asked.
-pub fn board_answer(
-    alloc: Global,
-    inputs: &Inputs,
-) -> Result<Option<Result<Yes, FrameRefusal>>, AllocError>
-    ensures { IfOk result (IsBoard inputs.now.machine inputs.now.map inputs.now) }
-{
-    match (inputs.machine, inputs.map) {
-        (Machine::Profile, Some(map)) => {
-            own_answer(Machine::Board, alloc, inputs, map, inputs.rom, inputs.frame)
-        }
-        _ => Ok(None),
-    }
-}
-
-/// Adds the line of what the board answers, if that is told.
-pub fn push_board(lines: &mut Lines, answer: Option<Result<Yes, FrameRefusal>>)
-    ensures { Adds lines.old lines.new (one board_line answer) }
-{
+/// Adds the line of what the board answers to the same inputs, by the frame's own certificate there, unless the board was asked.
+pub fn push_board(lines: &mut Lines, alloc: Global, inputs: &Inputs) -> Result<(), AllocError> {
+    let (Machine::Profile, Some(map)) = (inputs.machine, inputs.map) else {
+        return Ok(());
+    };
+    let answer = own_answer(Machine::Board, alloc, inputs, map, inputs.rom, inputs.frame)?;
     if let Some(answer) = answer {
         lines.add(&[Line("on the board"), Answer(answer)]);
     }
+    Ok(())
 }
 
-/// The lines of an accepted verdict on these inputs (this project's own). The images are those of the inputs; an input of a wrong length
-/// has none.
-pub fn accepted_lines(
+/// Adds the lines of what a frame's own items call and light, of the least box of what the shapes light at absolute places, and of what
+/// is worth a second look. The images are those of the inputs; an input of a wrong length has none. Without a certificate nothing is
+/// known to be lit.
+fn push_survey(
+    lines: &mut Lines,
     alloc: Global,
     inputs: &Inputs,
     rom: Option<&RomImage>,
     frame: Option<&FrameImage>,
-    yes: Yes,
-) -> Result<Vec<Piece>, AllocError>
-    ensures { IfOk result (λ lines. AcceptedLines inputs.now (option_copied rom.entry) (option_copied frame.entry) yes
-        (told lines.items)) }
-{
-    let survey = Survey::of(alloc, inputs, rom, frame)?;
-    let on_board = board_answer(alloc, inputs)?;
-    let frame = &survey.frame;
-    let window = &inputs.window;
-    let mut lines = Lines::new(alloc);
-    lines.push_machine(inputs.machine);
-    lines.push_zone(window);
-    push_counts(&mut lines, yes, inputs.budget);
-    push_calls(&mut lines, &frame.calls);
+) -> Result<(), AllocError> {
+    let Some(cert) = inputs.cert else {
+        push_lit(
+            lines,
+            &inputs.window,
+            &FrameSurvey::empty(alloc),
+            &LitBox::Empty,
+        );
+        return Ok(());
+    };
+    let entries = HashIndex::new(alloc, cert)?;
+    let survey = match frame {
+        Some(frame) => survey_frame(inputs.machine, alloc, cert, &entries, frame)?,
+        None => FrameSurvey::empty(alloc),
+    };
+    let shapes = match rom {
+        Some(rom) => shapes_extent(rom, cert, &entries),
+        None => LitBox::Empty,
+    };
+    push_lit(lines, &inputs.window, &survey, &shapes);
+    push_remarks(lines, alloc, inputs, cert, &entries, rom, &survey.faint)
+}
+
+/// Adds the lines of the calls of a frame, and of where it and the shapes light.
+fn push_lit(lines: &mut Lines, window: &Window, frame: &FrameSurvey, shapes: &LitBox) {
+    push_calls(lines, &frame.calls);
     push_extent(
-        &mut lines,
+        lines,
         "frame lights within",
         "frame margins",
         window,
         &frame.lit,
     );
-    push_clipped(&mut lines, window, &frame.clipped);
+    push_clipped(lines, window, &frame.clipped);
     push_extent(
-        &mut lines,
+        lines,
         "shapes light within",
         "shapes margins",
         window,
-        &survey.shapes,
+        shapes,
     );
-    lines.add(&survey.remarks);
-    push_board(&mut lines, on_board);
-    lines.finish()
+}
+
+/// Adds the lines of an accepted verdict on these inputs (this project's own). The images are those of the inputs; an input of a wrong
+/// length has none.
+pub fn push_accepted(
+    lines: &mut Lines,
+    alloc: Global,
+    inputs: &Inputs,
+    rom: Option<&RomImage>,
+    frame: Option<&FrameImage>,
+    yes: Yes,
+) -> Result<(), AllocError> {
+    lines.push_machine(inputs.machine);
+    lines.push_zone(&inputs.window);
+    push_counts(lines, yes, inputs.budget);
+    push_survey(lines, alloc, inputs, rom, frame)?;
+    push_board(lines, alloc, inputs)
 }

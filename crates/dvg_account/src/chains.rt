@@ -1,17 +1,12 @@
 //! The lines of calls that lead from one entry to the next.
 
-ghost use Rattle.dvg_account.specs.Chains.{from_told, call_steps};
-ghost use Rattle.dvg_account.specs.Building.{Adds};
-
 use crate::lines::Lines;
 use crate::piece::Piece::{Address, Line, Name, Text};
 use dvg_cert::Key;
 use dvg_survey::Call;
 
 /// Adds what a line of a chain begins with: the entry to which the line before leads, or the frame.
-fn push_from(lines: &mut Lines, caller: Option<(u16, Key)>)
-    ensures { Adds lines.old lines.new (from_told caller) }
-{
+fn push_from(lines: &mut Lines, caller: Option<(u16, Key)>) {
     match caller {
         Some((addr, key)) => lines.add(&[Name(addr, key)]),
         None => lines.add(&[Text("frame")]),
@@ -20,9 +15,7 @@ fn push_from(lines: &mut Lines, caller: Option<(u16, Key)>)
 
 /// Adds a line with this key for each of these calls, of which the first stands in the entry that is named here, or in the frame, and
 /// each later one in what the one before calls.
-pub fn push_steps(lines: &mut Lines, key: &'static str, first: Option<(u16, Key)>, calls: &[Call])
-    ensures { Adds lines.old lines.new (call_steps key.now (from_told first) calls.now) }
-{
+pub fn push_steps(lines: &mut Lines, key: &'static str, first: Option<(u16, Key)>, calls: &[Call]) {
     let mut caller = first;
     for call in calls {
         lines.add(&[Line(key)]);

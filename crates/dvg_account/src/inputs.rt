@@ -1,19 +1,13 @@
 //! What was judged, and the account of a refusal before any item was judged.
 
-ghost use Rattle.std.specs.Prelude.{◌≡◌, IfOk};
-ghost use Rattle.dvg_account.specs.Told.{told};
-ghost use Rattle.dvg_account.specs.Plain.{certificate_lines, plain_lines, told_of_line, told_of_why, told_plainly};
-ghost use Rattle.dvg_account.specs.Building.{Adds};
-
 use crate::lines::Lines;
-use crate::piece::Piece::{self, Bytes, Cure, Expected, Fitting, Line, Number, Rule, Text, ToDo};
+use crate::piece::Piece::{Bytes, Cure, Expected, Fitting, Line, Number, Rule, Text, ToDo};
 use crate::starts::ShapeStarts;
 use dvg_cert::{Cert, CertFault};
 use dvg_check::{Mode, Refusal};
 use dvg_labels::Labels;
 use dvg_text::LineWhy;
 use dvg_words::{ImageFault, Machine, RomMap, Window};
-use std::alloc::{AllocError, Global};
 
 /// What was judged: the machine, the bytes that were read of a ROM and of a frame, where the ROM lies, if that is known, and the
 /// certificate, if one was taken or made.
@@ -96,9 +90,7 @@ fn frame_fault(bytes: usize) -> &'static str {
 }
 
 /// Adds the lines that tell of a refused line of the certificate, and of why, if that is known.
-fn push_line(lines: &mut Lines, line: u32, why: Option<LineWhy>)
-    ensures { Adds lines.old lines.new (told_of_line line why) }
-{
+fn push_line(lines: &mut Lines, line: u32, why: Option<LineWhy>) {
     match why {
         None => lines.add(&[Line("certificate line"), Number(line as u64)]),
         Some(why) => push_line_why(lines, line, why),
@@ -106,9 +98,7 @@ fn push_line(lines: &mut Lines, line: u32, why: Option<LineWhy>)
 }
 
 /// Adds the lines that tell of a refused line, and of why.
-fn push_line_why(lines: &mut Lines, line: u32, why: LineWhy)
-    ensures { Adds lines.old lines.new (told_of_why line why) }
-{
+fn push_line_why(lines: &mut Lines, line: u32, why: LineWhy) {
     match why {
         LineWhy::Form(leaving) => lines.add(&[
             Line("certificate line"),
@@ -137,9 +127,7 @@ fn entries(count: u16) -> &'static str {
 }
 
 /// Adds the lines that tell why, if something is known.
-fn push_plain(lines: &mut Lines, why: PlainWhy)
-    ensures { Adds lines.old lines.new (told_plainly why) }
-{
+fn push_plain(lines: &mut Lines, why: PlainWhy) {
     match why {
         PlainWhy::Nothing => {}
         PlainWhy::RomLength { bytes, map } => lines.add(&[
@@ -162,36 +150,23 @@ fn push_plain(lines: &mut Lines, why: PlainWhy)
     }
 }
 
-/// The lines of a refusal with this number before any item was judged on a machine (this project's own).
-pub fn plain_lines(
-    machine: Machine,
-    alloc: Global,
-    number: u8,
-    why: PlainWhy,
-) -> Result<Vec<Piece>, AllocError>
-    ensures { IfOk result (λ lines. told lines.items ≡ plain_lines machine number why) }
-{
-    let mut lines = Lines::new(alloc);
+/// Adds the lines of a refusal with this number before any item was judged on a machine (this project's own).
+pub fn push_plain_refusal(lines: &mut Lines, machine: Machine, number: u8, why: PlainWhy) {
     lines.push_machine(machine);
     lines.add(&[Line("rule"), Rule(number)]);
-    push_plain(&mut lines, why);
+    push_plain(lines, why);
     lines.add(&[ToDo, Cure(number)]);
-    lines.finish()
 }
 
-/// The lines of a certificate's text that is refused, with what is told of the refused line, if anything is (this project's own).
-pub fn certificate_lines(
+/// Adds the lines of a certificate's text that is refused, with what is told of the refused line, if anything is (this project's own).
+pub fn push_refused_text(
+    lines: &mut Lines,
     machine: Machine,
-    alloc: Global,
     fault: CertFault,
     why: Option<LineWhy>,
-) -> Result<Vec<Piece>, AllocError>
-    ensures { IfOk result (λ lines. told lines.items ≡ certificate_lines machine fault why) }
-{
-    let mut lines = Lines::new(alloc);
+) {
     lines.push_machine(machine);
     lines.add(&[Line("rule"), Rule(fault.number())]);
-    push_line(&mut lines, fault.line, why);
+    push_line(lines, fault.line, why);
     lines.add(&[ToDo, Cure(fault.number())]);
-    lines.finish()
 }

@@ -1,12 +1,5 @@
 //! The item of a refusal: where it stands, what it is, and what is known before it.
 
-ghost use Rattle.std.specs.Prelude.{◌≡◌, ◌∷◌, [], codes, None, Some, option_map, option_to_list};
-ghost use Rattle.dvg_account.specs.declared.piece.Piece.TheVariants as pieces;
-ghost use Rattle.dvg_account.specs.Told.{of, one};
-ghost use Rattle.dvg_account.specs.Items.{words_at, instruction_at, callee_of, IsItem, lines_as, stands, words_of, known_lines, item_line, zeros_lines, comes_from, lost_by};
-ghost use Rattle.dvg_account.specs.Building.{Adds};
-ghost use Rattle.dvg_items.specs.declared.item.Kind.TheVariants.{Frame};
-
 use crate::lines::Lines;
 use crate::piece::Piece::{self, Address, At, Line, Number, Place, Scale, Text, Word};
 use crate::piece::Role;
@@ -41,9 +34,7 @@ impl RefusedItem {
         at: u16,
         before: Option<Known>,
         callee: Option<Entry>,
-    ) -> RefusedItem
-        ensures { IsItem kind (F.words memory.now) at before callee result }
-    {
+    ) -> RefusedItem {
         RefusedItem {
             kind,
             at,
@@ -57,16 +48,12 @@ impl RefusedItem {
     }
 
     /// The call of a frame at a word address. The account says nothing else of it.
-    pub fn call<F: Fetch>(memory: &F, at: u16) -> RefusedItem
-        ensures { IsItem Frame (F.words memory.now) at None None result }
-    {
+    pub fn call<F: Fetch>(memory: &F, at: u16) -> RefusedItem {
         RefusedItem::new(memory, Kind::Frame, 0, at, None, None)
     }
 
     /// The lines of the item, in this role.
-    pub fn push_lines(&self, role: Role, lines: &mut Lines)
-        ensures { Adds lines.old lines.new (lines_as role self.now) }
-    {
+    pub fn push_lines(&self, role: Role, lines: &mut Lines) {
         push_at(lines, role, self.at);
         push_words(lines, role, self.words);
         push_instruction(lines, role, self.instruction);
@@ -79,23 +66,17 @@ impl RefusedItem {
     }
 
     /// The item by which the place was lost.
-    fn place_lost_by(&self) -> Option<Item>
-        ensures { result ≡ lost_by (λ l. l.place) self.now.losses }
-    {
+    fn place_lost_by(&self) -> Option<Item> {
         Some(self.losses?.place?)
     }
 
     /// The item by which the scale became unknown.
-    fn scale_lost_by(&self) -> Option<Item>
-        ensures { result ≡ lost_by (λ l. l.scale) self.now.losses }
-    {
+    fn scale_lost_by(&self) -> Option<Item> {
         Some(self.losses?.scale?)
     }
 
     /// The item that goes on to an item of a frame, or to one of a shape that is missing, unless zeros lead there.
-    fn comes_from(&self) -> Option<Item>
-        ensures { result ≡ comes_from self.now.kind self.now.words self.now.way.zeros self.now.way.last }
-    {
+    fn comes_from(&self) -> Option<Item> {
         match (self.kind, self.words, self.way.zeros) {
             (Kind::Frame, _, None) | (Kind::Shape, None, None) => self.way.last,
             _ => None,
@@ -104,9 +85,7 @@ impl RefusedItem {
 }
 
 /// Adds the line of where an item in this role stands.
-fn push_at(lines: &mut Lines, role: Role, at: u16)
-    ensures { Adds lines.old lines.new (stands role at) }
-{
+fn push_at(lines: &mut Lines, role: Role, at: u16) {
     match role {
         Role::Refused => lines.add(&[Line("item"), At(at)]),
         Role::Stop => lines.add(&[Line("comes to"), At(at)]),
@@ -114,9 +93,7 @@ fn push_at(lines: &mut Lines, role: Role, at: u16)
 }
 
 /// Adds the line of what an item's words are.
-fn push_words(lines: &mut Lines, role: Role, words: Option<(u16, Option<u16>)>)
-    ensures { Adds lines.old lines.new (of role (codes "holds") (words_of words)) }
-{
+fn push_words(lines: &mut Lines, role: Role, words: Option<(u16, Option<u16>)>) {
     match words {
         None => lines.add_as(role, "holds", &[Text("nothing")]),
         Some((first, None)) => lines.add_as(role, "holds", &[Word(first)]),
@@ -127,9 +104,7 @@ fn push_words(lines: &mut Lines, role: Role, words: Option<(u16, Option<u16>)>)
 }
 
 /// Adds the line of an item's instruction, or that its words are none.
-fn push_instruction(lines: &mut Lines, role: Role, instruction: Option<Item>)
-    ensures { Adds lines.old lines.new (of role (codes "instruction") (option_to_list (option_map pieces.Instruction instruction))) }
-{
+fn push_instruction(lines: &mut Lines, role: Role, instruction: Option<Item>) {
     match instruction {
         Some(there) => lines.add_as(role, "instruction", &[Piece::Instruction(there)]),
         None => lines.add_as(role, "instruction", &[Text("none")]),
@@ -137,27 +112,21 @@ fn push_instruction(lines: &mut Lines, role: Role, instruction: Option<Item>)
 }
 
 /// Adds the line of the entry that an item calls or tail jumps to, if there is one.
-fn push_called(lines: &mut Lines, role: Role, called: Option<Entry>)
-    ensures { Adds lines.old lines.new (one (λ e. of role (codes "called entry") (pieces.Entry e ∷ [])) called) }
-{
+fn push_called(lines: &mut Lines, role: Role, called: Option<Entry>) {
     if let Some(entry) = called {
         lines.add_as(role, "called entry", &[Piece::Entry(entry)]);
     }
 }
 
 /// Adds a line with this key that names another item, if there is one.
-pub fn push_item(lines: &mut Lines, role: Role, key: &'static str, item: Option<Item>)
-    ensures { Adds lines.old lines.new (item_line role key.now item) }
-{
+pub fn push_item(lines: &mut Lines, role: Role, key: &'static str, item: Option<Item>) {
     if let Some(item) = item {
         lines.add_as(role, key, &[Piece::Item(item)]);
     }
 }
 
 /// Adds the lines of what is known before an item, if that is told.
-fn push_known(lines: &mut Lines, role: Role, before: Option<Known>)
-    ensures { Adds lines.old lines.new (one (known_lines role) before) }
-{
+fn push_known(lines: &mut Lines, role: Role, before: Option<Known>) {
     if let Some(before) = before {
         lines.add_as(role, "place before", &[Place(before.place)]);
         lines.add_as(role, "scale before", &[Scale(before.scale)]);
@@ -166,9 +135,7 @@ fn push_known(lines: &mut Lines, role: Role, before: Option<Known>)
 }
 
 /// Adds the lines of the zeros that lead to an item, if there are any, and of the item before them.
-fn push_zeros(lines: &mut Lines, role: Role, zeros: Option<Zeros>)
-    ensures { Adds lines.old lines.new (one (zeros_lines role) zeros) }
-{
+fn push_zeros(lines: &mut Lines, role: Role, zeros: Option<Zeros>) {
     if let Some(zeros) = zeros {
         let between = [Address(zeros.first), Text(" to "), Address(zeros.last)];
         lines.add_as(role, "zeros", &between);
@@ -177,9 +144,7 @@ fn push_zeros(lines: &mut Lines, role: Role, zeros: Option<Zeros>)
 }
 
 /// Adds the line of the item before zeros, or that there is none.
-fn push_before_zeros(lines: &mut Lines, role: Role, before: Option<Item>)
-    ensures { Adds lines.old lines.new (of role (codes "before zeros") (option_to_list (option_map pieces.Item before))) }
-{
+fn push_before_zeros(lines: &mut Lines, role: Role, before: Option<Item>) {
     match before {
         Some(item) => lines.add_as(role, "before zeros", &[Piece::Item(item)]),
         None => lines.add_as(role, "before zeros", &[Text("none")]),
@@ -187,9 +152,7 @@ fn push_before_zeros(lines: &mut Lines, role: Role, before: Option<Item>)
 }
 
 /// The entry that is named by what was found.
-pub fn callee_of(found: &Found) -> Option<Entry>
-    ensures { result ≡ callee_of found.now }
-{
+pub fn callee_of(found: &Found) -> Option<Entry> {
     match found {
         Found::Seen(seen) => seen.callee,
         _ => None,
@@ -197,9 +160,7 @@ pub fn callee_of(found: &Found) -> Option<Entry>
 }
 
 /// The instruction at a word address, if there is one.
-pub fn instruction_at<F: Fetch>(memory: &F, at: u16) -> Option<Item>
-    ensures { result ≡ instruction_at (F.words memory.now) at }
-{
+pub fn instruction_at<F: Fetch>(memory: &F, at: u16) -> Option<Item> {
     match read_cell(memory, at) {
         Cell::Holds { format, instr } => Some(Item { at, format, instr }),
         _ => None,
@@ -207,9 +168,7 @@ pub fn instruction_at<F: Fetch>(memory: &F, at: u16) -> Option<Item>
 }
 
 /// The words of the item at a word address: the first, and of a long one the second, if it is there.
-pub fn words_at<F: Fetch>(memory: &F, at: u16) -> Option<(u16, Option<u16>)>
-    ensures { result ≡ words_at (F.words memory.now) at }
-{
+pub fn words_at<F: Fetch>(memory: &F, at: u16) -> Option<(u16, Option<u16>)> {
     let first = memory.fetch(at)?;
     let second = if is_long(first) {
         memory.fetch(at + 1)

@@ -1,9 +1,9 @@
 //! The account of an answer: the lines behind the answer's own.
 //!
-//! An account is a list of [`Piece`]s: keys, which begin lines, and what stands behind them. [`verdict_lines`] and [`own_lines`] answer
-//! the lines of a verdict, [`made_lines`] and [`unmade_lines`] those of an answer of the maker, [`plain_lines`] those of a refusal before
-//! any item was judged, [`leaving_lines`] that of a frame that leaves a recipe, and their contracts say which keys and values there are.
-//! Beside each of them stands a call that answers the same account as a text, such as [`verdict_text`].
+//! [`verdict_text`], [`frame_text`] and [`timed_text`] answer the account of a verdict, [`made_text`] and [`unmade_text`] that of an
+//! answer of the maker, [`plain_text`] that of a refusal before any item was judged, [`certificate_text`] that of a refused text, and
+//! [`leaving_text`] that of a frame that leaves a recipe. Each is written of `Piece`s: keys, which begin lines, and what stands behind
+//! them. What they tell is found, and proved, in the crates below; which lines tell it, and its words, are tested.
 //! [`recipe_text`] spells the lines of a recipe's account, which the caller finds, and [`dump_text`] the account of a dump that differs
 //! from a good one.
 #![tactic(auto)]
@@ -40,12 +40,8 @@ mod verdicts;
 mod why;
 mod zeros;
 
-pub use beginnings::Beginning;
 pub use dumps::dump_text;
-pub use inputs::{Inputs, PlainWhy, certificate_lines, plain_lines};
-pub use leaving::leaving_lines;
-pub use making::{made_lines, unmade_lines};
-pub use piece::Piece;
+pub use inputs::{Inputs, PlainWhy};
 pub use recipes::{KnownBefore, RecipeLine, recipe_text};
 pub use remarked::{FrameRemark, frame_remarks, remarks_text};
 pub use starts::ShapeStarts;
@@ -54,4 +50,3 @@ pub use texts::{
     address_text, certificate_text, frame_text, leaving_text, made_text, plain_text, timed_text,
     unmade_text, verdict_text,
 };
-pub use verdicts::{own_lines, verdict_lines};

@@ -1,19 +1,12 @@
 //! The account of an answer of the maker.
 
-ghost use Rattle.std.specs.Prelude.{◌≡◌, option_copied, flat_map, IfOk, OnOk};
-ghost use Rattle.dvg_account.specs.Told.{told, one};
-ghost use Rattle.dvg_account.specs.Making.{made_lines, most_words, most_depth, way_lines, chain_lines, asked_by, caller_told, ring_line, why_lines, maker_why, frame_of_call, TellsBelow, UnmadeLines, IsCallItem, IsMakerItem};
-ghost use Rattle.dvg_account.specs.Items.{lines_as};
-ghost use Rattle.dvg_account.specs.Chains.{shape_name, shape_steps};
-ghost use Rattle.dvg_account.specs.Building.{Adds, Tells};
-
 use crate::chains::push_steps;
 use crate::cure::advice;
 use crate::item::RefusedItem;
 use crate::lines::Lines;
 use crate::meant::{meant, push_meant};
 use crate::middle::{middle_of, push_middle};
-use crate::piece::Piece::{self, Address, Line, Name, Number, Rule, Text, ToDo};
+use crate::piece::Piece::{Address, Line, Name, Number, Rule, Text, ToDo};
 use crate::piece::Role;
 use crate::why::{
     AT_LOST_PLACE, AT_UNKNOWN_SCALE, HALT_IN_SHAPE, IN_ROM, push_missing, push_odd, push_words_over,
@@ -27,27 +20,20 @@ use std::alloc::{AllocError, Global};
 use std::slice;
 
 /// The most words that an entry takes.
-fn most_words(entries: &[Entry]) -> u32
-    ensures { result ≡ most_words entries.now }
-{
+fn most_words(entries: &[Entry]) -> u32 {
     entries.iter().fold(0, |most, entry| most.max(entry.words))
 }
 
 /// The most return places that an entry stores at once.
-fn most_depth(entries: &[Entry]) -> u8
-    ensures { result ≡ most_depth entries.now }
-{
+fn most_depth(entries: &[Entry]) -> u8 {
     entries.iter().fold(0, |most, entry| most.max(entry.depth))
 }
 
-/// The lines of a certificate that is made for a machine (this project's own).
-pub fn made_lines(machine: Machine, alloc: Global, cert: &Cert) -> Result<Vec<Piece>, AllocError>
-    ensures { IfOk result (λ lines. told lines.items ≡ made_lines machine cert.now.entries) }
-{
+/// Adds the lines of a certificate that is made for a machine (this project's own).
+pub fn push_made(lines: &mut Lines, machine: Machine, cert: &Cert) {
     let entries = cert.entries();
     let words = Number(most_words(entries) as u64);
     let depth = Number(most_depth(entries) as u64);
-    let mut lines = Lines::new(alloc);
     lines.push_machine(machine);
     lines.add(&[
         Line("entries"),
@@ -61,44 +47,39 @@ pub fn made_lines(machine: Machine, alloc: Global, cert: &Cert) -> Result<Vec<Pi
         depth,
         Text(" of 3"),
     ]);
-    lines.finish()
 }
 
-/// The lines of a refusal of the maker over a ROM, which was asked for the entries of these frames, too (this project's own).
-pub fn unmade_lines(
+/// Adds the lines of a refusal of the maker over a ROM, which was asked for the entries of these frames, too (this project's own).
+pub fn push_unmade(
+    lines: &mut Lines,
     alloc: Global,
     rom: &RomImage,
     frames: &[FrameImage],
     account: &MakeAccount,
-) -> Result<Vec<Piece>, AllocError>
-    ensures { IfOk result (λ lines. UnmadeLines rom.now frames.now account.now (told lines.items)) }
-{
+) -> Result<(), AllocError> {
     let number = MakeFault::from(account.fault.why).number();
     let frame = frame_of_call(frames, account.fault.call);
     let call = call_item(rom.machine(), frame, account.fault.call);
     let item = item_of(rom, frame, account);
     let meant = meant(alloc, rom, account)?;
     let middle = middle_of(rom.machine(), frame, account);
-    let mut lines = Lines::new(alloc);
     lines.push_machine(rom.machine());
     lines.add(&[Line("rule"), Rule(number)]);
-    push_why(&mut lines, rom, account);
-    push_meant(&mut lines, account.at, meant);
-    push_middle(&mut lines, middle);
-    push_way(&mut lines, &call, &item, account);
-    push_below(alloc, rom, account.cause, &mut lines)?;
+    push_why(lines, rom, account);
+    push_meant(lines, account.at, meant);
+    push_middle(lines, middle);
+    push_way(lines, &call, &item, account);
+    push_below(alloc, rom, account.cause, lines)?;
     lines.add(&[ToDo]);
     lines.add(&advice(rom.map(), account));
-    lines.finish()
+    Ok(())
 }
 
 /// The frame of a call.
 fn frame_of_call<'a, 'b>(
     frames: &'a [FrameImage<'b>],
     call: Option<FrameCall>,
-) -> Option<&'a FrameImage<'b>>
-    ensures { option_copied result ≡ frame_of_call frames.now call }
-{
+) -> Option<&'a FrameImage<'b>> {
     frames.get(call?.frame)
 }
 
@@ -107,9 +88,7 @@ fn call_item(
     machine: Machine,
     frame: Option<&FrameImage>,
     call: Option<FrameCall>,
-) -> Option<RefusedItem>
-    ensures { IsCallItem machine (option_copied frame.entry) call result }
-{
+) -> Option<RefusedItem> {
     match (frame, call) {
         (Some(frame), Some(call)) => {
             Some(RefusedItem::call(&FrameOn::new(machine, frame), call.at))
@@ -119,9 +98,11 @@ fn call_item(
 }
 
 /// The item by which a shape can't be made; `None` where no shape was begun.
-fn item_of(rom: &RomImage, frame: Option<&FrameImage>, account: &MakeAccount) -> Option<RefusedItem>
-    ensures { IsMakerItem rom.now (option_copied frame.entry) account.now result }
-{
+fn item_of(
+    rom: &RomImage,
+    frame: Option<&FrameImage>,
+    account: &MakeAccount,
+) -> Option<RefusedItem> {
     let shape = account.chain.last()?;
     let MakeAccount { at, before, .. } = *account;
     match frame {
@@ -139,9 +120,7 @@ fn push_way(
     call: &Option<RefusedItem>,
     item: &Option<RefusedItem>,
     account: &MakeAccount,
-)
-    ensures { Adds lines.old lines.new (way_lines call.now item.now (chain_lines account.now account.now.cause)) }
-{
+) {
     match call {
         Some(call) => {
             call.push_lines(Role::Refused, lines);
@@ -156,18 +135,14 @@ fn push_way(
 }
 
 /// The lines of an item in a role, if there is one.
-fn push_item(lines: &mut Lines, role: Role, item: &Option<RefusedItem>)
-    ensures { Adds lines.old lines.new (one (lines_as role) item.now) }
-{
+fn push_item(lines: &mut Lines, role: Role, item: &Option<RefusedItem>) {
     if let Some(item) = item {
         item.push_lines(role, lines);
     }
 }
 
 /// Adds the lines of the shapes on the way to the one that can't be made, and of those that need one another.
-fn push_chain(lines: &mut Lines, account: &MakeAccount)
-    ensures { Adds lines.old lines.new (chain_lines account.now account.now.cause) }
-{
+fn push_chain(lines: &mut Lines, account: &MakeAccount) {
     push_shapes(lines, account.fault.call, &account.chain);
     if let EntryCause::Ring { from } = account.cause {
         push_ring(lines, account.chain.get(from..).unwrap_or(&[]));
@@ -175,9 +150,7 @@ fn push_chain(lines: &mut Lines, account: &MakeAccount)
 }
 
 /// Adds the lines of shapes that lead from one to the next, of which a frame's call or a root asks for the first.
-fn push_shapes(lines: &mut Lines, call: Option<FrameCall>, shapes: &[ShapeAt])
-    ensures { Adds lines.old lines.new (shape_steps (asked_by call) shapes.now) }
-{
+fn push_shapes(lines: &mut Lines, call: Option<FrameCall>, shapes: &[ShapeAt]) {
     let mut caller = None;
     for shape in shapes {
         lines.add(&[Line("chain")]);
@@ -188,9 +161,7 @@ fn push_shapes(lines: &mut Lines, call: Option<FrameCall>, shapes: &[ShapeAt])
 }
 
 /// Adds what asks for a shape: the shape before it, a frame's call, or a root.
-fn push_caller(lines: &mut Lines, call: Option<FrameCall>, caller: Option<ShapeAt>)
-    ensures { Adds lines.old lines.new (caller_told call caller) }
-{
+fn push_caller(lines: &mut Lines, call: Option<FrameCall>, caller: Option<ShapeAt>) {
     match (caller, call) {
         (Some(shape), _) => lines.add(&[Name(shape.addr, shape.key)]),
         (None, Some(call)) => lines.add(&[Text("frame at "), Address(call.at)]),
@@ -199,18 +170,14 @@ fn push_caller(lines: &mut Lines, call: Option<FrameCall>, caller: Option<ShapeA
 }
 
 /// Adds the lines of the shapes that need one another.
-fn push_ring(lines: &mut Lines, shapes: &[ShapeAt])
-    ensures { Adds lines.old lines.new (flat_map ring_line shapes.now) }
-{
+fn push_ring(lines: &mut Lines, shapes: &[ShapeAt]) {
     for shape in shapes {
         lines.add(&[Line("ring"), Name(shape.addr, shape.key)]);
     }
 }
 
 /// Adds why the maker refuses, unless memory was out. For a frame's call it says where the making stops.
-fn push_why(lines: &mut Lines, rom: &RomImage, account: &MakeAccount)
-    ensures { Adds lines.old lines.new (why_lines rom.now account.now account.now.cause account.now.fault.call) }
-{
+fn push_why(lines: &mut Lines, rom: &RomImage, account: &MakeAccount) {
     let at = account.at;
     match (account.cause, account.fault.call) {
         (EntryCause::Memory, _) => {}
@@ -242,9 +209,7 @@ fn push_why(lines: &mut Lines, rom: &RomImage, account: &MakeAccount)
 }
 
 /// Adds why the maker stops at an item.
-fn push_maker_why(lines: &mut Lines, rom: &RomImage, account: &MakeAccount)
-    ensures { Adds lines.old lines.new (maker_why rom.now account.now.at account.now.chain.items account.now.cause) }
-{
+fn push_maker_why(lines: &mut Lines, rom: &RomImage, account: &MakeAccount) {
     let at = account.at;
     match account.cause {
         EntryCause::RootOutside | EntryCause::Missing => {
@@ -274,9 +239,7 @@ fn push_maker_why(lines: &mut Lines, rom: &RomImage, account: &MakeAccount)
 }
 
 /// Adds that an item leads to a shape which needs it.
-fn push_needed(lines: &mut Lines, shape: Option<&ShapeAt>)
-    ensures { Adds lines.old lines.new (one shape_name (option_copied shape.entry)) }
-{
+fn push_needed(lines: &mut Lines, shape: Option<&ShapeAt>) {
     if let Some(shape) = shape {
         let name = Name(shape.addr, shape.key);
         lines.add(&[Text("it leads to "), name, Text(", which needs it")]);
@@ -289,9 +252,7 @@ fn push_below(
     rom: &RomImage,
     cause: EntryCause,
     lines: &mut Lines,
-) -> Result<(), AllocError>
-    ensures { OnOk result (Tells lines.old lines.new (TellsBelow cause)) }
-{
+) -> Result<(), AllocError> {
     let EntryCause::Deep { to, scale } = cause else {
         return Ok(());
     };

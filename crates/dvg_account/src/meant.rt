@@ -1,10 +1,5 @@
 //! The word that a call outside the ROM may mean.
 
-ghost use Rattle.std.specs.Prelude.{◌≡◌, ◌↔◌, IsTrue, IfOk};
-ghost use Rattle.dvg_account.specs.Making.{byte_word, is_outside, outside_call, MeansByte, IsMeant, meant_line};
-ghost use Rattle.dvg_account.specs.Told.{one};
-ghost use Rattle.dvg_account.specs.Building.{Adds};
-
 use crate::lines::Lines;
 use crate::piece::Piece::{Address, BareAddress, Line, Text};
 use dvg_cert::Key;
@@ -14,16 +9,12 @@ use std::alloc::{AllocError, Global};
 use std::slice;
 
 /// Whether a word address is outside the ROM.
-pub fn is_outside(map: RomMap, at: u16) -> bool
-    ensures { result ≡ is_outside map at }
-{
+pub fn is_outside(map: RomMap, at: u16) -> bool {
     at < map.first() || map.last() < at
 }
 
 /// The only shape on the way to a missing word, if it begins at that word, outside the ROM.
-fn outside_call(map: RomMap, account: &MakeAccount) -> Option<ShapeAt>
-    ensures { result ≡ outside_call map account.now account.now.cause }
-{
+fn outside_call(map: RomMap, account: &MakeAccount) -> Option<ShapeAt> {
     let shape = *account.chain.last()?;
     match account.cause {
         EntryCause::Missing
@@ -35,9 +26,7 @@ fn outside_call(map: RomMap, account: &MakeAccount) -> Option<ShapeAt>
 }
 
 /// The word past vector RAM of the byte whose processor address ends in these twelve bits: 4000 or 5000 is in front of them.
-fn byte_word(bits: u16) -> u16
-    ensures { result ≡ byte_word bits }
-{
+fn byte_word(bits: u16) -> u16 {
     let word = bits / 2;
     if word < RAM_WORDS {
         word + 2 * RAM_WORDS
@@ -48,9 +37,7 @@ fn byte_word(bits: u16) -> u16
 
 /// Whether a call of this address may be meant as that of a word's first byte: the word is in the ROM, and a shape can be made there
 /// at the scale of the call.
-fn means_byte(alloc: Global, rom: &RomImage, at: u16, scale: Key) -> Result<bool, AllocError>
-    ensures { IfOk result (λ means. IsTrue means ↔ MeansByte rom.now at scale) }
-{
+fn means_byte(alloc: Global, rom: &RomImage, at: u16, scale: Key) -> Result<bool, AllocError> {
     let word = byte_word(at);
     if at % 2 == 1 || is_outside(rom.map(), word) {
         return Ok(false);
@@ -67,9 +54,7 @@ pub fn meant(
     alloc: Global,
     rom: &RomImage,
     account: &MakeAccount,
-) -> Result<Option<u16>, AllocError>
-    ensures { IfOk result (IsMeant rom.now account.now.at (outside_call rom.now.map account.now account.now.cause)) }
-{
+) -> Result<Option<u16>, AllocError> {
     let Some(called) = outside_call(rom.map(), account) else {
         return Ok(None);
     };
@@ -80,9 +65,7 @@ pub fn meant(
 }
 
 /// Adds the line of the word that is meant by a called address, if one is.
-pub fn push_meant(lines: &mut Lines, at: u16, word: Option<u16>)
-    ensures { Adds lines.old lines.new (one (meant_line at) word) }
-{
+pub fn push_meant(lines: &mut Lines, at: u16, word: Option<u16>) {
     if let Some(word) = word {
         lines.add(&[
             Line("byte address"),

@@ -1,13 +1,5 @@
 //! A jump of a frame that may lead into the middle of an instruction.
 
-ghost use Rattle.std.specs.Prelude.{◌≡◌, ◌+◌, IfSome, option_copied};
-ghost use Rattle.dvg_words.specs.Decoding.{cell_at};
-ghost use Rattle.dvg_words.specs.declared.instruction.Cell.TheVariants.{Holds};
-ghost use Rattle.dvg_words.specs.declared.instruction.Format.TheVariants.{Long};
-ghost use Rattle.dvg_account.specs.Making.{IsMiddle, IsMiddleOf, middle_line};
-ghost use Rattle.dvg_account.specs.Told.{one};
-ghost use Rattle.dvg_account.specs.Building.{Adds};
-
 use crate::lines::Lines;
 use crate::piece::Piece::{self, Line, Text};
 use dvg_items::{Item, Items, Kind};
@@ -23,9 +15,7 @@ pub struct Middle {
 
 /// The instruction whose second word is at a word address, if the words from another address on are instructions that go on one to the
 /// next, and this is one of them.
-fn long_over<F: Fetch>(words: &F, from: u16, to: u16) -> Option<Item>
-    ensures { IfSome result (λ i. (i.at + 1 ≡ to) × (cell_at (F.words words.now) i.at ≡ Holds Long i.instr)) }
-{
+fn long_over<F: Fetch>(words: &F, from: u16, to: u16) -> Option<Item> {
     for item in Items::from(words, Kind::Shape, from) {
         if to <= item.at {
             return None;
@@ -40,9 +30,7 @@ fn long_over<F: Fetch>(words: &F, from: u16, to: u16) -> Option<Item>
 /// The instruction into whose second word a jump of a frame may lead: the words behind the jump, read as instructions, have one there.
 /// A start puts its jump in the place of word 000, which may have been the first of two: so behind that one they must have one as
 /// read from word 002 on, too.
-fn into_by<F: Fetch>(frame: &F, jump: &Item, to: u16) -> Option<Item>
-    ensures { IfSome result (λ i. (i.at + 1 ≡ to) × (cell_at (F.words frame.now) i.at ≡ Holds Long i.instr)) }
-{
+fn into_by<F: Fetch>(frame: &F, jump: &Item, to: u16) -> Option<Item> {
     if jump.at == 0 && long_over(frame, 2, to).is_none() {
         return None;
     }
@@ -51,9 +39,7 @@ fn into_by<F: Fetch>(frame: &F, jump: &Item, to: u16) -> Option<Item>
 
 /// The first jump of a frame before its call at a word address that may lead into the middle of an instruction. A guess, since the
 /// words that a jump passes over need not be instructions.
-fn middle_before<F: Fetch>(frame: &F, call: u16) -> Option<Middle>
-    ensures { IfSome result (IsMiddle (F.words frame.now)) }
-{
+fn middle_before<F: Fetch>(frame: &F, call: u16) -> Option<Middle> {
     for jump in Items::from(frame, Kind::Frame, 0) {
         if call <= jump.at {
             return None;
@@ -74,9 +60,7 @@ pub fn middle_of(
     machine: Machine,
     frame: Option<&FrameImage>,
     account: &MakeAccount,
-) -> Option<Middle>
-    ensures { IsMiddleOf machine (option_copied frame.entry) result }
-{
+) -> Option<Middle> {
     let EntryFault::Unstraight { .. } = account.fault.why else {
         return None;
     };
@@ -85,9 +69,7 @@ pub fn middle_of(
 }
 
 /// Adds the line of a jump that may lead into the middle of an instruction, if there is one.
-pub fn push_middle(lines: &mut Lines, middle: Option<Middle>)
-    ensures { Adds lines.old lines.new (one middle_line middle) }
-{
+pub fn push_middle(lines: &mut Lines, middle: Option<Middle>) {
     if let Some(middle) = middle {
         lines.add(&[
             Line("jumps into"),

@@ -1,8 +1,5 @@
 //! The pieces of which an account is made: the keys of its lines, what they tell, and the words between.
 
-ghost use Rattle.std.specs.Prelude.{◌≡◌, [], ◌∷◌};
-ghost use Rattle.dvg_account.specs.Told.{told, keyed};
-
 use dvg_cert::{End, Entry, Key, LitBox};
 use dvg_check::{Leaving, Yes};
 use dvg_items::Item;
@@ -77,9 +74,7 @@ pub enum Role {
 
 impl Role {
     /// The key of a line about the item in this role.
-    pub fn key(self, key: &'static str) -> Piece
-        ensures { told (result ∷ []) ≡ keyed self key.now }
-    {
+    pub fn key(self, key: &'static str) -> Piece {
         match self {
             Role::Refused => Piece::Line(key),
             Role::Stop => Piece::There(key),

@@ -1,21 +1,8 @@
 //! The account of a refusal because of an item of a frame or of a shape.
 
-ghost use Rattle.dvg_account.specs.Verdicts.{RefusedLines};
-ghost use Rattle.std.specs.Prelude.{◌∷◌, codes, option_copied, IfOk, OnOk, IfSome, IfNone};
-ghost use Rattle.dvg_words.specs.Memory.{rom_word};
-ghost use Rattle.dvg_items.specs.Known.{shape_context};
-ghost use Rattle.dvg_items.specs.declared.item.Kind.TheVariants.{Shape};
-ghost use Rattle.dvg_survey.specs.Losses.{AreLosses, NoneLead};
-ghost use Rattle.dvg_make.specs.Made.{HasEntry};
-ghost use Rattle.dvg_account.specs.Told.{told, Line};
-ghost use Rattle.dvg_account.specs.Refused.{FrameLines, IsFurthest, ShapeLines, TellsChain, TellsBesideFrame, TellsBesideShape, frame_cure, key_at, keys_at};
-ghost use Rattle.dvg_account.specs.Items.{callee_of};
-ghost use Rattle.dvg_account.specs.Refused.{other_machine_lines};
-ghost use Rattle.dvg_account.specs.Building.{Adds, Tells};
-
-use crate::accepted::{board_answer, push_board};
+use crate::accepted::push_board;
 use crate::chains::push_steps;
-use crate::inputs::{Inputs, plain_lines};
+use crate::inputs::{Inputs, push_plain_refusal};
 use crate::item::{RefusedItem, callee_of, push_item};
 use crate::lines::Lines;
 use crate::piece::Piece::{self, Cure, Line, Name, OrHalt, Rule, Text, ToDo};
@@ -28,45 +15,42 @@ use dvg_survey::{Losses, find_chain, frame_losses, furthest_stroke, shape_losses
 use dvg_words::{FrameImage, FrameOn, Machine, RomImage};
 use std::alloc::{AllocError, Global};
 
-/// The lines of a refusal of these inputs. The images are those of the inputs; an input of a wrong length has none. A refusal because of
+/// Adds the lines of a refusal of these inputs. The images are those of the inputs; an input of a wrong length has none. A refusal because of
 /// an item has a cause.
-pub fn refused_lines(
+pub fn push_refused(
+    lines: &mut Lines,
     alloc: Global,
     inputs: &Inputs,
     rom: Option<&RomImage>,
     frame: Option<&FrameImage>,
     refusal: &Refusal,
     cause: Option<&Finding>,
-) -> Result<Vec<Piece>, AllocError>
-    ensures { IfOk result (λ lines. RefusedLines inputs.now (option_copied rom.entry) (option_copied frame.entry) refusal.now
-        (option_copied cause.entry) (told lines.items)) }
-{
+) -> Result<(), AllocError> {
     match (cause, inputs.cert, rom, frame) {
         (Some(Finding::Shape(finding)), Some(cert), Some(rom), frame) => {
-            shape_lines(alloc, inputs, rom, cert, frame, finding)
+            push_shape_fault(lines, alloc, inputs, rom, cert, frame, finding)
         }
         (Some(Finding::Frame(finding)), Some(cert), rom, Some(frame)) => {
-            frame_lines(alloc, inputs, rom, cert, frame, finding)
+            push_frame_fault(lines, alloc, inputs, rom, cert, frame, finding)
         }
         _ => {
             let why = inputs.plain_why(refusal);
-            plain_lines(inputs.machine, alloc, refusal.number(), why)
+            push_plain_refusal(lines, inputs.machine, refusal.number(), why);
+            Ok(())
         }
     }
 }
 
-/// The lines of the first fault of a frame of these inputs, over a ROM, if its bytes are of the right length.
-fn frame_lines(
+/// Adds the lines of the first fault of a frame of these inputs, over a ROM, if its bytes are of the right length.
+fn push_frame_fault(
+    lines: &mut Lines,
     alloc: Global,
     inputs: &Inputs,
     rom: Option<&RomImage>,
     cert: &Cert,
     frame: &FrameImage,
     finding: &FrameFinding,
-) -> Result<Vec<Piece>, AllocError>
-    ensures { IfOk result (λ lines. FrameLines inputs.now (option_copied rom.entry) frame.now cert.now.entries finding.now
-        (told lines.items)) }
-{
+) -> Result<(), AllocError> {
     let machine = inputs.machine;
     let at = finding.fault.word;
     let number = finding.fault.number();
@@ -78,23 +62,20 @@ fn frame_lines(
         ..RefusedItem::new(&framed, Kind::Frame, 0, at, before, callee)
     };
     let stroke = furthest(rom, cert, finding);
-    let mut lines = Lines::new(alloc);
     lines.push_machine(machine);
     lines.push_zone(&inputs.window);
     lines.add(&[Line("rule"), Rule(number), Line("why")]);
-    push_frame_why(&mut lines, machine, finding, frame);
-    push_item(&mut lines, Role::Refused, "reaches furthest", stroke);
-    item.push_lines(Role::Refused, &mut lines);
-    push_beside_frame(alloc, inputs, cert, finding.cause, &mut lines)?;
-    push_frame_cure(&mut lines, finding, frame);
-    lines.finish()
+    push_frame_why(lines, machine, finding, frame);
+    push_item(lines, Role::Refused, "reaches furthest", stroke);
+    item.push_lines(Role::Refused, lines);
+    push_beside_frame(alloc, inputs, cert, finding.cause, lines)?;
+    push_frame_cure(lines, finding, frame);
+    Ok(())
 }
 
 /// The stroke by which a called shape reaches furthest past the edge that its box leaves, where a frame is refused because of that box.
 #[tactic(auto, using(dvg_items::proofs::Listed::listed_at))]
-pub fn furthest(rom: Option<&RomImage>, cert: &Cert, finding: &FrameFinding) -> Option<Item>
-    ensures { IsFurthest (option_copied rom.entry) cert.now.entries finding.now.cause (callee_of finding.now.found) result }
-{
+pub fn furthest(rom: Option<&RomImage>, cert: &Cert, finding: &FrameFinding) -> Option<Item> {
     let (Some(rom), FrameCause::OffScreen(leaving), Some(called)) = (
         rom,
         finding.cause,
@@ -108,9 +89,7 @@ pub fn furthest(rom: Option<&RomImage>, cert: &Cert, finding: &FrameFinding) -> 
 }
 
 /// Adds what to do about the first fault of a frame. A jump back that is its last word may be meant as its end.
-fn push_frame_cure(lines: &mut Lines, finding: &FrameFinding, frame: &FrameImage)
-    ensures { Adds lines.old lines.new (frame_cure frame.now finding.now finding.now.cause) }
-{
+fn push_frame_cure(lines: &mut Lines, finding: &FrameFinding, frame: &FrameImage) {
     let number = finding.fault.number();
     match finding.cause {
         FrameCause::BackJump(_) if finding.fault.word == frame.words().saturating_sub(1) => {
@@ -128,11 +107,9 @@ fn push_beside_frame(
     cert: &Cert,
     cause: FrameCause,
     lines: &mut Lines,
-) -> Result<(), AllocError>
-    ensures { OnOk result (Tells lines.old lines.new (TellsBesideFrame inputs.now cert.now.entries cause)) }
-{
+) -> Result<(), AllocError> {
     match cause {
-        FrameCause::Odd => push_board(lines, board_answer(alloc, inputs)?),
+        FrameCause::Odd => push_board(lines, alloc, inputs)?,
         FrameCause::NoEntry { to, .. } => push_keys_at(lines, cert.entries(), to),
         _ => {}
     }
@@ -140,9 +117,7 @@ fn push_beside_frame(
 }
 
 /// Adds the line of the keys of the entries at a word address, in their order.
-fn push_keys_at(lines: &mut Lines, entries: &[Entry], addr: u16)
-    ensures { Adds lines.old lines.new (Line (codes "claimed scales") ∷ keys_at addr entries.now) }
-{
+fn push_keys_at(lines: &mut Lines, entries: &[Entry], addr: u16) {
     lines.add(&[Line("claimed scales")]);
     let mut any = false;
     for entry in entries {
@@ -154,9 +129,7 @@ fn push_keys_at(lines: &mut Lines, entries: &[Entry], addr: u16)
 }
 
 /// Adds the key of an entry, behind any before it, if it is at this word address. Answers whether it is.
-fn push_key_at(lines: &mut Lines, entry: &Entry, addr: u16, any: bool) -> bool
-    ensures { Adds lines.old lines.new (key_at addr entry.now) }
-{
+fn push_key_at(lines: &mut Lines, entry: &Entry, addr: u16, any: bool) -> bool {
     if entry.addr == addr {
         let before = Text(if any { ", " } else { "" });
         lines.add(&[before, Piece::Key(entry.key)]);
@@ -173,28 +146,24 @@ fn push_beside_shape(
     inputs: &Inputs,
     why: ShapeWhy,
     lines: &mut Lines,
-) -> Result<(), AllocError>
-    ensures { OnOk result (Tells lines.old lines.new (TellsBesideShape inputs.now why)) }
-{
+) -> Result<(), AllocError> {
     match why {
-        ShapeWhy::Odd => push_board(lines, board_answer(alloc, inputs)?),
+        ShapeWhy::Odd => push_board(lines, alloc, inputs)?,
         _ => push_other_machine(lines, inputs.machine, why),
     }
     Ok(())
 }
 
-/// The lines of the first fault of the shapes of these inputs, with a frame, if there is one.
-fn shape_lines(
+/// Adds the lines of the first fault of the shapes of these inputs, with a frame, if there is one.
+fn push_shape_fault(
+    lines: &mut Lines,
     alloc: Global,
     inputs: &Inputs,
     rom: &RomImage,
     cert: &Cert,
     frame: Option<&FrameImage>,
     finding: &ShapeFinding,
-) -> Result<Vec<Piece>, AllocError>
-    ensures { IfOk result (λ lines. ShapeLines inputs.now rom.now (option_copied frame.entry) cert.now.entries finding.now
-        (told lines.items)) }
-{
+) -> Result<(), AllocError> {
     let entry = finding.entry;
     let at = finding.fault.word;
     let number = finding.fault.number();
@@ -204,23 +173,20 @@ fn shape_lines(
         losses: losses_in_shape(rom, cert, &entry, at),
         ..RefusedItem::new(rom, Kind::Shape, entry.addr, at, before, callee)
     };
-    let mut lines = Lines::new(alloc);
     lines.push_machine(rom.machine());
     lines.push_zone(&inputs.window);
     lines.add(&[Line("rule"), Rule(number), Line("why")]);
-    push_shape_why(&mut lines, finding, rom);
-    item.push_lines(Role::Refused, &mut lines);
+    push_shape_why(lines, finding, rom);
+    item.push_lines(Role::Refused, lines);
     lines.add(&[Line("entry claims"), Piece::Entry(entry)]);
-    push_chain(alloc, rom, cert, frame, &entry, &mut lines)?;
-    push_beside_shape(alloc, inputs, finding.fault.why, &mut lines)?;
+    push_chain(alloc, rom, cert, frame, &entry, lines)?;
+    push_beside_shape(alloc, inputs, finding.fault.why, lines)?;
     lines.add(&[ToDo, Cure(number)]);
-    lines.finish()
+    Ok(())
 }
 
 /// Adds that the certificate may have been made for the other machine, if this fault may come of it.
-fn push_other_machine(lines: &mut Lines, machine: Machine, why: ShapeWhy)
-    ensures { Adds lines.old lines.new (other_machine_lines why) }
-{
+fn push_other_machine(lines: &mut Lines, machine: Machine, why: ShapeWhy) {
     let (ShapeWhy::EndDiffers | ShapeWhy::BoxTooSmall) = why else {
         return;
     };
@@ -244,10 +210,7 @@ fn push_chain(
     frame: Option<&FrameImage>,
     goal: &Entry,
     lines: &mut Lines,
-) -> Result<(), AllocError>
-    ensures { OnOk result (Tells lines.old lines.new
-        (TellsChain rom.now (option_copied frame.entry) cert.now.entries goal.now)) }
-{
+) -> Result<(), AllocError> {
     let Some(frame) = frame else {
         return Ok(());
     };
@@ -267,12 +230,7 @@ fn push_chain(
 
 /// The items of an entry's shape by which the place and the scale were lost that are not known before a word.
 #[tactic(auto, using(dvg_items::proofs::Listed::listed_at))]
-fn losses_in_shape(rom: &RomImage, cert: &Cert, entry: &Entry, at: u16) -> Option<Losses>
-    ensures some { IfSome result (AreLosses (shape_context rom.now.machine cert.now.entries entry.now)
-        (rom_word rom.now) entry.now.addr at) }
-    ensures none { IfNone result (HasEntry cert.now.entries entry.now.addr entry.now.key
-        → NoneLead Shape (rom_word rom.now) entry.now.addr at) }
-{
+fn losses_in_shape(rom: &RomImage, cert: &Cert, entry: &Entry, at: u16) -> Option<Losses> {
     let entries = ListIndex::new(cert);
     match entries.find(entry.addr, entry.key) {
         Some(listed) => shape_losses(rom, cert, &entries, &listed, at),

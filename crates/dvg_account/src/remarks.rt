@@ -2,7 +2,8 @@
 
 use crate::beginnings::{Beginning, Beginnings};
 use crate::inputs::Inputs;
-use crate::piece::Piece::{self, Address, Line, Name, Number, Text};
+use crate::lines::Lines;
+use crate::piece::Piece::{Address, Line, Name, Number, Text};
 use crate::shape_items::{ShapeItems, from_address};
 use dvg_cert::{Cert, Entries, Entry, Key};
 use dvg_survey::is_faint;
@@ -50,37 +51,32 @@ impl ShapeWalk {
     }
 }
 
-/// The lines of what is remarked on a frame, whose faint draws stand at these word addresses, and on the shapes of a certificate over a
-/// ROM, by the labels and the other frames of these inputs.
-pub fn remarks_on<E: Entries>(
+/// Adds the lines of what is remarked on a frame, whose faint draws stand at these word addresses, and on the shapes of a certificate over
+/// a ROM, by the labels and the other frames of these inputs.
+pub fn push_remarks<E: Entries>(
+    lines: &mut Lines,
     alloc: Global,
     inputs: &Inputs,
     cert: &Cert,
     entries: &E,
     rom: Option<&RomImage>,
     faint: &[u16],
-) -> Result<Vec<Piece>, AllocError> {
-    let mut remarks = Vec::new(alloc);
-    push_faint(&mut remarks, None, faint.len(), faint.first().copied())?;
+) -> Result<(), AllocError> {
+    push_faint(lines, None, faint.len(), faint.first().copied());
     if let Some(rom) = rom {
         let beginnings = Beginnings::new(alloc, inputs, rom)?;
-        push_shapes(&mut remarks, cert, entries, &beginnings)?;
+        push_shapes(lines, cert, entries, &beginnings);
     }
-    Ok(remarks)
+    Ok(())
 }
 
 /// Adds the line of how many lit draws of a shape, or of the frame, have an effective scale of 10 to 15, and of the first one's word
 /// address, if there are any.
-fn push_faint(
-    remarks: &mut Vec<Piece>,
-    shape: Option<(u16, Key)>,
-    draws: usize,
-    first: Option<u16>,
-) -> Result<(), AllocError> {
+fn push_faint(lines: &mut Lines, shape: Option<(u16, Key)>, draws: usize, first: Option<u16>) {
     let Some(first) = first else {
-        return Ok(());
+        return;
     };
-    remarks.extend_from_slice(&[
+    lines.add(&[
         Line("scales over 9"),
         Number(draws as u64),
         Text(" of the lit draws of "),
@@ -91,19 +87,15 @@ fn push_faint(
         Text(", the first at "),
         Address(first),
         Text(": on the board each is a dot"),
-    ])
+    ]);
 }
 
 /// Adds the line of the word address into which a shape runs on, if that is the beginning of something else.
-fn push_runs_on(
-    remarks: &mut Vec<Piece>,
-    (addr, key): (u16, Key),
-    into: Option<(u16, Beginning)>,
-) -> Result<(), AllocError> {
+fn push_runs_on(lines: &mut Lines, (addr, key): (u16, Key), into: Option<(u16, Beginning)>) {
     let Some((into, at)) = into else {
-        return Ok(());
+        return;
     };
-    remarks.extend_from_slice(&[
+    lines.add(&[
         Line("runs on"),
         Name(addr, key),
         Text(" into "),
@@ -112,27 +104,21 @@ fn push_runs_on(
             Beginning::Entry => ", where another shape begins",
             Beginning::Label => ", where a label stands",
         }),
-    ])
+    ]);
 }
 
 /// Adds the remarks on the shapes. A shape that runs on has this remark at its first scale alone.
-fn push_shapes<E: Entries>(
-    remarks: &mut Vec<Piece>,
-    cert: &Cert,
-    entries: &E,
-    beginnings: &Beginnings,
-) -> Result<(), AllocError> {
+fn push_shapes<E: Entries>(lines: &mut Lines, cert: &Cert, entries: &E, beginnings: &Beginnings) {
     let mut told = None;
     let mut later = cert.entries();
     for entry in cert.entries() {
         later = from_address(later, Some(entry.addr));
         let shape = (entry.addr, entry.key);
         let walk = ShapeWalk::over(entries, entry, later, beginnings);
-        push_faint(remarks, Some(shape), walk.faint, walk.first_faint)?;
+        push_faint(lines, Some(shape), walk.faint, walk.first_faint);
         if told != Some(entry.addr) {
-            push_runs_on(remarks, shape, walk.into)?;
+            push_runs_on(lines, shape, walk.into);
         }
         told = Some(entry.addr);
     }
-    Ok(())
 }

@@ -1,18 +1,13 @@
 //! How the pieces of an account are spelled.
 
-ghost use Rattle.std.specs.Prelude.{◌≡◌};
-ghost use Rattle.dvg_words.specs.Beam.{signed_field};
-
 use crate::piece::Piece;
 use crate::swapped::Swapped;
 use crate::text::Text;
 use dvg_check::{Edge, Leaving, Yes};
 use dvg_items::Item;
-use dvg_labels::Labels;
 use dvg_make::FrameRefusal;
 use dvg_spelling::{Answer, Report, Rule, own_rule_of, rule_of};
 use dvg_words::{Draw, Format, Instr, RomMap};
-use std::alloc::{AllocError, Global};
 
 /// Whose the certificate is that an account speaks of.
 #[derive(Clone, Copy)]
@@ -25,12 +20,20 @@ pub enum CertificateOf {
 
 /// What the words of an account depend on: who made the certificate, and which input has its bytes swapped, if one has.
 #[derive(Clone, Copy)]
-struct Telling {
-    cert: CertificateOf,
-    swapped: Option<Swapped>,
+pub struct Telling {
+    pub cert: CertificateOf,
+    pub swapped: Option<Swapped>,
 }
 
 impl Telling {
+    /// An account that speaks of this certificate, where no bytes are swapped.
+    pub fn of(cert: CertificateOf) -> Telling {
+        Telling {
+            cert,
+            swapped: None,
+        }
+    }
+
     /// The text of a number's rule.
     fn rule(self, number: u8) -> Option<Rule> {
         match self.cert {
@@ -40,32 +43,8 @@ impl Telling {
     }
 }
 
-/// The text of an account that speaks of this certificate, in which addresses are named by these labels. It tells first of which input
-/// the bytes are to be swapped, if they are.
-pub fn text_of(
-    alloc: Global,
-    cert: CertificateOf,
-    swapped: Option<Swapped>,
-    pieces: &[Piece],
-    labels: Option<&Labels>,
-) -> Result<String, AllocError> {
-    let telling = Telling { cert, swapped };
-    let mut text = Text::new(alloc, labels);
-    if let Some(swapped) = swapped {
-        push_swapped(&mut text, swapped);
-    }
-    for piece in pieces {
-        push_piece(&mut text, telling, piece);
-    }
-    if let Some(labels) = labels {
-        push_passed(&mut text, labels.passed());
-    }
-    text.end_line();
-    text.finish()
-}
-
 /// How many labels were passed over, if any were.
-fn push_passed(text: &mut Text, passed: usize) {
+pub fn push_passed(text: &mut Text, passed: usize) {
     if passed > 0 {
         text.begin_line("", "labels passed over");
         text.push_decimal(passed);
@@ -74,7 +53,7 @@ fn push_passed(text: &mut Text, passed: usize) {
 }
 
 /// The line of what is accepted with the bytes of its words swapped.
-fn push_swapped(text: &mut Text, swapped: Swapped) {
+pub fn push_swapped(text: &mut Text, swapped: Swapped) {
     text.begin_line("", "swapped bytes");
     text.push("with the two bytes of each word of ");
     text.push(whose_bytes(swapped));
@@ -91,7 +70,7 @@ fn whose_bytes(swapped: Swapped) -> &'static str {
 }
 
 /// Adds a piece: behind a key what tells, and between the words as they are.
-fn push_piece(text: &mut Text, telling: Telling, piece: &Piece) {
+pub fn push_piece(text: &mut Text, telling: Telling, piece: &Piece) {
     match piece {
         Piece::Line(key) => text.begin_line("", key),
         Piece::There(key) => text.begin_line("there ", key),
@@ -239,9 +218,7 @@ fn push_instruction(text: &mut Text, item: &Item) {
 }
 
 /// A field of a LABS as a number of screen places. One over 2047, which the board alone loads, is below 0.
-fn signed_field(field: u16) -> i32
-    ensures { result ≡ signed_field field }
-{
+fn signed_field(field: u16) -> i32 {
     if field > 2047 {
         i32::from(field) - 4096
     } else {

@@ -2,7 +2,7 @@
 
 ghost use Rattle.std.specs.Prelude.{◌≡◌, Some, Ok, IfOk, IfSome};
 ghost use Rattle.dvg_words.specs.Memory.{words_of};
-ghost use Rattle.dvg_account.specs.Accepted.{IsOwnAnswer};
+ghost use Rattle.dvg_account.specs.Swapped.{IsOwnAnswer};
 ghost use Rattle.dvg_check.specs.Verdict.{InRange, RomVerdict};
 ghost use Rattle.dvg_account.specs.Swapped.{swapped, IsAcceptedSwapped, AreAccepted};
 

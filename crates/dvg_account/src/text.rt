@@ -1,8 +1,5 @@
 //! A text that is put together, and how numbers, places and entries are spelled in it.
 
-ghost use Rattle.std.specs.Prelude.{◌≡◌, ◌<◌, [], Some, IfOk, string_bytes, decimal};
-ghost use Rattle.dvg_account.specs.Building.{Adds};
-
 use dvg_cert::{End, Entry, Key, LitBox};
 use dvg_items::box_corners;
 use dvg_labels::{Labels, Nearest};
@@ -10,7 +7,6 @@ use dvg_spelling::{hex_address, hex_word};
 use dvg_words::Point;
 use itoa::{Buffer, Integer};
 use std::alloc::{AllocError, Global};
-use std::marker::Model;
 use std::str;
 
 /// How many units a screen place has.
@@ -24,37 +20,27 @@ pub struct Text<'a> {
     labels: Option<&'a Labels>,
 }
 
-impl<'a> Model for Text<'a> {
-    ghost use Rattle.std.specs.Prelude.{ℕ, List, Option};
-    ghost use Rattle.dvg_account.specs.Private.Texts.{text_so_far};
-
-    ghost Value = { Option (List ℕ) };
-
-    ghost view = { λ t. text_so_far t.text };
-}
-
 impl<'a> Text<'a> {
     /// The empty text, in which addresses are named by these labels. Takes no memory.
-    pub fn new(alloc: Global, labels: Option<&'a Labels>) -> Text<'a>
-        ensures { result ≡ Some [] }
-    {
+    pub fn new(alloc: Global, labels: Option<&'a Labels>) -> Text<'a> {
         Text {
             text: Ok(String::new(alloc)),
             labels,
         }
     }
 
+    /// The labels by which addresses are named.
+    pub fn labels(&self) -> Option<&'a Labels> {
+        self.labels
+    }
+
     /// The whole text, or that memory ran out.
-    pub fn finish(self) -> Result<String, AllocError>
-        ensures { IfOk result (λ text. self.entry ≡ Some (string_bytes text)) }
-    {
+    pub fn finish(self) -> Result<String, AllocError> {
         self.text
     }
 
     /// Adds a piece, if memory has not run out.
-    pub fn push(&mut self, piece: &str)
-        ensures { Adds self.old self.new piece.now }
-    {
+    pub fn push(&mut self, piece: &str) {
         let pushed = match &mut self.text {
             Ok(text) => text.push_str(piece),
             Err(_) => return,

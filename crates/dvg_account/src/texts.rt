@@ -1,13 +1,14 @@
 //! The accounts of answers, as texts. Where labels are given, they name the addresses: `SHIP+3 (819)` is three words past `SHIP`.
 
-use crate::inputs::{Inputs, PlainWhy, certificate_lines, plain_lines};
-use crate::leaving::leaving_lines;
-use crate::making::{made_lines, unmade_lines};
-use crate::spelling::{CertificateOf, text_of};
+use crate::inputs::{Inputs, PlainWhy, push_plain_refusal, push_refused_text};
+use crate::leaving::push_leaving;
+use crate::lines::Lines;
+use crate::making::{push_made, push_unmade};
+use crate::spelling::{CertificateOf, Telling};
 use crate::swapped::{Swapped, find_swapped};
 use crate::text::Text;
-use crate::time::{slow_lines, time_lines};
-use crate::verdicts::{own_lines, verdict_lines};
+use crate::time::{push_slow, push_time};
+use crate::verdicts::{push_own, push_verdict};
 use dvg_cert::Cert;
 use dvg_check::{Finding, Refusal, Yes};
 use dvg_clocks::{FrameTime, TimedJudging, TimedRefusal};
@@ -17,23 +18,31 @@ use dvg_text::RefusedText;
 use dvg_words::{FrameImage, Machine, RomImage};
 use std::alloc::{AllocError, Global};
 
-/// Where a frame is refused because of an item, or by the maker: the input that gets it accepted once its bytes are swapped.
-fn swapped_for(
-    alloc: Global,
-    inputs: &Inputs,
-    verdict: &Result<Yes, FrameRefusal>,
-) -> Result<Option<Swapped>, AllocError> {
-    match verdict {
-        Err(FrameRefusal::Make { .. })
-        | Err(FrameRefusal::Check(Refusal::Shape(_) | Refusal::Frame(_))) => {
-            find_swapped(alloc, inputs)
-        }
-        _ => Ok(None),
-    }
+/// An account that speaks of a frame's own certificate, or of none.
+fn own_account<'a>(alloc: Global, labels: Option<&'a Labels>) -> Lines<'a> {
+    Lines::new(alloc, Telling::of(CertificateOf::Frame), labels)
 }
 
-/// The account of [`verdict_lines`](crate::verdict_lines) as a text. Of a refusal because of an item it tells first what
-/// [`find_swapped`] finds.
+/// What the words of an account of this verdict depend on. Of a refusal because of an item, or by the maker, it is found out which input
+/// gets it accepted once its bytes are swapped.
+fn telling_of(
+    alloc: Global,
+    cert: CertificateOf,
+    inputs: &Inputs,
+    verdict: &Result<Yes, FrameRefusal>,
+) -> Result<Telling, AllocError> {
+    let swapped = match verdict {
+        Err(FrameRefusal::Make { .. })
+        | Err(FrameRefusal::Check(Refusal::Shape(_) | Refusal::Frame(_))) => {
+            find_swapped(alloc, inputs)?
+        }
+        _ => None,
+    };
+    Ok(Telling { cert, swapped })
+}
+
+/// The account of a verdict on these inputs (this project's own). A refusal because of an item has a cause, and its account tells first
+/// what [`find_swapped`] finds.
 pub fn verdict_text(
     alloc: Global,
     inputs: &Inputs,
@@ -44,8 +53,8 @@ pub fn verdict_text(
     text_by(alloc, CertificateOf::User, inputs, &verdict, cause)
 }
 
-/// The account of [`verdict_lines`] of a frame as a text. Of a refusal because of an item, or by the maker, it tells first what [`find_swapped`]
-/// finds.
+/// The account of a verdict on a frame, by the certificate of these inputs, if they have one (this project's own). A refusal because of an
+/// item has a cause. Of that, and of a refusal by the maker, the account tells first what [`find_swapped`] finds.
 pub fn frame_text(
     alloc: Global,
     inputs: &Inputs,
@@ -67,12 +76,13 @@ fn text_by(
     verdict: &Result<Yes, FrameRefusal>,
     cause: Option<&Finding>,
 ) -> Result<String, AllocError> {
-    let lines = verdict_lines(alloc, inputs, verdict, cause)?;
-    let swapped = swapped_for(alloc, inputs, verdict)?;
-    text_of(alloc, cert, swapped, &lines, inputs.labels)
+    let telling = telling_of(alloc, cert, inputs, verdict)?;
+    let mut lines = Lines::new(alloc, telling, inputs.labels);
+    push_verdict(&mut lines, alloc, inputs, verdict, cause)?;
+    lines.finish()
 }
 
-/// The account of [`own_lines`] as a text, with the time that the frame takes on the board.
+/// The account of the verdict on a frame by its own certificate, or of why none is made, with the time that the frame takes on the board.
 fn own_text(
     alloc: Global,
     inputs: &Inputs,
@@ -81,18 +91,18 @@ fn own_text(
     judged: Result<JudgedFrame, MakeAccount>,
     time: Option<FrameTime>,
 ) -> Result<String, AllocError> {
-    let verdict = own_verdict(&judged);
-    let mut lines = own_lines(alloc, inputs, rom, frame, judged)?;
+    let telling = telling_of(alloc, CertificateOf::Frame, inputs, &own_verdict(&judged))?;
+    let mut lines = Lines::new(alloc, telling, inputs.labels);
+    push_own(&mut lines, alloc, inputs, rom, frame, judged)?;
     if let (Machine::Board, Some(time)) = (inputs.machine, time) {
-        lines.extend_from_slice(&time_lines(alloc, &time)?)?;
+        push_time(&mut lines, &time);
     }
-    let swapped = swapped_for(alloc, inputs, &verdict)?;
-    text_of(alloc, CertificateOf::Frame, swapped, &lines, inputs.labels)
+    lines.finish()
 }
 
-/// The account of a frame that was judged with its time, as a text: that of [`own_lines`], behind which the time is told that an accepted
-/// frame takes on the board; or where it may take more than `limit` clocks, that of its refusal with 58. Of a refusal because of an
-/// item, or by the maker, it tells first what [`find_swapped`] finds.
+/// The account of a frame that was judged by its own certificate, with its time (this project's own): that of the verdict, behind which the
+/// time is told that an accepted frame takes on the board; or where it may take more than `limit` clocks, that of its refusal with 58. Of a
+/// refusal because of an item, or by the maker, it tells first what [`find_swapped`] finds.
 pub fn timed_text(
     alloc: Global,
     inputs: &Inputs,
@@ -108,14 +118,15 @@ pub fn timed_text(
     } = timed;
     match (answer, time?) {
         (Err(TimedRefusal::Slow { at }), Some(time)) => {
-            let lines = slow_lines(alloc, inputs, frame, at, limit, &time)?;
-            text_of(alloc, CertificateOf::Frame, None, &lines, inputs.labels)
+            let mut lines = own_account(alloc, inputs.labels);
+            push_slow(&mut lines, inputs, frame, at, limit, &time);
+            lines.finish()
         }
         (_, time) => own_text(alloc, inputs, rom, frame, judged, time),
     }
 }
 
-/// The account of [`plain_lines`] as a text, where no certificate was given.
+/// The account of a refusal with this number before any item was judged on a machine, where no certificate was given (this project's own).
 pub fn plain_text(
     machine: Machine,
     alloc: Global,
@@ -123,11 +134,13 @@ pub fn plain_text(
     why: PlainWhy,
     labels: Option<&Labels>,
 ) -> Result<String, AllocError> {
-    let lines = plain_lines(machine, alloc, number, why)?;
-    text_of(alloc, CertificateOf::Frame, None, &lines, labels)
+    let mut lines = own_account(alloc, labels);
+    push_plain_refusal(&mut lines, machine, number, why);
+    lines.finish()
 }
 
-/// The account of [`leaving_lines`] as a text.
+/// The account of a frame on the board that leaves a recipe at a word address, where an item of one of these lines of the recipe's text
+/// could stand (this project's own).
 pub fn leaving_text(
     alloc: Global,
     frame: &FrameImage,
@@ -135,19 +148,21 @@ pub fn leaving_text(
     could_stand: Vec<u32>,
     labels: Option<&Labels>,
 ) -> Result<String, AllocError> {
-    let lines = leaving_lines(alloc, frame, at, &could_stand)?;
-    text_of(alloc, CertificateOf::Frame, None, &lines, labels)
+    let mut lines = own_account(alloc, labels);
+    push_leaving(&mut lines, frame, at, &could_stand);
+    lines.finish()
 }
 
-/// The account of a certificate's text that is refused, [`certificate_lines`] as a text.
+/// The account of a certificate's text that is refused (this project's own).
 pub fn certificate_text(
     machine: Machine,
     alloc: Global,
     refused: &RefusedText,
     labels: Option<&Labels>,
 ) -> Result<String, AllocError> {
-    let lines = certificate_lines(machine, alloc, refused.fault(), refused.why())?;
-    text_of(alloc, CertificateOf::User, None, &lines, labels)
+    let mut lines = Lines::new(alloc, Telling::of(CertificateOf::User), labels);
+    push_refused_text(&mut lines, machine, refused.fault(), refused.why());
+    lines.finish()
 }
 
 /// A word address as accounts spell it: with the label that names it, if one does, as in `SHIP+3 (819)`.
@@ -161,18 +176,19 @@ pub fn address_text(
     text.finish()
 }
 
-/// The account of [`made_lines`] as a text.
+/// The account of a certificate that is made for a machine (this project's own).
 pub fn made_text(
     machine: Machine,
     alloc: Global,
     cert: &Cert,
     labels: Option<&Labels>,
 ) -> Result<String, AllocError> {
-    let lines = made_lines(machine, alloc, cert)?;
-    text_of(alloc, CertificateOf::Frame, None, &lines, labels)
+    let mut lines = own_account(alloc, labels);
+    push_made(&mut lines, machine, cert);
+    lines.finish()
 }
 
-/// The account of [`unmade_lines`] as a text.
+/// The account of a refusal of the maker over a ROM, which was asked for the entries of these frames, too (this project's own).
 pub fn unmade_text(
     alloc: Global,
     rom: &RomImage,
@@ -180,6 +196,7 @@ pub fn unmade_text(
     account: MakeAccount,
     labels: Option<&Labels>,
 ) -> Result<String, AllocError> {
-    let lines = unmade_lines(alloc, rom, frames, &account)?;
-    text_of(alloc, CertificateOf::Frame, None, &lines, labels)
+    let mut lines = own_account(alloc, labels);
+    push_unmade(&mut lines, alloc, rom, frames, &account)?;
+    lines.finish()
 }

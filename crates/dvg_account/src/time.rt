@@ -7,7 +7,6 @@ use crate::piece::Piece::{self, Cure, Line, Number, Rule, Text, ToDo};
 use crate::piece::Role;
 use dvg_clocks::{ClockRange, FrameTime};
 use dvg_words::{FrameImage, FrameOn};
-use std::alloc::{AllocError, Global};
 
 /// How many clocks a millisecond has: 12.096 MHz / 8.
 const MILLISECOND: u64 = 1512;
@@ -19,7 +18,7 @@ const PICTURE: u64 = 25_200;
 const TOO_LONG: u8 = 58;
 
 /// Adds the lines of the time that a frame takes.
-fn push_time(lines: &mut Lines, time: &FrameTime) {
+pub fn push_time(lines: &mut Lines, time: &FrameTime) {
     push_whole_time(lines, &time.clocks);
     for item in time.dearest.items().iter().flatten() {
         lines.add(&[Line("takes most")]);
@@ -28,24 +27,16 @@ fn push_time(lines: &mut Lines, time: &FrameTime) {
     }
 }
 
-/// The lines of the time that a frame takes.
-pub fn time_lines(alloc: Global, time: &FrameTime) -> Result<Vec<Piece>, AllocError> {
-    let mut lines = Lines::new(alloc);
-    push_time(&mut lines, time);
-    lines.finish()
-}
-
-/// The lines of a frame of these inputs that is over a limit of clocks with the item at this word.
-pub fn slow_lines(
-    alloc: Global,
+/// Adds the lines of a frame of these inputs that is over a limit of clocks with the item at this word.
+pub fn push_slow(
+    lines: &mut Lines,
     inputs: &Inputs,
     frame: &FrameImage,
     at: u16,
     limit: u64,
     time: &FrameTime,
-) -> Result<Vec<Piece>, AllocError> {
+) {
     let framed = FrameOn::new(inputs.machine, frame);
-    let mut lines = Lines::new(alloc);
     lines.push_machine(inputs.machine);
     lines.push_zone(&inputs.window);
     lines.add(&[
@@ -55,10 +46,9 @@ pub fn slow_lines(
         Text("with it the frame may take more clocks than the limit, "),
         Number(limit),
     ]);
-    RefusedItem::call(&framed, at).push_lines(Role::Refused, &mut lines);
-    push_time(&mut lines, time);
+    RefusedItem::call(&framed, at).push_lines(Role::Refused, lines);
+    push_time(lines, time);
     lines.add(&[ToDo, Cure(TOO_LONG)]);
-    lines.finish()
 }
 
 /// The clocks of a frame, its milliseconds, rounded up to thousandths, and the share of a picture, in percent, rounded up to tenths.

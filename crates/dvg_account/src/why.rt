@@ -1,11 +1,5 @@
 //! The sentences that tell why an item is refused.
 
-ghost use Rattle.std.specs.Prelude.{◌≡◌, ◌++◌};
-ghost use Rattle.dvg_account.specs.Told.{number, one};
-ghost use Rattle.dvg_account.specs.Items.{words_at};
-ghost use Rattle.dvg_account.specs.Why.{frame_why, shape_why, claim_why, missing_word, odd_field, odd_labs, no_entry, leaves_box, words_with, words_over, past_window};
-ghost use Rattle.dvg_account.specs.Building.{Adds};
-
 use crate::item::words_at;
 use crate::lines::Lines;
 use crate::piece::Piece::{self, Address, Number, PastBox, PastWindow, Place, Scale, Text};
@@ -22,9 +16,7 @@ pub fn push_missing<F: Fetch>(
     owner: &'static str,
     first: u16,
     last: u16,
-)
-    ensures { Adds lines.old lines.new (missing_word (F.words memory.now) at first last) }
-{
+) {
     let word = match memory.fetch(at) {
         Some(_) => at + 1,
         None => at,
@@ -46,17 +38,13 @@ const IN_FRAME: &str = " is not in the frame, whose words are ";
 pub const IN_ROM: &str = " is not in the ROM, whose words are ";
 
 /// The twelve bits of a word of a LABS, if they are over 1023: bit 11 or bit 10 is set.
-fn odd_field(word: u16) -> Option<u16>
-    ensures { result ≡ odd_field word }
-{
+fn odd_field(word: u16) -> Option<u16> {
     let field = word % 4096;
     if field > 1023 { Some(field) } else { None }
 }
 
 /// Adds which fields of the LABS at a word address are over 1023: Y in its first word, X in its second.
-pub fn push_odd<F: Fetch>(lines: &mut Lines, memory: &F, at: u16)
-    ensures { Adds lines.old lines.new (odd_labs (words_at (F.words memory.now) at)) }
-{
+pub fn push_odd<F: Fetch>(lines: &mut Lines, memory: &F, at: u16) {
     match words_at(memory, at) {
         None => {}
         Some((first, None)) => push_odd_fields(lines, odd_field(first), None),
@@ -67,9 +55,7 @@ pub fn push_odd<F: Fetch>(lines: &mut Lines, memory: &F, at: u16)
 }
 
 /// Adds these fields of a LABS, which are over 1023.
-fn push_odd_fields(lines: &mut Lines, y: Option<u16>, x: Option<u16>)
-    ensures { Adds lines.old lines.new (one number y ++ one number x) }
-{
+fn push_odd_fields(lines: &mut Lines, y: Option<u16>, x: Option<u16>) {
     let most = Text(", at most 1023");
     match (y, x) {
         (Some(y), Some(x)) => lines.add(&[
@@ -146,16 +132,12 @@ fn corner(found: &Found, point: Point) -> &'static str {
 }
 
 /// Adds which corner of what an item lights is past an edge of the window.
-fn push_past(lines: &mut Lines, found: &Found, leaving: Leaving)
-    ensures { Adds lines.old lines.new (past_window leaving) }
-{
+fn push_past(lines: &mut Lines, found: &Found, leaving: Leaving) {
     lines.add(&[Text(corner(found, leaving.corner)), PastWindow(leaving)]);
 }
 
 /// Adds how the claimed box is left.
-fn push_leaves_box(lines: &mut Lines, found: &Found, leaving: BoxLeaving)
-    ensures { Adds lines.old lines.new (leaves_box leaving) }
-{
+fn push_leaves_box(lines: &mut Lines, found: &Found, leaving: BoxLeaving) {
     match leaving {
         BoxLeaving::Empty(at) => lines.add(&[
             Text(corner(found, at)),
@@ -169,9 +151,7 @@ fn push_leaves_box(lines: &mut Lines, found: &Found, leaving: BoxLeaving)
 }
 
 /// Adds that no entry is named by this address and this scale, `Any` where it is unknown.
-fn push_no_entry(lines: &mut Lines, to: u16, scale: Key)
-    ensures { Adds lines.old lines.new (no_entry to scale) }
-{
+fn push_no_entry(lines: &mut Lines, to: u16, scale: Key) {
     match scale {
         Key::At(scale) => lines.add(&[
             Text("no entry is for "),
@@ -191,9 +171,7 @@ fn push_no_entry(lines: &mut Lines, to: u16, scale: Key)
 }
 
 /// How many words there are up to and with an item that is there.
-fn words_with(found: &Found) -> u32
-    ensures { result ≡ words_with found.now }
-{
+fn words_with(found: &Found) -> u32 {
     match found {
         Found::Seen(seen) => seen.after.words,
         _ => 0,
@@ -201,9 +179,7 @@ fn words_with(found: &Found) -> u32
 }
 
 /// Adds that there are so many words up to and with an item, what allows fewer, and by how many they are over.
-pub fn push_words_over(lines: &mut Lines, words: u32, allows: &'static str, most: u32, over: u32)
-    ensures { Adds lines.old lines.new (words_over words most over) }
-{
+pub fn push_words_over(lines: &mut Lines, words: u32, allows: &'static str, most: u32, over: u32) {
     lines.add(&[
         Number(words as u64),
         Text(" words with it, and "),
@@ -229,9 +205,7 @@ pub fn push_frame_why(
     machine: Machine,
     finding: &FrameFinding,
     frame: &FrameImage,
-)
-    ensures { Adds lines.old lines.new (frame_why machine frame.now finding.now finding.now.cause) }
-{
+) {
     let found = &finding.found;
     let at = finding.fault.word;
     let framed = FrameOn::new(machine, frame);
@@ -267,9 +241,7 @@ pub fn push_frame_why(
 }
 
 /// Adds why an item of a shape is refused.
-pub fn push_shape_why(lines: &mut Lines, finding: &ShapeFinding, rom: &RomImage)
-    ensures { Adds lines.old lines.new (shape_why rom.now finding.now finding.now.cause) }
-{
+pub fn push_shape_why(lines: &mut Lines, finding: &ShapeFinding, rom: &RomImage) {
     let found = &finding.found;
     let at = finding.fault.word;
     match finding.cause {
@@ -288,9 +260,7 @@ pub fn push_shape_why(lines: &mut Lines, finding: &ShapeFinding, rom: &RomImage)
 }
 
 /// Adds which claim of an entry is broken, where so many words are taken up to and with the item.
-fn push_claim(lines: &mut Lines, cause: ShapeCause, entry: &Entry, words: u32)
-    ensures { Adds lines.old lines.new (claim_why entry.now words cause) }
-{
+fn push_claim(lines: &mut Lines, cause: ShapeCause, entry: &Entry, words: u32) {
     match cause {
         ShapeCause::TooDeep(depth) => lines.add(&[
             Text("it needs depth "),

@@ -1,4 +1,4 @@
-use Rattle.dvg_account.proofs.Common.{rules}
+use Rattle.dvg_spelling.proofs.Common.{rules}
 use Rattle.dvg_account.proofs.swapped.find_swapped.Goals as goal
 
 pub returns-then-is_some : goal.returns-then-is_some

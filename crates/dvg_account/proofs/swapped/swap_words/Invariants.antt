@@ -1,4 +1,4 @@
-use Rattle.dvg_account.proofs.Common.{◌≡◌, ◌++◌, length}
+use Rattle.dvg_spelling.proofs.Common.{◌≡◌, ◌++◌, length}
 use Rattle.dvg_account.specs.Swapped.{swapped}
 use Rattle.dvg_account.proofs.swapped.swap_words.Given as goal
 

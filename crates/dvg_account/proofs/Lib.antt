@@ -1,4 +1,0 @@
-pub mod Common
-mod Building
-mod Telling
-mod Steps

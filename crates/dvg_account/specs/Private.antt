@@ -1,3 +1,0 @@
--- Definitions for the code alone; no clause of a public call uses them.
-pub mod Lines
-pub mod Texts
