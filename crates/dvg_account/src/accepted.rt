@@ -106,11 +106,18 @@ pub fn own_answer(
 }
 
 /// Adds the line of what the board answers to the same inputs, by the frame's own certificate there, unless the board was asked.
-pub fn push_board(lines: &mut Lines, alloc: Global, inputs: &Inputs) -> Result<(), AllocError> {
+pub fn push_board(lines: &mut Lines, inputs: &Inputs) -> Result<(), AllocError> {
     let (Machine::Profile, Some(map)) = (inputs.machine, inputs.map) else {
         return Ok(());
     };
-    let answer = own_answer(Machine::Board, alloc, inputs, map, inputs.rom, inputs.frame)?;
+    let answer = own_answer(
+        Machine::Board,
+        lines.alloc,
+        inputs,
+        map,
+        inputs.rom,
+        inputs.frame,
+    )?;
     if let Some(answer) = answer {
         lines.add(&[Line("on the board"), Answer(answer)]);
     }
@@ -122,7 +129,6 @@ pub fn push_board(lines: &mut Lines, alloc: Global, inputs: &Inputs) -> Result<(
 /// known to be lit.
 fn push_survey(
     lines: &mut Lines,
-    alloc: Global,
     inputs: &Inputs,
     rom: Option<&RomImage>,
     frame: Option<&FrameImage>,
@@ -131,22 +137,22 @@ fn push_survey(
         push_lit(
             lines,
             &inputs.window,
-            &FrameSurvey::empty(alloc),
+            &FrameSurvey::empty(lines.alloc),
             &LitBox::Empty,
         );
         return Ok(());
     };
-    let entries = HashIndex::new(alloc, cert)?;
+    let entries = HashIndex::new(lines.alloc, cert)?;
     let survey = match frame {
-        Some(frame) => survey_frame(inputs.machine, alloc, cert, &entries, frame)?,
-        None => FrameSurvey::empty(alloc),
+        Some(frame) => survey_frame(inputs.machine, lines.alloc, cert, &entries, frame)?,
+        None => FrameSurvey::empty(lines.alloc),
     };
     let shapes = match rom {
         Some(rom) => shapes_extent(rom, cert, &entries),
         None => LitBox::Empty,
     };
     push_lit(lines, &inputs.window, &survey, &shapes);
-    push_remarks(lines, alloc, inputs, cert, &entries, rom, &survey.faint)
+    push_remarks(lines, inputs, cert, &entries, rom, &survey.faint)
 }
 
 /// Adds the lines of the calls of a frame, and of where it and the shapes light.
@@ -173,7 +179,6 @@ fn push_lit(lines: &mut Lines, window: &Window, frame: &FrameSurvey, shapes: &Li
 /// length has none.
 pub fn push_accepted(
     lines: &mut Lines,
-    alloc: Global,
     inputs: &Inputs,
     rom: Option<&RomImage>,
     frame: Option<&FrameImage>,
@@ -182,6 +187,6 @@ pub fn push_accepted(
     lines.push_machine(inputs.machine);
     lines.push_zone(&inputs.window);
     push_counts(lines, yes, inputs.budget);
-    push_survey(lines, alloc, inputs, rom, frame)?;
-    push_board(lines, alloc, inputs)
+    push_survey(lines, inputs, rom, frame)?;
+    push_board(lines, inputs)
 }

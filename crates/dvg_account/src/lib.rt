@@ -4,7 +4,7 @@
 //! answer of the maker, [`plain_text`] that of a refusal before any item was judged, [`certificate_text`] that of a refused text, and
 //! [`leaving_text`] that of a frame that leaves a recipe. Each is written of `Piece`s: keys, which begin lines, and what stands behind
 //! them. What they tell is found, and proved, in the crates below; which lines tell it, and its words, are tested.
-//! [`recipe_text`] spells the lines of a recipe's account, which the caller finds, and [`dump_text`] the account of a dump that differs
+//! [`RecipeText`] has the lines of a recipe's account, which the caller finds, and [`dump_text`] the account of a dump that differs
 //! from a good one.
 #![tactic(auto)]
 
@@ -42,7 +42,7 @@ mod zeros;
 
 pub use dumps::dump_text;
 pub use inputs::{Inputs, PlainWhy};
-pub use recipes::{KnownBefore, RecipeLine, recipe_text};
+pub use recipes::{KnownBefore, RecipeText};
 pub use remarked::{FrameRemark, frame_remarks, remarks_text};
 pub use starts::ShapeStarts;
 pub use swapped::{Swapped, find_swapped};

@@ -11,6 +11,8 @@ use std::alloc::{AllocError, Global};
 /// The lines of an account so far, or that memory ran out. Then nothing is added any more.
 #[derive(Drop)]
 pub struct Lines<'a> {
+    /// Where the memory comes from that is taken to find out what to tell.
+    pub alloc: Global,
     text: Text<'a>,
     telling: Telling,
 }
@@ -23,7 +25,11 @@ impl<'a> Lines<'a> {
         if let Some(swapped) = telling.swapped {
             push_swapped(&mut text, swapped);
         }
-        Lines { text, telling }
+        Lines {
+            alloc,
+            text,
+            telling,
+        }
     }
 
     /// Adds pieces, if memory has not run out.

@@ -52,7 +52,6 @@ pub fn push_made(lines: &mut Lines, machine: Machine, cert: &Cert) {
 /// Adds the lines of a refusal of the maker over a ROM, which was asked for the entries of these frames, too (this project's own).
 pub fn push_unmade(
     lines: &mut Lines,
-    alloc: Global,
     rom: &RomImage,
     frames: &[FrameImage],
     account: &MakeAccount,
@@ -61,7 +60,7 @@ pub fn push_unmade(
     let frame = frame_of_call(frames, account.fault.call);
     let call = call_item(rom.machine(), frame, account.fault.call);
     let item = item_of(rom, frame, account);
-    let meant = meant(alloc, rom, account)?;
+    let meant = meant(lines.alloc, rom, account)?;
     let middle = middle_of(rom.machine(), frame, account);
     lines.push_machine(rom.machine());
     lines.add(&[Line("rule"), Rule(number)]);
@@ -69,7 +68,7 @@ pub fn push_unmade(
     push_meant(lines, account.at, meant);
     push_middle(lines, middle);
     push_way(lines, &call, &item, account);
-    push_below(alloc, rom, account.cause, lines)?;
+    push_below(lines, rom, account.cause)?;
     lines.add(&[ToDo]);
     lines.add(&advice(rom.map(), account));
     Ok(())
@@ -247,16 +246,11 @@ fn push_needed(lines: &mut Lines, shape: Option<&ShapeAt>) {
 }
 
 /// Adds the lines of the calls below what the item calls, where calls go too deep by it.
-fn push_below(
-    alloc: Global,
-    rom: &RomImage,
-    cause: EntryCause,
-    lines: &mut Lines,
-) -> Result<(), AllocError> {
+fn push_below(lines: &mut Lines, rom: &RomImage, cause: EntryCause) -> Result<(), AllocError> {
     let EntryCause::Deep { to, scale } = cause else {
         return Ok(());
     };
-    let calls = calls_below(alloc, rom, to, scale)?;
+    let calls = calls_below(lines.alloc, rom, to, scale)?;
     push_steps(lines, "below", Some((to, scale)), &calls);
     Ok(())
 }

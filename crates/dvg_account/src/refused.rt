@@ -13,13 +13,12 @@ use dvg_check::{Finding, FrameCause, FrameFinding, Refusal, ShapeFinding, ShapeW
 use dvg_items::{Item, Kind};
 use dvg_survey::{Losses, find_chain, frame_losses, furthest_stroke, shape_losses};
 use dvg_words::{FrameImage, FrameOn, Machine, RomImage};
-use std::alloc::{AllocError, Global};
+use std::alloc::AllocError;
 
 /// Adds the lines of a refusal of these inputs. The images are those of the inputs; an input of a wrong length has none. A refusal because of
 /// an item has a cause.
 pub fn push_refused(
     lines: &mut Lines,
-    alloc: Global,
     inputs: &Inputs,
     rom: Option<&RomImage>,
     frame: Option<&FrameImage>,
@@ -28,10 +27,10 @@ pub fn push_refused(
 ) -> Result<(), AllocError> {
     match (cause, inputs.cert, rom, frame) {
         (Some(Finding::Shape(finding)), Some(cert), Some(rom), frame) => {
-            push_shape_fault(lines, alloc, inputs, rom, cert, frame, finding)
+            push_shape_fault(lines, inputs, rom, cert, frame, finding)
         }
         (Some(Finding::Frame(finding)), Some(cert), rom, Some(frame)) => {
-            push_frame_fault(lines, alloc, inputs, rom, cert, frame, finding)
+            push_frame_fault(lines, inputs, rom, cert, frame, finding)
         }
         _ => {
             let why = inputs.plain_why(refusal);
@@ -44,7 +43,6 @@ pub fn push_refused(
 /// Adds the lines of the first fault of a frame of these inputs, over a ROM, if its bytes are of the right length.
 fn push_frame_fault(
     lines: &mut Lines,
-    alloc: Global,
     inputs: &Inputs,
     rom: Option<&RomImage>,
     cert: &Cert,
@@ -68,7 +66,7 @@ fn push_frame_fault(
     push_frame_why(lines, machine, finding, frame);
     push_item(lines, Role::Refused, "reaches furthest", stroke);
     item.push_lines(Role::Refused, lines);
-    push_beside_frame(alloc, inputs, cert, finding.cause, lines)?;
+    push_beside_frame(lines, inputs, cert, finding.cause)?;
     push_frame_cure(lines, finding, frame);
     Ok(())
 }
@@ -102,14 +100,13 @@ fn push_frame_cure(lines: &mut Lines, finding: &FrameFinding, frame: &FrameImage
 /// Adds what else is told of the cause in a frame: of an odd LABS what the board answers, and of a call that names no entry the scales at
 /// which the certificate has the called shape.
 fn push_beside_frame(
-    alloc: Global,
+    lines: &mut Lines,
     inputs: &Inputs,
     cert: &Cert,
     cause: FrameCause,
-    lines: &mut Lines,
 ) -> Result<(), AllocError> {
     match cause {
-        FrameCause::Odd => push_board(lines, alloc, inputs)?,
+        FrameCause::Odd => push_board(lines, inputs)?,
         FrameCause::NoEntry { to, .. } => push_keys_at(lines, cert.entries(), to),
         _ => {}
     }
@@ -141,14 +138,9 @@ fn push_key_at(lines: &mut Lines, entry: &Entry, addr: u16, any: bool) -> bool {
 
 /// Adds what else is told of the cause in a shape: of an odd LABS what the board answers, of an end or a box that differs the other
 /// machine.
-fn push_beside_shape(
-    alloc: Global,
-    inputs: &Inputs,
-    why: ShapeWhy,
-    lines: &mut Lines,
-) -> Result<(), AllocError> {
+fn push_beside_shape(lines: &mut Lines, inputs: &Inputs, why: ShapeWhy) -> Result<(), AllocError> {
     match why {
-        ShapeWhy::Odd => push_board(lines, alloc, inputs)?,
+        ShapeWhy::Odd => push_board(lines, inputs)?,
         _ => push_other_machine(lines, inputs.machine, why),
     }
     Ok(())
@@ -157,7 +149,6 @@ fn push_beside_shape(
 /// Adds the lines of the first fault of the shapes of these inputs, with a frame, if there is one.
 fn push_shape_fault(
     lines: &mut Lines,
-    alloc: Global,
     inputs: &Inputs,
     rom: &RomImage,
     cert: &Cert,
@@ -179,8 +170,8 @@ fn push_shape_fault(
     push_shape_why(lines, finding, rom);
     item.push_lines(Role::Refused, lines);
     lines.add(&[Line("entry claims"), Piece::Entry(entry)]);
-    push_chain(alloc, rom, cert, frame, &entry, lines)?;
-    push_beside_shape(alloc, inputs, finding.fault.why, lines)?;
+    push_chain(lines, rom, cert, frame, &entry)?;
+    push_beside_shape(lines, inputs, finding.fault.why)?;
     lines.add(&[ToDo, Cure(number)]);
     Ok(())
 }
@@ -204,18 +195,17 @@ fn push_other_machine(lines: &mut Lines, machine: Machine, why: ShapeWhy) {
 
 /// Adds how a frame reaches an entry, if there is a frame.
 fn push_chain(
-    alloc: Global,
+    lines: &mut Lines,
     rom: &RomImage,
     cert: &Cert,
     frame: Option<&FrameImage>,
     goal: &Entry,
-    lines: &mut Lines,
 ) -> Result<(), AllocError> {
     let Some(frame) = frame else {
         return Ok(());
     };
-    let entries = HashIndex::new(alloc, cert)?;
-    let Some(calls) = find_chain(alloc, rom, cert, &entries, frame, goal)? else {
+    let entries = HashIndex::new(lines.alloc, cert)?;
+    let Some(calls) = find_chain(lines.alloc, rom, cert, &entries, frame, goal)? else {
         let name = Name(goal.addr, goal.key);
         lines.add(&[
             Line("chain"),

@@ -8,7 +8,7 @@ use crate::shape_items::{ShapeItems, from_address};
 use dvg_cert::{Cert, Entries, Entry, Key};
 use dvg_survey::is_faint;
 use dvg_words::RomImage;
-use std::alloc::{AllocError, Global};
+use std::alloc::AllocError;
 
 /// What is noted of the items of an entry's shape.
 #[derive(Clone, Copy)]
@@ -55,7 +55,6 @@ impl ShapeWalk {
 /// a ROM, by the labels and the other frames of these inputs.
 pub fn push_remarks<E: Entries>(
     lines: &mut Lines,
-    alloc: Global,
     inputs: &Inputs,
     cert: &Cert,
     entries: &E,
@@ -64,7 +63,7 @@ pub fn push_remarks<E: Entries>(
 ) -> Result<(), AllocError> {
     push_faint(lines, None, faint.len(), faint.first().copied());
     if let Some(rom) = rom {
-        let beginnings = Beginnings::new(alloc, inputs, rom)?;
+        let beginnings = Beginnings::new(lines.alloc, inputs, rom)?;
         push_shapes(lines, cert, entries, &beginnings);
     }
     Ok(())

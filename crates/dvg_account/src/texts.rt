@@ -78,7 +78,7 @@ fn text_by(
 ) -> Result<String, AllocError> {
     let telling = telling_of(alloc, cert, inputs, verdict)?;
     let mut lines = Lines::new(alloc, telling, inputs.labels);
-    push_verdict(&mut lines, alloc, inputs, verdict, cause)?;
+    push_verdict(&mut lines, inputs, verdict, cause)?;
     lines.finish()
 }
 
@@ -93,7 +93,7 @@ fn own_text(
 ) -> Result<String, AllocError> {
     let telling = telling_of(alloc, CertificateOf::Frame, inputs, &own_verdict(&judged))?;
     let mut lines = Lines::new(alloc, telling, inputs.labels);
-    push_own(&mut lines, alloc, inputs, rom, frame, judged)?;
+    push_own(&mut lines, inputs, rom, frame, judged)?;
     if let (Machine::Board, Some(time)) = (inputs.machine, time) {
         push_time(&mut lines, &time);
     }
@@ -197,6 +197,6 @@ pub fn unmade_text(
     labels: Option<&Labels>,
 ) -> Result<String, AllocError> {
     let mut lines = own_account(alloc, labels);
-    push_unmade(&mut lines, alloc, rom, frames, &account)?;
+    push_unmade(&mut lines, rom, frames, &account)?;
     lines.finish()
 }

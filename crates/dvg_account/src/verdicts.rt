@@ -8,14 +8,13 @@ use crate::refused::push_refused;
 use dvg_check::{Finding, Mode, Yes};
 use dvg_make::{EntryCause, FrameRefusal, JudgedFrame, MakeAccount, MakeFault};
 use dvg_words::{FrameImage, RomImage};
-use std::alloc::{AllocError, Global};
+use std::alloc::AllocError;
 use std::slice;
 
 /// Adds the lines of a verdict on these inputs (this project's own). A refusal because of an item has a cause. A refusal of the maker has
 /// the lines of one for memory: `push_own` has its own.
 pub fn push_verdict(
     lines: &mut Lines,
-    alloc: Global,
     inputs: &Inputs,
     verdict: &Result<Yes, FrameRefusal>,
     cause: Option<&Finding>,
@@ -27,9 +26,9 @@ pub fn push_verdict(
     let frame = FrameImage::from_bytes(inputs.frame).ok();
     let (rom, frame) = (rom.as_ref(), frame.as_ref());
     match verdict {
-        Ok(yes) => push_accepted(lines, alloc, inputs, rom, frame, *yes),
+        Ok(yes) => push_accepted(lines, inputs, rom, frame, *yes),
         Err(FrameRefusal::Check(refusal)) => {
-            push_refused(lines, alloc, inputs, rom, frame, refusal, cause)
+            push_refused(lines, inputs, rom, frame, refusal, cause)
         }
         Err(_) => {
             push_memory(lines, inputs);
@@ -42,19 +41,18 @@ pub fn push_verdict(
 /// Any certificate of the inputs is ignored. The ROM and the frame are those of the inputs.
 pub fn push_own(
     lines: &mut Lines,
-    alloc: Global,
     inputs: &Inputs,
     rom: &RomImage,
     frame: &FrameImage,
     judged: Result<JudgedFrame, MakeAccount>,
 ) -> Result<(), AllocError> {
     match judged {
-        Ok(judged) => push_judged(lines, alloc, inputs, rom, frame, &judged),
+        Ok(judged) => push_judged(lines, inputs, rom, frame, &judged),
         Err(account) if account.cause == EntryCause::Memory => {
             push_memory(lines, inputs);
             Ok(())
         }
-        Err(account) => push_unmade(lines, alloc, rom, slice::from_ref(frame), &account),
+        Err(account) => push_unmade(lines, rom, slice::from_ref(frame), &account),
     }
 }
 
@@ -67,7 +65,6 @@ fn push_memory(lines: &mut Lines, inputs: &Inputs) {
 /// Adds the lines of the verdict on the frame of these inputs by its own certificate.
 fn push_judged(
     lines: &mut Lines,
-    alloc: Global,
     inputs: &Inputs,
     rom: &RomImage,
     frame: &FrameImage,
@@ -80,10 +77,10 @@ fn push_judged(
     };
     let (rom, frame) = (Some(rom), Some(frame));
     match &judged.verdict {
-        Ok(yes) => push_accepted(lines, alloc, &inputs, rom, frame, *yes),
+        Ok(yes) => push_accepted(lines, &inputs, rom, frame, *yes),
         Err(finding) => {
             let refusal = finding.refusal();
-            push_refused(lines, alloc, &inputs, rom, frame, &refusal, Some(finding))
+            push_refused(lines, &inputs, rom, frame, &refusal, Some(finding))
         }
     }
 }

@@ -4,7 +4,7 @@ ghost use Rattle.dvg_recipe_cmd.specs.Private.Judging.{IsReady};
 
 use crate::judging::{Ready, RecipeOptions, line_of_piece, piece_of};
 use crate::text_lines::blocks_around;
-use dvg_account::{KnownBefore, RecipeLine, recipe_text};
+use dvg_account::{KnownBefore, RecipeText};
 use dvg_cert::LitBox;
 use dvg_cmd::{Behind, Detail, OwnCertificates, PlainWhy, plain_account};
 use dvg_labels::Labels;
@@ -15,17 +15,9 @@ use dvg_words::Machine;
 use std::alloc::{AllocError, Global};
 
 /// Adds a line for the area of each list, and of each jump.
-fn push_rooms(
-    alloc: Global,
-    read: &ReadRecipe,
-    lines: &mut Vec<RecipeLine>,
-) -> Result<(), AllocError> {
+fn push_rooms(text: &mut RecipeText, alloc: Global, read: &ReadRecipe) -> Result<(), AllocError> {
     for room in rooms(alloc, &read.recipe)? {
-        lines.push(RecipeLine::Room {
-            first: room.area.first,
-            last: room.area.last,
-            words: room.words,
-        })?;
+        text.push_room(room.area.first, room.area.last, room.words);
     }
     Ok(())
 }
@@ -50,37 +42,26 @@ fn known_of(hull: &Hull) -> KnownBefore {
 }
 
 /// Adds, for each scale that may be known before a piece, a line of what may be known there. `line` is the piece's line.
-fn push_before(
-    line: u32,
-    piece: &SeenPiece,
-    lines: &mut Vec<RecipeLine>,
-) -> Result<(), AllocError> {
+fn push_before(text: &mut RecipeText, line: u32, piece: &SeenPiece) {
     for hull in piece.before().iter().flatten() {
-        let known = known_of(hull);
-        lines.push(RecipeLine::Before { line, known })?;
+        text.push_before(line, &known_of(hull));
     }
-    Ok(())
 }
 
 /// Adds the lines of what may be known before the first piece of each line of the text.
-fn push_known(
-    read: &ReadRecipe,
-    seen: &[SeenPiece],
-    lines: &mut Vec<RecipeLine>,
-) -> Result<(), AllocError> {
+fn push_known(text: &mut RecipeText, read: &ReadRecipe, seen: &[SeenPiece]) {
     let mut last = 0;
     for (piece, number) in seen.iter().zip(read.lines.iter()) {
         let line = u32::from(*number);
         if line != last {
-            push_before(line, piece, lines)?;
+            push_before(text, line, piece);
             last = line;
         }
     }
-    Ok(())
 }
 
-/// The line of the text whose pieces may take the most words, and how many these are; `None` if no piece takes any.
-fn takes_most(read: &ReadRecipe, seen: &[SeenPiece]) -> Option<RecipeLine> {
+/// Adds the line of the text whose pieces may take the most words, and how many these are, if some piece takes any.
+fn push_takes_most(text: &mut RecipeText, read: &ReadRecipe, seen: &[SeenPiece]) {
     let mut most = (0, 0);
     let mut here = (0, 0u32);
     for (piece, number) in seen.iter().zip(read.lines.iter()) {
@@ -92,49 +73,44 @@ fn takes_most(read: &ReadRecipe, seen: &[SeenPiece]) -> Option<RecipeLine> {
         }
     }
     let (line, words) = most;
-    if words == 0 {
-        return None;
+    if words > 0 {
+        text.push_takes_most(line, words);
     }
-    Some(RecipeLine::TakesMost { line, words })
 }
 
 /// Adds the lines of an accepted recipe.
 fn push_accepted(
+    text: &mut RecipeText,
     ready: &Ready,
     seen: &[SeenPiece],
-    lines: &mut Vec<RecipeLine>,
 ) -> Result<(), AllocError> {
-    push_rooms(ready.alloc, &ready.read, lines)?;
-    if let Some(line) = takes_most(&ready.read, seen) {
-        lines.push(line)?;
-    }
-    push_known(&ready.read, seen, lines)
+    push_rooms(text, ready.alloc, &ready.read)?;
+    push_takes_most(text, &ready.read, seen);
+    push_known(text, &ready.read, seen);
+    Ok(())
 }
 
 /// Adds a line for each repeat around the piece by which a recipe is refused, the outermost first.
 fn push_turns(
+    text: &mut RecipeText,
     ready: &Ready,
     piece: u16,
     turns: &[u16],
-    lines: &mut Vec<RecipeLine>,
 ) -> Result<(), AllocError> {
     let line = line_of_piece(&ready.read, piece);
     let blocks = blocks_around(ready.alloc, ready.explained.text, line)?;
     for (turn, line) in turns.iter().zip(blocks.iter().flatten()) {
-        lines.push(RecipeLine::Turn {
-            turn: *turn,
-            line: *line,
-        })?;
+        text.push_turn(*turn, *line);
     }
     Ok(())
 }
 
 /// Adds the lines of a frame that shows why a recipe is refused, and answers the account of that frame; or tells that none shows it.
 fn push_shown(
+    text: &mut RecipeText,
     ready: &Ready,
     refusal: &RecipeRefusal,
     detail: Detail,
-    lines: &mut Vec<RecipeLine>,
 ) -> Result<Behind, AllocError>
     requires { IsReady ready.now }
 {
@@ -146,15 +122,13 @@ fn push_shown(
     let recipe = &ready.read.recipe;
     let Some(shown) = find_refused(ready.alloc, &ready.image, recipe, budget, window, refusal)?
     else {
-        lines.push(RecipeLine::NothingShown)?;
+        text.push_nothing_shown();
         return Ok(Behind::Nothing);
     };
     if let Some(piece) = piece_of(refusal) {
-        push_turns(ready, piece, &shown.turns, lines)?;
+        push_turns(text, ready, piece, &shown.turns)?;
     }
-    lines.push(RecipeLine::Shown {
-        words: shown.frame.len() / 2,
-    })?;
+    text.push_shown(shown.frame.len() / 2);
     let judge = OwnCertificates {
         machine: Machine::Board,
         rom: ready.explained.rom,
@@ -172,30 +146,30 @@ fn push_shown(
 /// Adds the lines of what was seen of a recipe, and answers what follows behind them: the rule of a number that is not about a frame, or
 /// the account of a frame that shows why the recipe is refused.
 fn push_surveyed(
+    text: &mut RecipeText,
     ready: &Ready,
     surveyed: &SurveyedRecipe,
     detail: Detail,
-    lines: &mut Vec<RecipeLine>,
 ) -> Result<Behind, AllocError>
     requires { IsReady ready.now }
 {
     let number = match &surveyed.verdict {
         Ok(_) => {
-            push_accepted(ready, &surveyed.seen, lines)?;
+            push_accepted(text, ready, &surveyed.seen)?;
             return Ok(Behind::Nothing);
         }
         Err(RecipeRefusal::Memory) => return Err(AllocError),
         Err(RecipeRefusal::TooLong { .. }) => {
-            push_rooms(ready.alloc, &ready.read, lines)?;
+            push_rooms(text, ready.alloc, &ready.read)?;
             57
         }
         Err(RecipeRefusal::Stuck { piece }) => {
             if let Some(seen) = surveyed.seen.get(usize::from(*piece)) {
-                push_before(line_of_piece(&ready.read, *piece), seen, lines)?;
+                push_before(text, line_of_piece(&ready.read, *piece), seen);
             }
             59
         }
-        Err(refusal) => return push_shown(ready, refusal, detail, lines),
+        Err(refusal) => return push_shown(text, ready, refusal, detail),
     };
     let why = PlainWhy::Nothing;
     Ok(plain_account(Machine::Board, ready.alloc, number, why, detail))
@@ -209,9 +183,9 @@ pub fn account_text(
 ) -> Result<String, AllocError>
     requires { IsReady ready.now }
 {
-    let mut lines = Vec::new(ready.alloc);
-    let behind = push_surveyed(ready, surveyed, Detail::Account(labels), &mut lines)?;
-    let mut text = recipe_text(ready.alloc, &lines)?;
+    let mut text = RecipeText::new(ready.alloc);
+    let behind = push_surveyed(&mut text, ready, surveyed, Detail::Account(labels))?;
+    let mut text = text.finish()?;
     match behind {
         Behind::NoMemory => return Err(AllocError),
         Behind::Nothing | Behind::Account(_) => text.push_str(behind.text())?,
