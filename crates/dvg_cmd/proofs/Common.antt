@@ -4,9 +4,8 @@ pub use Rattle.std.specs.Io.KnownBytes.{Consumes, IsAtEnd}
 pub use Rattle.std.proofs.Math.Seq.{drop-cons, set-append_seam, get_or-append_seam}
 pub use Rattle.std.proofs.KnownBytes.{Consumes-trans}
 pub use Rattle.std.proofs.lemmas.List.{drop_all}
-pub use Rattle.dvg_account.proofs.Common.{◌≡◌, ℕ, List, ◌++◌, length, Option, Result, Ok, IfOk, IfSome, ◌∷◌, subst, [], None, Some, refl, ap, ◌∙◌, Err, sym, append_assoc}
-pub use Rattle.dvg_spelling.proofs.Common.{arith, ◌<◌, Window, rules, common_steps, take, ◌+◌, ◌≤◌, get_or, ◌≢◌, suc, string_bytes, take-suc, ◌*◌, codes}
-pub use Rattle.dvg_make.proofs.Common.{OnOk, Means, MemoryMap, IsMap, IsErrAnd, IfErr, drop, HasCallCause, VerdictByMade, IsJudged, length-append, Certificate, make_fault_of, ◌/◌, ◌%◌, opcode}
+pub use Rattle.dvg_spelling.proofs.Common.{◌≡◌, ℕ, List, ◌++◌, length, Option, ◌∷◌, subst, [], None, Some, refl, ap, ◌∙◌, sym, arith, ◌<◌, Window, rules, common_steps, take, ◌+◌, ◌≤◌, get_or, ◌≢◌, suc, string_bytes, take-suc, ◌*◌, codes}
+pub use Rattle.dvg_make.proofs.Common.{append_assoc, Result, Ok, Err, IfOk, IfSome, OnOk, Means, MemoryMap, IsMap, IsErrAnd, IfErr, drop, HasCallCause, VerdictByMade, IsJudged, length-append, Certificate, make_fault_of, ◌/◌, ◌%◌, opcode}
 pub use Rattle.dvg_survey.proofs.Common.{◌⊎◌, Rom, FramesMade, FramesRefuse, HasCause, FrameRefused, zero, inl, ◌-◌, Bool, cases_lt, cell_of_words, inr, ◌↔◌}
 pub use Rattle.dvg_text.proofs.Common.{Appends, count_after, AppendsPrefix, text_of, OnErr, take-append-le, take-append-add, Appends-trans, IsRefusal}
 pub use Rattle.dvg_verdict.proofs.Common.{IsRomLength, rom_on, Spells, ReadAnswer}
