@@ -1,5 +1,5 @@
 -- The answer to a frame, over plain values.
-use Rattle.dvg_cmd.proofs.Common.{◌≡◌, ℕ, List, ◌++◌, length, Option, Result, IfErr, IfSome, words_of, IsFrameLength, Means, HasCallCause, Yes, FrameRefusal, IsReadTo, arith, MOST_FRAME_READ, Judged, Judging, ReadsFrame, AnswersFrame, started, take, drop, subst, sym, refl, ap, Ok, Err, FrameAnswer, common_steps, Machine, MemoryMap, Window, Rom, rom_on, IsPrefix, IsJudged, IsReadFrom, VerdictOnBytes, AreImages, InRange, RangeRefusal, limited}
+use Rattle.dvg_cmd.proofs.Common.{◌≡◌, ℕ, List, ◌++◌, length, Option, Result, IfErr, IfSome, words_of, IsFrameLength, Means, HasCallCause, Yes, FrameRefusal, IsReadTo, arith, MOST_FRAME_READ, Judged, Judging, ReadsFrame, AnswersFrame, started, take, drop, subst, sym, refl, ap, Ok, Err, FrameAnswer, common_steps, Rom, IsPrefix, IsJudged, IsReadFrom, AreImages, InRange, RangeRefusal, limited}
 use Rattle.dvg_cmd.specs.declared.timed_judge.ClockOptions.{ClockOptions}
 use Rattle.dvg_cmd.specs.declared.timed_judge.LineClocks.{LineClocks}
 use Rattle.dvg_cmd.specs.declared.timed_judge.LineClocks.TheVariants as line
@@ -10,7 +10,8 @@ use Rattle.dvg_check.specs.declared.verdict.Refusal.{Refusal}
 use Rattle.dvg_spelling.specs.declared.outcome.ItemPlace.TheVariants as place
 use Rattle.dvg_spelling.specs.declared.outcome.Answer.TheVariants.{NoMemory}
 use Rattle.dvg_make.specs.declared.judging.FrameRefusal.TheVariants.{Check}
-use Rattle.dvg_cmd.specs.Frames.{Slow, Timed, TimedAnswer, Unread, judged_timed, refusal_in, timed_answer, told_with, yes_in}
+use Rattle.dvg_cmd.specs.Frames.{Slow, Timed, TimedAnswer, Unread, VerdictBy, judged_timed, refusal_in, rom_of, timed_answer, told_with, yes_in}
+use Rattle.dvg_cmd.specs.declared.frame_judge.OwnCertificates.{OwnCertificates}
 use Rattle.dvg_cmd.specs.Kept.{IsKeptFor, IsTimedFor}
 use Rattle.dvg_cmd.specs.Private.Judging.{IsAnswerOf}
 use Rattle.dvg_clocks.specs.Judging.{IsTimed}
@@ -75,174 +76,132 @@ pub reads_frame : (reader : Option (List ℕ)) (start : Option ℕ) (items slice
 reads_frame reader start items slice new read same is len = grind (arith, (read_from reader items read), common_steps)
 
 -- what the judge says of the images of these bytes
-module _ (machine : Machine) (rom : List ℕ) (map : MemoryMap) (bytes : List ℕ) (budget : ℕ) (w : Window) (words : List ℕ) (image : Rom)
-    (a : AreImages machine rom map bytes budget words image) (v : Result Yes FrameRefusal) (said : IsJudged image words w budget v) where
-  on_bytes : IsJudged (rom_on machine map rom) (words_of bytes) w budget v
-  on_bytes = subst (λ x. IsJudged (rom_on machine map rom) x w budget v) a.words_are
-      (subst (λ y. IsJudged y words w budget v) a.rom_is said)
+module _ (own : OwnCertificates) (bytes words : List ℕ) (image : Rom) (a : AreImages own bytes words image) (v : Result Yes FrameRefusal)
+    (said : IsJudged image words own.window own.budget v) where
+  on_bytes : IsJudged (rom_of own) (words_of bytes) own.window own.budget v
+  on_bytes = subst (λ x. IsJudged (rom_of own) x own.window own.budget v) a.words_are
+      (subst (λ y. IsJudged y words own.window own.budget v) a.rom_is said)
 
-  pub own_verdict : VerdictOnBytes machine rom map bytes budget w v
+  pub own_verdict : VerdictBy own bytes v
   own_verdict = grind (arith, on_bytes)
 
-  pub own_told : IfErr v (HasCallCause (rom_on machine map rom) (words_of bytes))
+  pub own_told : IfErr v (HasCallCause (rom_of own) (words_of bytes))
   own_told = on_bytes.told
 
 -- what is said over kept shapes
-module _ (machine : Machine) (rom : List ℕ) (map : MemoryMap) (bytes : List ℕ) (budget : ℕ) (w : Window) (words : List ℕ) (kept : Kept)
-    (is : IsKeptFor machine rom map w kept) (range : InRange bytes budget) (words_are : words ≡ words_of bytes)
-    (v : Result Yes FrameRefusal) (said : IsJudged kept.rom words kept.window budget v) where
-  images : AreImages machine rom map bytes budget words kept.rom
+module _ (own : OwnCertificates) (bytes words : List ℕ) (kept : Kept)
+    (is : IsKeptFor own.machine own.rom.now own.map own.window kept) (range : InRange bytes own.budget)
+    (words_are : words ≡ words_of bytes) (v : Result Yes FrameRefusal) (said : IsJudged kept.rom words kept.window own.budget v) where
+  images : AreImages own bytes words kept.rom
   images = record { in_range = range; rom_length = is.rom_length; words_are = words_are; rom_is = is.rom_is }
 
-  in_window : IsJudged kept.rom words w budget v
+  in_window : IsJudged kept.rom words own.window own.budget v
   in_window = rw is.window_is at said
 
-  pub kept_verdict : VerdictOnBytes machine rom map bytes budget w v
-  kept_verdict = own_verdict machine rom map bytes budget w words kept.rom images v in_window
+  pub kept_verdict : VerdictBy own bytes v
+  kept_verdict = own_verdict own bytes words kept.rom images v in_window
 
-  pub kept_told : IfErr v (HasCallCause (rom_on machine map rom) (words_of bytes))
-  kept_told = own_told machine rom map bytes budget w words kept.rom images v in_window
+  pub kept_told : IfErr v (HasCallCause (rom_of own) (words_of bytes))
+  kept_told = own_told own bytes words kept.rom images v in_window
 
 -- what is said with clocks of the images of these bytes
-module _ (asked : ClockOptions) (machine : Machine) (rom : List ℕ) (map : MemoryMap) (bytes : List ℕ) (budget : ℕ) (w : Window)
-    (words : List ℕ) (image : Rom) (a : AreImages machine rom map bytes budget words image) where
-  abbrev Says : Result TimedYes TimedRefusal → Type 0
-  Says v = IsAnswerOf (judged_timed asked machine rom map budget w) bytes (told_with asked.line (timed_answer v))
+module _ (asked : ClockOptions) (own : OwnCertificates) (bytes : List ℕ) where
+  abbrev Says : FrameAnswer → Type 0
+  Says answer = (l : LineClocks) → asked.line ≡ l → IsAnswerOf (judged_timed asked own) bytes (told_with l answer)
 
-  pub timed_answers : (v : Result TimedYes TimedRefusal) → IsTimed asked.timing image words w budget v → Says v
-  timed_answers v said =
-      by v (subst (λ x. IsTimed asked.timing (rom_on machine map rom) x w budget v) a.words_are
-      (subst (λ y. IsTimed asked.timing y words w budget v) a.rom_is said))
+  accepted : (t : TimedYes) → TimedAnswer asked.timing own bytes (Timed t) → Says (Timed t)
+  accepted t said line.Told is =
+      record {
+        answer = (Timed t, said, ap (λ l. told_with l (Timed t)) (sym is));
+        judged = refl;
+        whole = said.0.in_range.frame_length;
+        means = said.0.means;
+        told = tt;
+      }
+  accepted t said line.LeftOut is =
+      record {
+        answer = (Timed t, said, ap (λ l. told_with l (Timed t)) (sym is));
+        judged = refl;
+        whole = said.0.in_range.frame_length;
+        means = said.0.means;
+        told = tt;
+      }
+
+  slow : (at : ℕ) → TimedAnswer asked.timing own bytes (Slow (place.Frame at)) → Says (Slow (place.Frame at))
+  slow at said line.Told is =
+      record {
+        answer = (Slow (place.Frame at), said, ap (λ l. told_with l (Slow (place.Frame at))) (sym is));
+        judged = refl;
+        whole = tt;
+        means = tt;
+        told = tt;
+      }
+  slow at said line.LeftOut is =
+      record {
+        answer = (Slow (place.Frame at), said, ap (λ l. told_with l (Slow (place.Frame at))) (sym is));
+        judged = refl;
+        whole = tt;
+        means = tt;
+        told = tt;
+      }
+
+  refused : (r : FrameRefusal) → VerdictBy own bytes (Err r) → HasCallCause (rom_of own) (words_of bytes) r → Says (Judged (Err r))
+  refused r said cause line.Told is =
+      record {
+        answer = (Judged (Err r), said, ap (λ l. told_with l (Judged (Err r))) (sym is));
+        judged = refl;
+        whole = tt;
+        means = tt;
+        told = cause;
+      }
+  refused r said cause line.LeftOut is =
+      record {
+        answer = (Judged (Err r), said, ap (λ l. told_with l (Judged (Err r))) (sym is));
+        judged = refl;
+        whole = tt;
+        means = tt;
+        told = cause;
+      }
+
+  -- a refusal before anything is judged
+  pub plain_answers : (r : Refusal) → VerdictBy own bytes (Err (Check r))
+      → IsAnswerOf (judged_timed asked own) bytes (Judged (Err (Check r)))
+  plain_answers r said = by asked.line refl
     where
-      refused : (r : FrameRefusal) → IsTimed asked.timing (rom_on machine map rom) (words_of bytes) w budget (Err (timed.Judged r))
-          → VerdictOnBytes machine rom map bytes budget w (Err r)
-      refused r on =
-          own_verdict machine rom map bytes budget w (words_of bytes) (rom_on machine map rom)
-          (record { in_range = a.in_range; rom_length = a.rom_length; words_are = refl; rom_is = refl }) (Err r)
-          (record { verdict = on.verdict; means = tt; least = tt; refused = on.refused.0; told = on.refused.1 })
+      by : (l : LineClocks) → asked.line ≡ l → IsAnswerOf (judged_timed asked own) bytes (Judged (Err (Check r)))
+      by line.Told is = refused (Check r) said tt line.Told is
+      by line.LeftOut is = refused (Check r) said tt line.LeftOut is
 
-      by : (v : Result TimedYes TimedRefusal) → IsTimed asked.timing (rom_on machine map rom) (words_of bytes) w budget v → Says v
-      by (Ok t) on = shown asked.line refl
-        where
-          accepted : TimedAnswer asked.timing machine rom map budget w bytes (Timed t)
-          accepted = (
-            record {
-              in_range = a.in_range;
-              rom_length = a.rom_length;
-              means = on.means;
-              least = on.least;
-              by_own =
-                  on.verdict.0;
-            },
-            record { sum = on.verdict.1; within = on.verdict.2; runs = on.clocks },
-          )
+  -- such a one is 2 or 49
+  pub range_answers : (r : Refusal) → RangeRefusal bytes own.budget r → IsAnswerOf (judged_timed asked own) bytes (Judged (Err (Check r)))
+  range_answers r h = plain_answers r (grind (arith))
 
-          shown : (l : LineClocks) → asked.line ≡ l → IsAnswerOf (judged_timed asked machine rom map budget w) bytes (told_with l (Timed t))
-          shown line.Told is =
-              record {
-                answer = (Timed t, accepted, ap (λ l. told_with l (Timed t)) (sym is));
-                judged = refl;
-                whole =
-                    a.in_range.frame_length;
-                means = on.means;
-                told = tt;
-              }
-          shown line.LeftOut is =
-              record {
-                answer = (Timed t, accepted, ap (λ l. told_with l (Timed t)) (sym is));
-                judged = refl;
-                whole =
-                    a.in_range.frame_length;
-                means = on.means;
-                told = tt;
-              }
-      by (Err (timed.Judged r)) on = shown asked.line refl
-        where
-          shown : (l : LineClocks) → asked.line ≡ l
-              → IsAnswerOf (judged_timed asked machine rom map budget w) bytes (told_with l (Judged (Err r)))
-          shown line.Told is =
-              record {
-                answer = (Judged (Err r), refused r on, ap (λ l. told_with l (Judged (Err r))) (sym is));
-                judged = refl;
-                whole =
-                    tt;
-                means = tt;
-                told = on.refused.1;
-              }
-          shown line.LeftOut is =
-              record {
-                answer = (Judged (Err r), refused r on, ap (λ l. told_with l (Judged (Err r))) (sym is));
-                judged = refl;
-                whole =
-                    tt;
-                means = tt;
-                told = on.refused.1;
-              }
-      by (Err (timed.Slow at)) on = shown asked.line refl
-        where
-          shown : (l : LineClocks) → asked.line ≡ l → IsAnswerOf (judged_timed asked machine rom map budget w) bytes (told_with l (Slow (place.Frame at)))
-          shown line.Told is =
-              record {
-                answer = (Slow (place.Frame at), (a.in_range, a.rom_length, on.verdict), ap (λ l. told_with l (Slow (place.Frame at))) (sym is));
-                judged =
-                    refl;
-                whole = tt;
-                means = tt;
-                told = tt;
-              }
-          shown line.LeftOut is =
-              record {
-                answer = (Slow (place.Frame at), (a.in_range, a.rom_length, on.verdict), ap (λ l. told_with l (Slow (place.Frame at))) (sym is));
-                judged =
-                    refl;
-                whole = tt;
-                means = tt;
-                told = tt;
-              }
+  module _ (words : List ℕ) (image : Rom) (a : AreImages own bytes words image) where
+    pub timed_answers : (v : Result TimedYes TimedRefusal) → IsTimed asked.timing image words own.window own.budget v
+        → IsAnswerOf (judged_timed asked own) bytes (told_with asked.line (timed_answer v))
+    timed_answers v said =
+        by v (subst (λ x. IsTimed asked.timing (rom_of own) x own.window own.budget v) a.words_are
+        (subst (λ y. IsTimed asked.timing y words own.window own.budget v) a.rom_is said)) asked.line refl
+      where
+        by : (v : Result TimedYes TimedRefusal) → IsTimed asked.timing (rom_of own) (words_of bytes) own.window own.budget v
+            → Says (timed_answer v)
+        by (Ok t) on =
+            accepted t (
+              record { in_range = a.in_range; rom_length = a.rom_length; means = on.means; least = on.least; by_own = on.verdict.0 },
+              record { sum = on.verdict.1; within = on.verdict.2; runs = on.clocks },
+            )
+        by (Err (timed.Judged r)) on =
+            refused r (own_verdict own bytes (words_of bytes) (rom_of own)
+            (record { in_range = a.in_range; rom_length = a.rom_length; words_are = refl; rom_is = refl }) (Err r)
+            (record { verdict = on.verdict; means = tt; least = tt; refused = on.refused.0; told = on.refused.1 })) on.refused.1
+        by (Err (timed.Slow at)) on = slow at (a.in_range, a.rom_length, on.verdict)
 
--- and over kept shapes
-module _ (asked : ClockOptions) (machine : Machine) (rom : List ℕ) (map : MemoryMap) (bytes : List ℕ) (budget : ℕ) (w : Window)
-    (words : List ℕ) (kept : TimedKept) (is : IsTimedFor asked.timing machine rom map w kept) (range : InRange bytes budget)
-    (words_are : words ≡ words_of bytes) where
-  pub kept_answers : (v : Result TimedYes TimedRefusal)
-      → IsTimed (record { states = kept.states; limit = asked.timing.limit }) kept.kept.rom words kept.kept.window budget v
-      → IsAnswerOf (judged_timed asked machine rom map budget w) bytes (told_with asked.line (timed_answer v))
-  kept_answers v said =
-      timed_answers asked machine rom map bytes budget w words kept.kept.rom
+  -- and over kept shapes
+  pub kept_answers : (words : List ℕ) (kept : TimedKept) → IsTimedFor asked.timing own.machine own.rom.now own.map own.window kept
+      → InRange bytes own.budget → words ≡ words_of bytes → (v : Result TimedYes TimedRefusal)
+      → IsTimed (record { states = kept.states; limit = asked.timing.limit }) kept.kept.rom words kept.kept.window own.budget v
+      → IsAnswerOf (judged_timed asked own) bytes (told_with asked.line (timed_answer v))
+  kept_answers words kept is range words_are v said =
+      timed_answers words kept.kept.rom
       (record { in_range = range; rom_length = is.kept.rom_length; words_are = words_are; rom_is = is.kept.rom_is }) v
       (rw (is.kept.window_is, is.states) at said)
-
--- a refusal before anything is judged
-pub plain_answers : (asked : ClockOptions) (machine : Machine) (rom : List ℕ) (map : MemoryMap) (bytes : List ℕ) (budget : ℕ)
-    (w : Window) (r : Refusal) → VerdictOnBytes machine rom map bytes budget w (Err (Check r))
-    → IsAnswerOf (judged_timed asked machine rom map budget w) bytes (Judged (Err (Check r)))
-plain_answers asked machine rom map bytes budget w r said = shown asked.line refl
-  where
-    shown : (l : LineClocks) → asked.line ≡ l → IsAnswerOf (judged_timed asked machine rom map budget w) bytes (Judged (Err (Check r)))
-    shown line.Told is =
-        record {
-          answer = (Judged (Err (Check r)), said, ap (λ l. told_with l (Judged (Err (Check r)))) (sym is));
-          judged = refl;
-          whole =
-              tt;
-          means = tt;
-          told = tt;
-        }
-    shown line.LeftOut is =
-        record {
-          answer = (Judged (Err (Check r)), said, ap (λ l. told_with l (Judged (Err (Check r)))) (sym is));
-          judged = refl;
-          whole =
-              tt;
-          means = tt;
-          told = tt;
-        }
-
--- such a one is 2 or 49
-pub range_answers : (asked : ClockOptions) (machine : Machine) (rom : List ℕ) (map : MemoryMap) (bytes : List ℕ) (budget : ℕ)
-    (w : Window) (r : Refusal) → RangeRefusal bytes budget r
-    → IsAnswerOf (judged_timed asked machine rom map budget w) bytes (Judged (Err (Check r)))
-range_answers asked machine rom map bytes budget w r h = plain_answers asked machine rom map bytes budget w r said
-  where
-    said : VerdictOnBytes machine rom map bytes budget w (Err (Check r))
-    said = grind (arith)

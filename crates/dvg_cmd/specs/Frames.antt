@@ -3,7 +3,7 @@ use Rattle.std.specs.Prelude.{◌≡◌, ℕ, List, ◌≤◌, take, length, Opt
 use Rattle.dvg_words.specs.declared.machine.Machine.{Machine}
 use Rattle.dvg_words.specs.declared.machine.Machine.TheVariants.{Board}
 use Rattle.dvg_words.specs.Values.{MemoryMap, Window}
-use Rattle.dvg_words.specs.Memory.{Rom, words_of, rom_on, IsRomLength, IsFrameLength}
+use Rattle.dvg_words.specs.Memory.{Memory, Rom, words_of, rom_on, IsRomLength, IsFrameLength}
 use Rattle.dvg_words.specs.declared.image.ImageFault.TheVariants.{RomLength, FrameLength}
 use Rattle.dvg_cert.specs.Order.{Certificate}
 use Rattle.dvg_check.specs.Means.{Means}
@@ -27,6 +27,7 @@ use Rattle.dvg_clocks.specs.declared.judging.TimedYes.{TimedYes}
 use Rattle.dvg_cmd.specs.Detail.{Detail}
 use Rattle.dvg_cmd.specs.declared.detail.Detail.TheVariants as details
 use Rattle.dvg_cmd.specs.Runs.{MOST_FRAME_READ, IsReadTo}
+use Rattle.dvg_cmd.specs.declared.frame_judge.OwnCertificates.{OwnCertificates}
 use Rattle.dvg_cmd.specs.declared.timed_judge.LineClocks.{LineClocks}
 use Rattle.dvg_cmd.specs.declared.timed_judge.LineClocks.TheVariants as line
 use Rattle.dvg_cmd.specs.declared.timed_judge.ClockOptions.{ClockOptions}
@@ -82,6 +83,16 @@ IsRefused machine rom map bytes budget w r = IsJudgedRefusal machine rom map byt
 abbrev pub VerdictOnBytes : Machine → List ℕ → MemoryMap → List ℕ → ℕ → Window → Result Yes FrameRefusal → Type 0
 VerdictOnBytes machine rom map bytes budget w (Ok y) = IsAccepted machine rom map bytes budget w y
 VerdictOnBytes machine rom map bytes budget w (Err r) = IsRefused machine rom map bytes budget w r
+
+-- the ROM of a judge by own certificates, the memory of a frame's bytes over it, and the verdict on them
+abbrev pub rom_of : OwnCertificates → Rom
+rom_of own = rom_on own.machine own.map own.rom.now
+
+abbrev pub memory_of : OwnCertificates → List ℕ → Memory
+memory_of own bytes = record { frame = words_of bytes; rom = rom_of own }
+
+abbrev pub VerdictBy : OwnCertificates → List ℕ → Result Yes FrameRefusal → Type 0
+VerdictBy own bytes v = VerdictOnBytes own.machine own.rom.now own.map bytes own.budget own.window v
 
 -- ---- the verdict over shapes that were judged
 
@@ -141,14 +152,14 @@ abbrev pub IsPlain : (Result Yes FrameRefusal → Type 0) → FrameAnswer → Ty
 IsPlain IsVerdict (Judged v) = IsVerdict v
 IsPlain IsVerdict answer = ⊥
 
--- by the frame's own certificate, over a ROM's bytes at this map on a machine: where the maker stops at a call, a cause is known
-abbrev pub judged_by_own : Machine → List ℕ → MemoryMap → ℕ → Window → Judging
-judged_by_own machine rom map budget w =
+-- by the frame's own certificate: where the maker stops at a call, a cause is known
+abbrev pub judged_by_own : OwnCertificates → Judging
+judged_by_own own =
     record {
-      is_answer = λ bytes answer. IsPlain (VerdictOnBytes machine rom map bytes budget w) answer;
-      is_told = λ bytes refusal. HasCallCause (rom_on machine map rom) (words_of bytes) refusal;
-      rom = rom_on machine map rom;
-      window = w;
+      is_answer = λ bytes answer. IsPlain (VerdictBy own bytes) answer;
+      is_told = λ bytes refusal. HasCallCause (rom_of own) (words_of bytes) refusal;
+      rom = rom_of own;
+      window = own.window;
       mode = Exact;
     }
 
@@ -159,22 +170,20 @@ timed_answer (Err (timed.Judged r)) = Judged (Err r)
 timed_answer (Err (timed.Slow at)) = Slow (place.Frame at)
 
 -- the clocks of an accepted frame: the sum over its items and shapes, within the limit; on the board each run of the circuit takes so many
-pub record HasClocks (timing : Timing) (machine : Machine) (rom : List ℕ) (map : MemoryMap) (bytes : List ℕ) (t : TimedYes) : Type 0 where
-  pub sum : AreClocks timing.states (rom_on machine map rom) (words_of bytes) t.yes.words t.clocks
+pub record HasClocks (timing : Timing) (own : OwnCertificates) (bytes : List ℕ) (t : TimedYes) : Type 0 where
+  pub sum : AreClocks timing.states (rom_of own) (words_of bytes) t.yes.words t.clocks
   pub within : t.clocks.most ≤ timing.limit
-  pub runs :
-      machine ≡ Board
-      → TakenOnCircuit (clocks_of_instr timing.states) (record { frame = words_of bytes; rom = rom_on machine map rom }) t.clocks
+  pub runs : own.machine ≡ Board → TakenOnCircuit (clocks_of_instr timing.states) (memory_of own bytes) t.clocks
 
 -- the answer with clocks: the verdict by the frame's own certificate, and of an accepted frame its clocks, or its first item with which
 -- they are over the limit
-abbrev pub TimedAnswer : Timing → Machine → List ℕ → MemoryMap → ℕ → Window → List ℕ → FrameAnswer → Type 0
-TimedAnswer timing machine rom map budget w bytes (Judged (Err r)) = VerdictOnBytes machine rom map bytes budget w (Err r)
-TimedAnswer timing machine rom map budget w bytes (Timed t) =
-    VerdictOnBytes machine rom map bytes budget w (Ok t.yes) × HasClocks timing machine rom map bytes t
-TimedAnswer timing machine rom map budget w bytes (Slow (place.Frame at)) =
-    InRange bytes budget × IsRomLength map (length rom) × IsSlow timing (rom_on machine map rom) (words_of bytes) w budget at
-TimedAnswer timing machine rom map budget w bytes answer = ⊥
+abbrev pub TimedAnswer : Timing → OwnCertificates → List ℕ → FrameAnswer → Type 0
+TimedAnswer timing own bytes (Judged (Err r)) = VerdictBy own bytes (Err r)
+TimedAnswer timing own bytes (Timed t) = VerdictBy own bytes (Ok t.yes) × HasClocks timing own bytes t
+TimedAnswer timing own bytes (Slow (place.Frame at)) =
+    InRange bytes own.budget × IsRomLength own.map (length own.rom.now)
+    × IsSlow timing (rom_of own) (words_of bytes) own.window own.budget at
+TimedAnswer timing own bytes answer = ⊥
 
 -- what a line tells of an answer with clocks: all, or all but the clocks
 abbrev pub told_with : {R : Type 0} → LineClocks → Answer R → Answer R
@@ -182,16 +191,10 @@ told_with line.LeftOut (Timed t) = Judged (Ok t.yes)
 told_with shown answer = answer
 
 -- by the frame's own certificate, with its clocks, as lines tell them
-abbrev pub judged_timed : ClockOptions → Machine → List ℕ → MemoryMap → ℕ → Window → Judging
-judged_timed asked machine rom map budget w =
-    record {
-      is_answer = λ bytes told. (answer : FrameAnswer) × TimedAnswer asked.timing machine rom map budget w bytes answer
-          × (told ≡ told_with asked.line answer);
-      is_told = λ bytes refusal. HasCallCause (rom_on machine map rom) (words_of bytes) refusal;
-      rom = rom_on machine map rom;
-      window = w;
-      mode = Exact;
-    }
+abbrev pub judged_timed : ClockOptions → OwnCertificates → Judging
+judged_timed asked own = record (judged_by_own own) {
+  is_answer = λ bytes told. (answer : FrameAnswer) × TimedAnswer asked.timing own bytes answer × (told ≡ told_with asked.line answer);
+}
 
 -- over judged shapes, with this count of shapes
 abbrev pub judged_over : Shapes → ℕ → ℕ → Judging

@@ -1,8 +1,7 @@
 //! By which certificate a frame is judged: by its own, which is made for it, or by a given one, whose shapes were judged.
 
 ghost use Rattle.std.specs.Prelude.{◌≡◌, false, length, Err, None, IfOk, IfErr, IfSome};
-ghost use Rattle.dvg_words.specs.Memory.{IsFrameLength, rom_on, words_of};
-ghost use Rattle.dvg_words.specs.Values.{Window as Places};
+ghost use Rattle.dvg_words.specs.Memory.{IsFrameLength, words_of};
 ghost use Rattle.dvg_check.specs.Means.{Means};
 ghost use Rattle.dvg_check.specs.declared.fault.Mode.TheVariants.{Exact};
 ghost use Rattle.dvg_make.specs.Judging.{HasCallCause};
@@ -10,7 +9,7 @@ ghost use Rattle.dvg_make.specs.declared.judging.FrameRefusal.TheVariants.{Check
 ghost use Rattle.dvg_words.specs.declared.machine.Machine.TheVariants.{Board};
 ghost use Rattle.dvg_clocks.specs.Clocks.{TakenOnCircuit, clocks_of_instr};
 ghost use Rattle.dvg_cmd.specs.Detail.{IsBehind};
-ghost use Rattle.dvg_cmd.specs.Frames.{JudgesAlike, Judging, MayJudgeOver, VerdictOnBytes, VerdictOver, is_unread, judged_by_own, judged_over, judged_timed, refusal_in, timed_answer, told_with, yes_in};
+ghost use Rattle.dvg_cmd.specs.Frames.{JudgesAlike, Judging, MayJudgeOver, VerdictBy, VerdictOver, is_unread, judged_by_own, judged_over, judged_timed, memory_of, refusal_in, rom_of, timed_answer, told_with, yes_in};
 ghost use Rattle.dvg_cmd.specs.declared.detail.Detail.{Detail};
 ghost use Rattle.dvg_cmd.specs.declared.detail.Detail.TheVariants as details;
 ghost use Rattle.dvg_cmd.specs.declared.timed_judge.LineClocks.{LineClocks};
@@ -81,46 +80,46 @@ pub struct OwnCertificates<'a> {
 impl<'a> FrameJudge for OwnCertificates<'a> {
     ghost valid = { λ _ _. Unit {0} };
 
-    ghost judging = { λ own. judged_by_own own.machine own.rom.now own.map own.budget own.window };
+    ghost judging = { judged_by_own };
 
     fn machine(&self) -> Machine {
         self.machine
     }
 
     fn answer(&mut self, alloc: Global, frame: &[u8], detail: Detail) -> ToldAnswer {
-        let (verdict, behind) = told_by_own(alloc, self, frame, detail);
+        let (verdict, behind) = self.verdict(alloc, frame, detail);
         (Answer::Judged(verdict), behind)
     }
 }
 
-/// The frame and the ROM of these bytes on a machine: answers the first that applies of 2, 49 and 1.
-pub fn images_for<'a>(
-    machine: Machine,
-    rom: &'a [u8],
-    map: RomMap,
-    frame: &'a [u8],
-    budget: u32,
-) -> Result<(FrameImage<'a>, RomImage<'a>), Refusal>
-    ensures ok { IfOk result (λ images. AreImages machine rom.now map frame.now budget images.0 images.1) }
-    ensures err { IfErr result (λ refusal. (w : Places) → VerdictOnBytes machine rom.now map frame.now budget w (Err (Check refusal))) }
-{
-    let frame = frame_of(frame, budget)?;
-    Ok((frame, RomImage::from_bytes_on(machine, rom, map)?))
-}
-
 impl<'a> OwnCertificates<'a> {
+    /// The frame and the ROM of these bytes: answers the first that applies of 2, 49 and 1.
+    pub fn images<'b>(&self, frame: &'b [u8]) -> Result<(FrameImage<'b>, RomImage<'a>), Refusal>
+        ensures ok { IfOk result (λ images. AreImages self.now frame.now images.0 images.1) }
+        ensures err { IfErr result (λ refusal. VerdictBy self.now frame.now (Err (Check refusal))) }
+    {
+        let frame = frame_of(frame, self.budget)?;
+        Ok((
+            frame,
+            RomImage::from_bytes_on(self.machine, self.rom, self.map)?,
+        ))
+    }
+
     /// The verdict on the bytes of a frame: the first that applies of 2, 49 and 1, else that of [`judge`]; and what the detail asks for
     /// behind its line.
     pub fn verdict(&self, alloc: Global, frame: &'a [u8], detail: Detail<'a>) -> ToldVerdict
-        ensures verdict { VerdictOnBytes self.now.machine self.now.rom.now self.now.map frame.now self.now.budget self.now.window result.0 }
-        ensures means { IfOk result.0 (λ yes. Means Exact (record {
-          frame = words_of frame.now;
-          rom = rom_on self.now.machine self.now.map self.now.rom.now;
-        }) self.now.window yes.words yes.depth) }
-        ensures told { IfErr result.0 (HasCallCause (rom_on self.now.machine self.now.map self.now.rom.now) (words_of frame.now)) }
+        ensures verdict { VerdictBy self.now frame.now result.0 }
+        ensures means { IfOk result.0 (λ yes. Means Exact (memory_of self.now frame.now) self.now.window yes.words yes.depth) }
+        ensures told { IfErr result.0 (HasCallCause (rom_of self.now) (words_of frame.now)) }
         ensures behind { IsBehind detail.entry result.1 }
     {
-        told_by_own(alloc, self, frame, detail)
+        match detail {
+            Detail::Line => (verdict_by_own(alloc, self, frame), Behind::Nothing),
+            Detail::Account(labels) => {
+                let explained = explain_by_own(alloc, self, &UNLIMITED, frame, labels);
+                (explained.verdict, explained.behind)
+            }
+        }
     }
 
     /// The verdict on the bytes of a frame, as [`verdict`](OwnCertificates::verdict) answers it, and how many clocks an accepted frame takes on
@@ -130,28 +129,39 @@ impl<'a> OwnCertificates<'a> {
         alloc: Global,
         frame: &[u8],
     ) -> (Result<Yes, FrameRefusal>, Option<ClockRange>)
-        ensures verdict { VerdictOnBytes self.now.machine self.now.rom.now self.now.map frame.now self.now.budget self.now.window result.0 }
-        ensures means { IfOk result.0 (λ yes. Means Exact (record {
-          frame = words_of frame.now;
-          rom = rom_on self.now.machine self.now.map self.now.rom.now;
-        }) self.now.window yes.words yes.depth) }
-        ensures told { IfErr result.0 (HasCallCause (rom_on self.now.machine self.now.map self.now.rom.now) (words_of frame.now)) }
-        ensures clocks { IfSome result.1 (λ clocks. (self.now.machine ≡ Board) × TakenOnCircuit (clocks_of_instr DVG_STATES) (record {
-          frame = words_of frame.now;
-          rom = rom_on self.now.machine self.now.map self.now.rom.now;
-        }) clocks) }
+        ensures verdict { VerdictBy self.now frame.now result.0 }
+        ensures means { IfOk result.0 (λ yes. Means Exact (memory_of self.now frame.now) self.now.window yes.words yes.depth) }
+        ensures told { IfErr result.0 (HasCallCause (rom_of self.now) (words_of frame.now)) }
+        ensures clocks { IfSome result.1 (λ clocks. (self.now.machine ≡ Board) × TakenOnCircuit (clocks_of_instr DVG_STATES)
+            (memory_of self.now frame.now) clocks) }
     {
-        match self.machine {
-            Machine::Profile => (verdict_by_own(alloc, self, frame), None),
-            Machine::Board => timed_by_own(alloc, self, frame),
+        let Machine::Board = self.machine else {
+            return (verdict_by_own(alloc, self, frame), None);
+        };
+        match self.images(frame) {
+            Ok((frame, rom)) => {
+                let timed = explain_timed(
+                    alloc,
+                    &rom,
+                    &frame,
+                    self.budget,
+                    self.window,
+                    &UNLIMITED,
+                );
+                let clocks = match timed.answer {
+                    Ok(timed) => Some(timed.clocks),
+                    Err(_) => None,
+                };
+                (own_verdict(&timed.judged), clocks)
+            }
+            Err(refusal) => (Err(FrameRefusal::Check(refusal)), None),
         }
     }
 
     /// The certificate that is made for a frame, if one can be made. Takes memory as [`explain_judging`] does; an `Err` says that there was
     /// none.
     pub fn made_for(&self, alloc: Global, frame: &[u8]) -> Result<Option<Cert>, AllocError> {
-        let Ok((frame, rom)) = images_for(self.machine, self.rom, self.map, frame, self.budget)
-        else {
+        let Ok((frame, rom)) = self.images(frame) else {
             return Ok(None);
         };
         match explain_judging(alloc, &rom, &frame, self.budget, self.window) {
@@ -179,39 +189,12 @@ impl<'a> OwnCertificates<'a> {
 /// The verdict on the bytes of a frame by its own certificate: the first that applies of 2, 49 and 1, else that of [`judge`].
 #[tactic(auto, using(crate::proofs::Answers::own_verdict, crate::proofs::Answers::own_told))]
 fn verdict_by_own(alloc: Global, own: &OwnCertificates, frame: &[u8]) -> Result<Yes, FrameRefusal>
-    ensures verdict { VerdictOnBytes own.now.machine own.now.rom.now own.now.map frame.now own.now.budget own.now.window result }
-    ensures told { IfErr result (HasCallCause (rom_on own.now.machine own.now.map own.now.rom.now) (words_of frame.now)) }
+    ensures verdict { VerdictBy own.now frame.now result }
+    ensures told { IfErr result (HasCallCause (rom_of own.now) (words_of frame.now)) }
 {
-    match images_for(own.machine, own.rom, own.map, frame, own.budget) {
+    match own.images(frame) {
         Ok((frame, rom)) => judge(alloc, &rom, &frame, own.budget, own.window),
         Err(refusal) => Err(FrameRefusal::Check(refusal)),
-    }
-}
-
-/// The same verdict, and the clocks that the frame takes on the board, if they were counted.
-fn timed_by_own(
-    alloc: Global,
-    own: &OwnCertificates,
-    frame: &[u8],
-) -> (Result<Yes, FrameRefusal>, Option<ClockRange>)
-    requires { own.now.machine ≡ Board }
-    ensures verdict { VerdictOnBytes own.now.machine own.now.rom.now own.now.map frame.now own.now.budget own.now.window result.0 }
-    ensures told { IfErr result.0 (HasCallCause (rom_on own.now.machine own.now.map own.now.rom.now) (words_of frame.now)) }
-    ensures clocks { IfSome result.1 (TakenOnCircuit (clocks_of_instr DVG_STATES) (record {
-      frame = words_of frame.now;
-      rom = rom_on own.now.machine own.now.map own.now.rom.now;
-    })) }
-{
-    match images_for(own.machine, own.rom, own.map, frame, own.budget) {
-        Ok((frame, rom)) => {
-            let timed = explain_timed(alloc, &rom, &frame, own.budget, own.window, &UNLIMITED);
-            let clocks = match timed.answer {
-                Ok(timed) => Some(timed.clocks),
-                Err(_) => None,
-            };
-            (own_verdict(&timed.judged), clocks)
-        }
-        Err(refusal) => (Err(FrameRefusal::Check(refusal)), None),
     }
 }
 
@@ -234,10 +217,10 @@ pub fn explain_by_own<'a>(
     frame: &'a [u8],
     labels: Option<&'a Labels>,
 ) -> ExplainedFrame
-    ensures verdict { VerdictOnBytes own.now.machine own.now.rom.now own.now.map frame.now own.now.budget own.now.window result.verdict }
-    ensures told { IfErr result.verdict (HasCallCause (rom_on own.now.machine own.now.map own.now.rom.now) (words_of frame.now)) }
-    ensures answer { (line : LineClocks) → IsAnswerOf (judged_timed (record { timing = timing.now; line = line }) own.now.machine
-        own.now.rom.now own.now.map own.now.budget own.now.window) frame.now (told_with line (timed_answer result.answer)) }
+    ensures verdict { VerdictBy own.now frame.now result.verdict }
+    ensures told { IfErr result.verdict (HasCallCause (rom_of own.now) (words_of frame.now)) }
+    ensures answer { (line : LineClocks) → IsAnswerOf (judged_timed (record { timing = timing.now; line = line }) own.now) frame.now
+        (told_with line (timed_answer result.answer)) }
     ensures behind { IsBehind (details.Account None) result.behind }
 {
     let inputs = Inputs {
@@ -252,7 +235,7 @@ pub fn explain_by_own<'a>(
         labels,
         others: own.others,
     };
-    match images_for(own.machine, own.rom, own.map, frame, own.budget) {
+    match own.images(frame) {
         Ok((image, rom)) => {
             let timed = explain_timed(alloc, &rom, &image, own.budget, own.window, timing);
             ExplainedFrame {
@@ -277,26 +260,6 @@ const UNLIMITED: Timing = Timing {
     states: DVG_STATES,
     limit: u64::MAX,
 };
-
-/// The verdict on the bytes of a frame by its own certificate, and what the detail asks for behind its line.
-fn told_by_own<'a>(
-    alloc: Global,
-    own: &OwnCertificates<'a>,
-    frame: &'a [u8],
-    detail: Detail<'a>,
-) -> ToldVerdict
-    ensures verdict { VerdictOnBytes own.now.machine own.now.rom.now own.now.map frame.now own.now.budget own.now.window result.0 }
-    ensures told { IfErr result.0 (HasCallCause (rom_on own.now.machine own.now.map own.now.rom.now) (words_of frame.now)) }
-    ensures behind { IsBehind detail.entry result.1 }
-{
-    match detail {
-        Detail::Line => (verdict_by_own(alloc, own, frame), Behind::Nothing),
-        Detail::Account(labels) => {
-            let explained = explain_by_own(alloc, own, &UNLIMITED, frame, labels);
-            (explained.verdict, explained.behind)
-        }
-    }
-}
 
 /// The judge of each frame by its own certificate, as [`OwnCertificates`] judges. It keeps what it made for the frames that it
 /// accepted, so that a later one that calls the same shapes costs less.
@@ -361,8 +324,8 @@ fn verdict_by_kept(
     frame: &[u8],
 ) -> Result<Yes, FrameRefusal>
     requires { IsKeptFor own.now.machine own.now.rom.now own.now.map own.now.window kept.old }
-    ensures verdict { VerdictOnBytes own.now.machine own.now.rom.now own.now.map frame.now own.now.budget own.now.window result }
-    ensures told { IfErr result (HasCallCause (rom_on own.now.machine own.now.map own.now.rom.now) (words_of frame.now)) }
+    ensures verdict { VerdictBy own.now frame.now result }
+    ensures told { IfErr result (HasCallCause (rom_of own.now) (words_of frame.now)) }
     ensures kept { IsKeptFor own.now.machine own.now.rom.now own.now.map own.now.window kept.new }
 {
     match frame_of(frame, own.budget) {
@@ -374,7 +337,7 @@ fn verdict_by_kept(
 impl<'a> FrameJudge for KeptCertificates<'a> {
     ghost valid = { λ judge _. IfSome judge.kept (IsKeptFor judge.own.machine judge.own.rom.now judge.own.map judge.own.window) };
 
-    ghost judging = { λ judge. judged_by_own judge.own.machine judge.own.rom.now judge.own.map judge.own.budget judge.own.window };
+    ghost judging = { λ judge. judged_by_own judge.own };
 
     fn machine(&self) -> Machine {
         self.own.machine
@@ -386,13 +349,14 @@ impl<'a> FrameJudge for KeptCertificates<'a> {
                 verdict_by_kept(alloc, &self.own, kept, frame),
                 Behind::Nothing,
             ),
-            _ => told_by_own(alloc, &self.own, frame, detail),
+            _ => self.own.verdict(alloc, frame, detail),
         };
         (Answer::Judged(verdict), behind)
     }
 }
 
-/// The judge of frames over judged shapes: the shapes of a certificate over the bytes of a ROM.
+/// The judge of frames over judged shapes. Before it judges, these must be the shapes of the certificate's entries over a ROM at its map;
+/// and for an account, over these bytes of the ROM, and judged on this machine and in this mode.
 #[derive(Drop)]
 pub struct GivenCertificate<'a, E: Entries> {
     /// The machine on which the shapes were judged.
@@ -405,37 +369,6 @@ pub struct GivenCertificate<'a, E: Entries> {
     pub mode: Mode,
     /// How many words a frame may take at most.
     pub budget: u32,
-}
-
-impl<'a, E: Entries> GivenCertificate<'a, E> {
-    /// The judge over these shapes. Before it judges, they must be those of the certificate's entries over a ROM at its map; and for an
-    /// account, they must be over these bytes of the ROM, and judged on this machine and in this mode.
-    pub fn new(
-        machine: Machine,
-        rom: &'a [u8],
-        cert: &'a Cert,
-        shapes: &'a JudgedShapes<'a, E>,
-        mode: Mode,
-        budget: u32,
-    ) -> GivenCertificate<'a, E>
-        ensures { result ≡ record {
-          machine = machine;
-          rom = rom.entry;
-          cert = cert.entry;
-          shapes = shapes.entry;
-          mode = mode;
-          budget = budget;
-        } }
-    {
-        GivenCertificate {
-            machine,
-            rom,
-            cert,
-            shapes,
-            mode,
-            budget,
-        }
-    }
 }
 
 impl<'a, E: Entries> FrameJudge for GivenCertificate<'a, E> {

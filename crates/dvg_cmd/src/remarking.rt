@@ -5,7 +5,7 @@ ghost use Rattle.dvg_cmd.specs.Remarking.{AreRemarks, answer_detail, outcome_beh
 
 use crate::called::Called;
 use crate::detail::{Behind, Detail};
-use crate::frame_judge::{OwnCertificates, images_for};
+use crate::frame_judge::OwnCertificates;
 use dvg_account::{FrameRemark, Inputs, frame_remarks, remarks_text};
 use dvg_cert::Cert;
 use dvg_check::Mode;
@@ -135,7 +135,7 @@ fn remarks_by<'a>(
         labels,
         others: own.others,
     };
-    match images_for(own.machine, own.rom, own.map, frame, own.budget) {
+    match own.images(frame) {
         Ok((image, rom)) => frame_remarks(alloc, &inputs, &rom, &image),
         Err(_) => Ok(Vec::new(alloc)),
     }

@@ -311,7 +311,14 @@ pub fn run_frames_given<
     let mode = Mode::Bound;
     match JudgedShapes::judge_shapes(&image, cert, &entries, window, mode) {
         Ok(shapes) => {
-            let mut judge = GivenCertificate::new(machine, rom, cert, &shapes, mode, budget);
+            let mut judge = GivenCertificate {
+                machine,
+                rom,
+                cert,
+                shapes: &shapes,
+                mode,
+                budget,
+            };
             run_frames(alloc, &mut judge, start, frames, listing, out)
         }
         Err(finding) => given.refuse(alloc, &Finding::Shape(finding), detail, out),

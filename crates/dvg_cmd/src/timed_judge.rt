@@ -9,7 +9,7 @@ ghost use Rattle.dvg_cmd.specs.Kept.{IsTimedFor};
 ghost use Rattle.dvg_cmd.specs.Private.Judging.{IsAnswerOf};
 
 use crate::detail::{Behind, Detail};
-use crate::frame_judge::{FrameJudge, OwnCertificates, ToldAnswer, explain_by_own, images_for};
+use crate::frame_judge::{FrameJudge, OwnCertificates, ToldAnswer, explain_by_own};
 use dvg_check::frame_of;
 use dvg_clocks::{TimedRefusal, TimedYes, Timing, judge_timed};
 use dvg_kept::TimedShapes;
@@ -128,8 +128,7 @@ fn answer_by_kept(
     frame: &[u8],
 ) -> FrameAnswer
     requires { IsTimedFor asked.now.timing own.now.machine own.now.rom.now own.now.map own.now.window kept.old }
-    ensures answer { IsAnswerOf (judged_timed asked.now own.now.machine own.now.rom.now own.now.map own.now.budget own.now.window)
-        frame.now result }
+    ensures answer { IsAnswerOf (judged_timed asked.now own.now) frame.now result }
     ensures kept { IsTimedFor asked.now.timing own.now.machine own.now.rom.now own.now.map own.now.window kept.new }
 {
     match frame_of(frame, own.budget) {
@@ -148,10 +147,9 @@ fn answer_by_own(
     asked: &ClockOptions,
     frame: &[u8],
 ) -> FrameAnswer
-    ensures { IsAnswerOf (judged_timed asked.now own.now.machine own.now.rom.now own.now.map own.now.budget own.now.window)
-        frame.now result }
+    ensures { IsAnswerOf (judged_timed asked.now own.now) frame.now result }
 {
-    match images_for(own.machine, own.rom, own.map, frame, own.budget) {
+    match own.images(frame) {
         Ok((frame, rom)) => timed_answer(
             judge_timed(alloc, &rom, &frame, own.budget, own.window, &asked.timing),
             asked.line,
@@ -164,8 +162,7 @@ impl<'a> FrameJudge for TimedCertificates<'a> {
     ghost valid = { λ judge _. IfSome judge.kept (IsTimedFor judge.asked.timing judge.own.machine judge.own.rom.now judge.own.map
         judge.own.window) };
 
-    ghost judging = { λ judge. judged_timed judge.asked judge.own.machine judge.own.rom.now judge.own.map judge.own.budget
-        judge.own.window };
+    ghost judging = { λ judge. judged_timed judge.asked judge.own };
 
     fn machine(&self) -> Machine {
         self.own.machine

@@ -2,22 +2,22 @@
 use Rattle.std.specs.Prelude.{◌≡◌, ℕ, false, List, length, Result, IfOk, IfSome}
 use Rattle.dvg_words.specs.declared.machine.Machine.{Machine}
 use Rattle.dvg_words.specs.Memory.{Rom, words_of, rom_on, IsFrameLength, IsRomLength}
-use Rattle.dvg_words.specs.Values.{MemoryMap, Window}
+use Rattle.dvg_words.specs.Values.{Window}
 use Rattle.dvg_cert.specs.Order.{Certificate}
 use Rattle.dvg_check.specs.Means.{Means}
 use Rattle.dvg_check.specs.Verdict.{InRange, RomVerdict}
 use Rattle.dvg_check.specs.declared.fault.Mode.{Mode}
 use Rattle.dvg_check.specs.declared.verdict.Refusal.{Refusal}
 use Rattle.dvg_check.specs.declared.verdict.Yes.{Yes}
-use Rattle.dvg_cmd.specs.Frames.{FrameAnswer, Judging, is_unread, refusal_in, yes_in}
+use Rattle.dvg_cmd.specs.Frames.{FrameAnswer, Judging, is_unread, refusal_in, rom_of, yes_in}
+use Rattle.dvg_cmd.specs.declared.frame_judge.OwnCertificates.{OwnCertificates}
 
 -- these are the frame's words and the ROM of bytes that can be judged
-pub record AreImages
-    (machine : Machine) (rom : List ℕ) (map : MemoryMap) (frame : List ℕ) (budget : ℕ) (words : List ℕ) (image : Rom) : Type 0 where
-  pub in_range : InRange frame budget
-  pub rom_length : IsRomLength map (length rom)
-  pub words_are : words ≡ words_of frame
-  pub rom_is : image ≡ rom_on machine map rom
+pub record AreImages (own : OwnCertificates) (bytes words : List ℕ) (image : Rom) : Type 0 where
+  pub in_range : InRange bytes own.budget
+  pub rom_length : IsRomLength own.map (length own.rom.now)
+  pub words_are : words ≡ words_of bytes
+  pub rom_is : image ≡ rom_of own
 
 -- the verdict on the bytes of a ROM and the words of a frame by a certificate; an accepted frame is safe
 pub record JudgesRom

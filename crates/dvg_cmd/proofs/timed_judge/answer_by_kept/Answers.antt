@@ -8,13 +8,11 @@ pub returns-in-Ok-clause-answer : goal.returns-in-Ok-clause-answer
 returns-in-Ok-clause-answer c =
     let own = c.args.own.now in
     let asked = c.args.asked.now in
-    subst (IsAnswerOf (judged_timed asked own.machine own.rom.now own.map own.budget own.window) c.args.frame.now)
+    subst (IsAnswerOf (judged_timed asked own) c.args.frame.now)
     (sym c.timed_answer.ensures)
-    (kept_answers asked own.machine own.rom.now own.map c.args.frame.now own.budget own.window c.in-Ok.frame c.args.kept.now c.requires
+    (kept_answers asked own c.args.frame.now c.in-Ok.frame c.args.kept.now c.requires
     c.in-Ok.ensures.range c.in-Ok.ensures.frame c.judge.result c.judge.ensures.timed)
 
 pub returns-in-Err-clause-answer : goal.returns-in-Err-clause-answer
 returns-in-Err-clause-answer c =
-    let own = c.args.own.now in
-    range_answers c.args.asked.now own.machine own.rom.now own.map c.args.frame.now own.budget own.window c.in-Err.refusal
-    c.in-Err.ensures.refused
+    range_answers c.args.asked.now c.args.own.now c.args.frame.now c.in-Err.refusal c.in-Err.ensures.refused

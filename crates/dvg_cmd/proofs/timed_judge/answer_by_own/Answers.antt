@@ -17,13 +17,9 @@ returns-in-Ok c =
       clocks = c.judge_timed.ensures.clocks;
       refused = c.judge_timed.ensures.refused;
     } in
-    subst (IsAnswerOf (judged_timed asked own.machine own.rom.now own.map own.budget own.window) c.args.frame.now)
+    subst (IsAnswerOf (judged_timed asked own) c.args.frame.now)
     (sym c.timed_answer.ensures)
-    (timed_answers asked own.machine own.rom.now own.map c.args.frame.now own.budget own.window c.in-Ok.frame c.in-Ok.rom
-    c.in-Ok.ensures.ok c.judge_timed.result said)
+    (timed_answers asked own c.args.frame.now c.in-Ok.frame c.in-Ok.rom c.in-Ok.ensures.ok c.judge_timed.result said)
 
 pub returns-in-Err : goal.returns-in-Err
-returns-in-Err c =
-    let own = c.args.own.now in
-    plain_answers c.args.asked.now own.machine own.rom.now own.map c.args.frame.now own.budget own.window c.in-Err.refusal
-    (c.in-Err.ensures.err own.window)
+returns-in-Err c = plain_answers c.args.asked.now c.args.own.now c.args.frame.now c.in-Err.refusal c.in-Err.ensures.err

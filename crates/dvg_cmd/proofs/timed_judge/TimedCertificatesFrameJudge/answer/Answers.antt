@@ -7,6 +7,6 @@ pub returns-in-Account-default-clause-answer : goal.returns-in-Account-default-c
 returns-in-Account-default-clause-answer c =
     let own = c.args.self.now.own in
     let asked = c.args.self.now.asked in
-    let said = subst (IsAnswerOf (judged_timed asked own.machine own.rom.now own.map own.budget own.window) c.args.frame.now)
+    let said = subst (IsAnswerOf (judged_timed asked own) c.args.frame.now)
     (sym c.timed_answer.ensures) (c.explain_by_own-explained.ensures.answer asked.line) in
     said.answer
