@@ -91,33 +91,29 @@ fn frame_fault(bytes: usize) -> &'static str {
 
 /// Adds the lines that tell of a refused line of the certificate, and of why, if that is known.
 fn push_line(lines: &mut Lines, line: u32, why: Option<LineWhy>) {
+    let at = [Line("certificate line"), Number(line as u64)];
     match why {
-        None => lines.add(&[Line("certificate line"), Number(line as u64)]),
-        Some(why) => push_line_why(lines, line, why),
-    }
-}
-
-/// Adds the lines that tell of a refused line, and of why.
-fn push_line_why(lines: &mut Lines, line: u32, why: LineWhy) {
-    match why {
-        LineWhy::Form(leaving) => lines.add(&[
-            Line("certificate line"),
-            Number(line as u64),
-            Line("column"),
-            Number(leaving.column as u64),
-            Line("expected"),
-            Expected(leaving.expected),
-        ]),
-        LineWhy::Count(counts) => lines.add(&[
-            Line("why"),
-            Text("the `done` line says "),
-            Number(counts.claimed as u64),
-            Text(entries(counts.claimed)),
-            Text(", and the certificate has "),
-            Number(counts.found as u64),
-            Line("certificate line"),
-            Number(line as u64),
-        ]),
+        None => lines.add(&at),
+        Some(LineWhy::Form(leaving)) => {
+            lines.add(&at);
+            lines.add(&[
+                Line("column"),
+                Number(leaving.column as u64),
+                Line("expected"),
+                Expected(leaving.expected),
+            ]);
+        }
+        Some(LineWhy::Count(counts)) => {
+            lines.add(&[
+                Line("why"),
+                Text("the `done` line says "),
+                Number(counts.claimed as u64),
+                Text(entries(counts.claimed)),
+                Text(", and the certificate has "),
+                Number(counts.found as u64),
+            ]);
+            lines.add(&at);
+        }
     }
 }
 

@@ -2,7 +2,6 @@
 
 use crate::lines::Lines;
 use crate::piece::Piece::{self, Address, At, Line, Number, Place, Scale, Text, Word};
-use crate::piece::Role;
 use crate::zeros::{Way, Zeros};
 use dvg_cert::Entry;
 use dvg_check::Found;
@@ -52,27 +51,38 @@ impl RefusedItem {
         RefusedItem::new(memory, Kind::Frame, 0, at, None, None)
     }
 
-    /// The lines of the item, in this role.
-    pub fn push_lines(&self, role: Role, lines: &mut Lines) {
-        push_at(lines, role, self.at);
-        push_words(lines, role, self.words);
-        push_instruction(lines, role, self.instruction);
-        push_called(lines, role, self.callee);
-        push_item(lines, role, "comes from", self.comes_from());
-        push_known(lines, role, self.before);
-        push_item(lines, role, "place lost by", self.place_lost_by());
-        push_item(lines, role, "scale lost by", self.scale_lost_by());
-        push_zeros(lines, role, self.way.zeros);
+    /// Adds the lines of the item, by which something is refused.
+    pub fn push_lines(&self, lines: &mut Lines) {
+        lines.add(&[Line("item"), At(self.at)]);
+        self.push_details(lines);
     }
 
-    /// The item by which the place was lost.
-    fn place_lost_by(&self) -> Option<Item> {
-        Some(self.losses?.place?)
+    /// Adds the lines of the item, at which the making of an entry stops that a frame's call needs.
+    pub fn push_lines_there(&self, lines: &mut Lines) {
+        lines.add(&[Line("comes to"), At(self.at)]);
+        lines.begin_keys_with("there ");
+        self.push_details(lines);
+        lines.begin_keys_with("");
     }
 
-    /// The item by which the scale became unknown.
-    fn scale_lost_by(&self) -> Option<Item> {
-        Some(self.losses?.scale?)
+    /// Adds the lines of what the item is, what is known before it, by which items the rest was lost, and the zeros that lead to it.
+    fn push_details(&self, lines: &mut Lines) {
+        push_words(lines, self.words);
+        push_instruction(lines, self.instruction);
+        if let Some(entry) = self.callee {
+            lines.add(&[Line("called entry"), Piece::Entry(entry)]);
+        }
+        push_item(lines, "comes from", self.comes_from());
+        if let Some(before) = self.before {
+            lines.add(&[Line("place before"), Place(before.place)]);
+            lines.add(&[Line("scale before"), Scale(before.scale)]);
+            lines.add(&[Line("words before"), Number(before.words as u64)]);
+        }
+        if let Some(losses) = self.losses {
+            push_item(lines, "place lost by", losses.place);
+            push_item(lines, "scale lost by", losses.scale);
+        }
+        push_zeros(lines, self.way.zeros);
     }
 
     /// The item that goes on to an item of a frame, or to one of a shape that is missing, unless zeros lead there.
@@ -84,71 +94,44 @@ impl RefusedItem {
     }
 }
 
-/// Adds the line of where an item in this role stands.
-fn push_at(lines: &mut Lines, role: Role, at: u16) {
-    match role {
-        Role::Refused => lines.add(&[Line("item"), At(at)]),
-        Role::Stop => lines.add(&[Line("comes to"), At(at)]),
-    }
-}
-
 /// Adds the line of what an item's words are.
-fn push_words(lines: &mut Lines, role: Role, words: Option<(u16, Option<u16>)>) {
+fn push_words(lines: &mut Lines, words: Option<(u16, Option<u16>)>) {
+    lines.add(&[Line("holds")]);
     match words {
-        None => lines.add_as(role, "holds", &[Text("nothing")]),
-        Some((first, None)) => lines.add_as(role, "holds", &[Word(first)]),
-        Some((first, Some(second))) => {
-            lines.add_as(role, "holds", &[Word(first), Text(" "), Word(second)])
-        }
+        None => lines.add(&[Text("nothing")]),
+        Some((first, None)) => lines.add(&[Word(first)]),
+        Some((first, Some(second))) => lines.add(&[Word(first), Text(" "), Word(second)]),
     }
 }
 
 /// Adds the line of an item's instruction, or that its words are none.
-fn push_instruction(lines: &mut Lines, role: Role, instruction: Option<Item>) {
-    match instruction {
-        Some(there) => lines.add_as(role, "instruction", &[Piece::Instruction(there)]),
-        None => lines.add_as(role, "instruction", &[Text("none")]),
-    }
-}
-
-/// Adds the line of the entry that an item calls or tail jumps to, if there is one.
-fn push_called(lines: &mut Lines, role: Role, called: Option<Entry>) {
-    if let Some(entry) = called {
-        lines.add_as(role, "called entry", &[Piece::Entry(entry)]);
-    }
+fn push_instruction(lines: &mut Lines, instruction: Option<Item>) {
+    lines.add(&[
+        Line("instruction"),
+        instruction.map_or(Text("none"), Piece::Instruction),
+    ]);
 }
 
 /// Adds a line with this key that names another item, if there is one.
-pub fn push_item(lines: &mut Lines, role: Role, key: &'static str, item: Option<Item>) {
+pub fn push_item(lines: &mut Lines, key: &'static str, item: Option<Item>) {
     if let Some(item) = item {
-        lines.add_as(role, key, &[Piece::Item(item)]);
+        lines.add(&[Line(key), Piece::Item(item)]);
     }
 }
 
-/// Adds the lines of what is known before an item, if that is told.
-fn push_known(lines: &mut Lines, role: Role, before: Option<Known>) {
-    if let Some(before) = before {
-        lines.add_as(role, "place before", &[Place(before.place)]);
-        lines.add_as(role, "scale before", &[Scale(before.scale)]);
-        lines.add_as(role, "words before", &[Number(before.words as u64)]);
-    }
-}
-
-/// Adds the lines of the zeros that lead to an item, if there are any, and of the item before them.
-fn push_zeros(lines: &mut Lines, role: Role, zeros: Option<Zeros>) {
-    if let Some(zeros) = zeros {
-        let between = [Address(zeros.first), Text(" to "), Address(zeros.last)];
-        lines.add_as(role, "zeros", &between);
-        push_before_zeros(lines, role, zeros.before);
-    }
-}
-
-/// Adds the line of the item before zeros, or that there is none.
-fn push_before_zeros(lines: &mut Lines, role: Role, before: Option<Item>) {
-    match before {
-        Some(item) => lines.add_as(role, "before zeros", &[Piece::Item(item)]),
-        None => lines.add_as(role, "before zeros", &[Text("none")]),
-    }
+/// Adds the lines of the zeros that lead to an item, if there are any, and of the item before them, or that there is none.
+fn push_zeros(lines: &mut Lines, zeros: Option<Zeros>) {
+    let Some(zeros) = zeros else {
+        return;
+    };
+    lines.add(&[
+        Line("zeros"),
+        Address(zeros.first),
+        Text(" to "),
+        Address(zeros.last),
+        Line("before zeros"),
+        zeros.before.map_or(Text("none"), Piece::Item),
+    ]);
 }
 
 /// The entry that is named by what was found.

@@ -3,7 +3,6 @@
 use crate::item::RefusedItem;
 use crate::lines::Lines;
 use crate::piece::Piece::{Line, Number, Text};
-use crate::piece::Role;
 use dvg_words::{FrameImage, FrameOn, Machine};
 
 /// Adds the lines of a recipe's text of which an item could stand here.
@@ -21,6 +20,6 @@ fn push_stand(lines: &mut Lines, could_stand: &[u32]) {
 /// text could stand (this project's own).
 pub fn push_leaving(lines: &mut Lines, frame: &FrameImage, at: u16, could_stand: &[u32]) {
     let item = RefusedItem::call(&FrameOn::new(Machine::Board, frame), at);
-    item.push_lines(Role::Refused, lines);
+    item.push_lines(lines);
     push_stand(lines, could_stand);
 }

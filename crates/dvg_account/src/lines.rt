@@ -1,7 +1,6 @@
 //! The lines of an account, as a text that is put together of pieces.
 
 use crate::piece::Piece::{self, Line, Text as Words};
-use crate::piece::Role;
 use crate::spelling::{Telling, push_passed, push_piece, push_swapped};
 use crate::text::Text;
 use dvg_labels::Labels;
@@ -39,10 +38,9 @@ impl<'a> Lines<'a> {
         }
     }
 
-    /// Adds a line about the item in a role, with this key and these pieces.
-    pub fn add_as(&mut self, role: Role, key: &'static str, pieces: &[Piece]) {
-        self.add(&[role.key(key)]);
-        self.add(pieces);
+    /// From now on these words stand before each key.
+    pub fn begin_keys_with(&mut self, words: &'static str) {
+        self.telling.before_keys = words;
     }
 
     /// Adds the line that names a machine, unless it is the profile's.

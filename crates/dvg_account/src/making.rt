@@ -7,7 +7,6 @@ use crate::lines::Lines;
 use crate::meant::{meant, push_meant};
 use crate::middle::{middle_of, push_middle};
 use crate::piece::Piece::{Address, Line, Name, Number, Rule, Text, ToDo};
-use crate::piece::Role;
 use crate::why::{
     AT_LOST_PLACE, AT_UNKNOWN_SCALE, HALT_IN_SHAPE, IN_ROM, push_missing, push_odd, push_words_over,
 };
@@ -120,23 +119,12 @@ fn push_way(
     item: &Option<RefusedItem>,
     account: &MakeAccount,
 ) {
-    match call {
-        Some(call) => {
-            call.push_lines(Role::Refused, lines);
-            push_chain(lines, account);
-            push_item(lines, Role::Stop, item);
-        }
-        None => {
-            push_item(lines, Role::Refused, item);
-            push_chain(lines, account);
-        }
+    if let Some(refused) = call.as_ref().or(item.as_ref()) {
+        refused.push_lines(lines);
     }
-}
-
-/// The lines of an item in a role, if there is one.
-fn push_item(lines: &mut Lines, role: Role, item: &Option<RefusedItem>) {
-    if let Some(item) = item {
-        item.push_lines(role, lines);
+    push_chain(lines, account);
+    if let (Some(_), Some(item)) = (call, item) {
+        item.push_lines_there(lines);
     }
 }
 

@@ -11,8 +11,6 @@ use dvg_words::{Point, RomMap};
 pub enum Piece {
     /// The key of a line.
     Line(&'static str),
-    /// The key of a line about the item at which the making of an entry stops, which a frame's call needs.
-    There(&'static str),
     /// The key of the line of what to do, behind which the bytes stand that are to be swapped first, if some are.
     ToDo,
     /// Words between values.
@@ -62,22 +60,4 @@ pub enum Piece {
     Answer(Result<Yes, FrameRefusal>),
     /// What was expected at a column of a certificate's line.
     Expected(&'static str),
-}
-
-/// Which item a line is about: the one by which something is refused, or the one at which the making of an entry stops, which
-/// a frame's call needs.
-#[derive(Clone, Copy)]
-pub enum Role {
-    Refused,
-    Stop,
-}
-
-impl Role {
-    /// The key of a line about the item in this role.
-    pub fn key(self, key: &'static str) -> Piece {
-        match self {
-            Role::Refused => Piece::Line(key),
-            Role::Stop => Piece::There(key),
-        }
-    }
 }

@@ -6,7 +6,6 @@ use crate::inputs::{Inputs, push_plain_refusal};
 use crate::item::{RefusedItem, callee_of, push_item};
 use crate::lines::Lines;
 use crate::piece::Piece::{self, Cure, Line, Name, OrHalt, Rule, Text, ToDo};
-use crate::piece::Role;
 use crate::why::{push_frame_why, push_shape_why};
 use dvg_cert::{Cert, Entries, Entry, HashIndex, ListIndex};
 use dvg_check::{Finding, FrameCause, FrameFinding, Refusal, ShapeFinding, ShapeWhy};
@@ -64,8 +63,8 @@ fn push_frame_fault(
     lines.push_zone(&inputs.window);
     lines.add(&[Line("rule"), Rule(number), Line("why")]);
     push_frame_why(lines, machine, finding, frame);
-    push_item(lines, Role::Refused, "reaches furthest", stroke);
-    item.push_lines(Role::Refused, lines);
+    push_item(lines, "reaches furthest", stroke);
+    item.push_lines(lines);
     push_beside_frame(lines, inputs, cert, finding.cause)?;
     push_frame_cure(lines, finding, frame);
     Ok(())
@@ -118,22 +117,13 @@ fn push_keys_at(lines: &mut Lines, entries: &[Entry], addr: u16) {
     lines.add(&[Line("claimed scales")]);
     let mut any = false;
     for entry in entries {
-        if push_key_at(lines, entry, addr, any) {
+        if entry.addr == addr {
+            let before = Text(if any { ", " } else { "" });
+            lines.add(&[before, Piece::Key(entry.key)]);
             any = true;
         }
     }
     lines.add(&[Text(if any { "" } else { "none" })]);
-}
-
-/// Adds the key of an entry, behind any before it, if it is at this word address. Answers whether it is.
-fn push_key_at(lines: &mut Lines, entry: &Entry, addr: u16, any: bool) -> bool {
-    if entry.addr == addr {
-        let before = Text(if any { ", " } else { "" });
-        lines.add(&[before, Piece::Key(entry.key)]);
-        true
-    } else {
-        false
-    }
 }
 
 /// Adds what else is told of the cause in a shape: of an odd LABS what the board answers, of an end or a box that differs the other
@@ -168,7 +158,7 @@ fn push_shape_fault(
     lines.push_zone(&inputs.window);
     lines.add(&[Line("rule"), Rule(number), Line("why")]);
     push_shape_why(lines, finding, rom);
-    item.push_lines(Role::Refused, lines);
+    item.push_lines(lines);
     lines.add(&[Line("entry claims"), Piece::Entry(entry)]);
     push_chain(lines, rom, cert, frame, &entry)?;
     push_beside_shape(lines, inputs, finding.fault.why)?;

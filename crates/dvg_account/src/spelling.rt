@@ -23,14 +23,17 @@ pub enum CertificateOf {
 pub struct Telling {
     pub cert: CertificateOf,
     pub swapped: Option<Swapped>,
+    /// What stands before each key.
+    pub before_keys: &'static str,
 }
 
 impl Telling {
-    /// An account that speaks of this certificate, where no bytes are swapped.
-    pub fn of(cert: CertificateOf) -> Telling {
+    /// An account that speaks of this certificate, and of these bytes that are to be swapped.
+    pub fn new(cert: CertificateOf, swapped: Option<Swapped>) -> Telling {
         Telling {
             cert,
-            swapped: None,
+            swapped,
+            before_keys: "",
         }
     }
 
@@ -72,8 +75,7 @@ fn whose_bytes(swapped: Swapped) -> &'static str {
 /// Adds a piece: behind a key what tells, and between the words as they are.
 pub fn push_piece(text: &mut Text, telling: Telling, piece: &Piece) {
     match piece {
-        Piece::Line(key) => text.begin_line("", key),
-        Piece::There(key) => text.begin_line("there ", key),
+        Piece::Line(key) => text.begin_line(telling.before_keys, key),
         Piece::ToDo => push_to_do(text, telling.swapped),
         Piece::Text(words) => text.push(words),
         Piece::Number(number) => text.push_decimal(*number),

@@ -20,7 +20,7 @@ use std::alloc::{AllocError, Global};
 
 /// An account that speaks of a frame's own certificate, or of none.
 fn own_account<'a>(alloc: Global, labels: Option<&'a Labels>) -> Lines<'a> {
-    Lines::new(alloc, Telling::of(CertificateOf::Frame), labels)
+    Lines::new(alloc, Telling::new(CertificateOf::Frame, None), labels)
 }
 
 /// What the words of an account of this verdict depend on. Of a refusal because of an item, or by the maker, it is found out which input
@@ -38,7 +38,7 @@ fn telling_of(
         }
         _ => None,
     };
-    Ok(Telling { cert, swapped })
+    Ok(Telling::new(cert, swapped))
 }
 
 /// The account of a verdict on these inputs (this project's own). A refusal because of an item has a cause, and its account tells first
@@ -160,7 +160,7 @@ pub fn certificate_text(
     refused: &RefusedText,
     labels: Option<&Labels>,
 ) -> Result<String, AllocError> {
-    let mut lines = Lines::new(alloc, Telling::of(CertificateOf::User), labels);
+    let mut lines = Lines::new(alloc, Telling::new(CertificateOf::User, None), labels);
     push_refused_text(&mut lines, machine, refused.fault(), refused.why());
     lines.finish()
 }

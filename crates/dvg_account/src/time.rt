@@ -4,7 +4,6 @@ use crate::inputs::Inputs;
 use crate::item::RefusedItem;
 use crate::lines::Lines;
 use crate::piece::Piece::{self, Cure, Line, Number, Rule, Text, ToDo};
-use crate::piece::Role;
 use dvg_clocks::{ClockRange, FrameTime};
 use dvg_words::{FrameImage, FrameOn};
 
@@ -46,7 +45,7 @@ pub fn push_slow(
         Text("with it the frame may take more clocks than the limit, "),
         Number(limit),
     ]);
-    RefusedItem::call(&framed, at).push_lines(Role::Refused, lines);
+    RefusedItem::call(&framed, at).push_lines(lines);
     push_time(lines, time);
     lines.add(&[ToDo, Cure(TOO_LONG)]);
 }
