@@ -94,7 +94,10 @@ impl<'a> FrameJudge for OwnCertificates<'a> {
 
 impl<'a> OwnCertificates<'a> {
     /// The frame and the ROM of these bytes: answers the first that applies of 2, 49 and 1.
-    pub fn images<'b>(&self, frame: &'b [u8]) -> Result<(FrameImage<'b>, RomImage<'a>), Refusal>
+    pub(crate) fn images<'b>(
+        &self,
+        frame: &'b [u8],
+    ) -> Result<(FrameImage<'b>, RomImage<'a>), Refusal>
         ensures ok { IfOk result (λ images. AreImages self.now frame.now images.0 images.1) }
         ensures err { IfErr result (λ refusal. VerdictBy self.now frame.now (Err (Check refusal))) }
     {
