@@ -1,6 +1,7 @@
 -- What a line of a label file tells. The forms are those of the files that ld65 and VICE, ACME, DASM and vasm write (docs/LABELS.md);
 -- what is taken of them is this project's own.
-use Rattle.std.specs.Prelude.{◌≡◌, ℕ, ◌+◌, ◌-◌, ◌*◌, ◌/◌, ◌%◌, Bool, true, false, ◌&&◌, ◌||◌, ◌==◌, nat_le, nat_lt, if◌then◌else◌, min, List, [], ◌∷◌, length, drop, slice_index, codes, Option, Some, None}
+use Rattle.std.specs.Prelude.{◌≡◌, ℕ, ◌+◌, ◌*◌, Bool, false, ◌&&◌, ◌||◌, ◌==◌, nat_le, nat_lt, if◌then◌else◌, min, List, [], ◌∷◌, length, drop, slice_index, codes, Option, Some, None}
+use Rattle.std.specs.List.{list_all}
 use Rattle.std.specs.Str.{bytes_eq}
 use Rattle.std.specs.Char.{digit_value}
 use Rattle.dvg_labels.specs.Limits.{LONGEST_NAME}
@@ -36,9 +37,8 @@ number [] = None
 number (c ∷ cs) = number_behind 0 (c ∷ cs)
 
 -- each byte is a graphic ASCII character
-unfoldable pub are_graphic : List ℕ → Bool
-are_graphic [] = true
-are_graphic (b ∷ bs) = (nat_le 33 b && nat_le b 126) && are_graphic bs
+abbrev pub are_graphic : List ℕ → Bool
+are_graphic bytes = list_all (λ b. nat_le 33 b && nat_le b 126) bytes
 
 -- the name of a label: 1 to 80 graphic ASCII characters
 abbrev pub is_name : List ℕ → Bool

@@ -37,16 +37,10 @@ fn number(digits: &[u8]) -> Option<u32>
 }
 
 /// Whether all bytes are graphic ASCII characters.
-#[tactic(auto, unfolding(crate::specs::Grammar::are_graphic))]
 fn are_graphic(bytes: &[u8]) -> bool
     ensures { result ≡ are_graphic bytes.now }
 {
-    for byte in bytes {
-        if !byte.is_ascii_graphic() {
-            return false;
-        }
-    }
-    true
+    bytes.iter().all(|byte| byte.is_ascii_graphic())
 }
 
 /// Whether a word may be a label's name.
