@@ -7,8 +7,6 @@ use Rattle.dvg_spelling.specs.Report.{answer_text, frame_refusal_text}
 use Rattle.dvg_spelling.specs.declared.outcome.Answer.TheVariants.{Judged}
 use Rattle.dvg_c.specs.declared.text.TextAnswer.{TextAnswer}
 use Rattle.dvg_c.specs.declared.answer.TheConstants.{SHORT_BUFFER, NO_TEXT_MEMORY}
-use Rattle.dvg_c.specs.declared.answer.OutOfRange.{OutOfRange}
-use Rattle.dvg_c.specs.Told.{bad_number}
 use Rattle.dvg_c.specs.Alone.{AloneVerdict, told_alone}
 
 -- the text stands whole at the buffer's start, and what is behind it is as it was; where it is longer than the buffer, all of the buffer
@@ -29,16 +27,16 @@ pub record IsAccount (v : Result Yes FrameRefusal) (text : List ℕ) : Type 0 wh
   pub text_is : text ≡ answer_text frame_refusal_text (Judged v) ++ codes "\n" ++ behind
 
 -- the text is the account of what a frame comes to, or there is none: for want of memory, or because something is out of range
-abbrev pub Explains : Result (Result Yes FrameRefusal) OutOfRange → Result (List ℕ) ℕ → Type 0
+abbrev pub Explains : Result (Result Yes FrameRefusal) ℕ → Result (List ℕ) ℕ → Type 0
 Explains (Ok v) (Ok text) = IsAccount v text
 Explains (Ok v) (Err number) = number ≡ NO_TEXT_MEMORY
-Explains (Err b) (Ok text) = ⊥
-Explains (Err b) (Err number) = number ≡ bad_number b
+Explains (Err n) (Ok text) = ⊥
+Explains (Err n) (Err number) = number ≡ n
 
 -- what the frame comes to is told, and so is the account of it
 pub record IsExplained (machine : ℕ) (rom : List ℕ) (map : MemoryMap) (frame : List ℕ) (budget : ℕ) (w : Window) (old new : List ℕ)
     (t : TextAnswer) : Type 0 where
-  pub verdict : Result (Result Yes FrameRefusal) OutOfRange
+  pub verdict : Result (Result Yes FrameRefusal) ℕ
   pub holds : AloneVerdict machine rom map frame budget w verdict
   pub answer_is : t.answer ≡ told_alone verdict
   pub frame_is : t.frame ≡ 0

@@ -1,4 +1,4 @@
-use Rattle.dvg_c.proofs.Common.{◌∙◌, Ok, Err, refl, ap, subst, bad_number, numbered, IsPut}
+use Rattle.dvg_c.proofs.Common.{◌∙◌, Ok, Err, refl, ap, subst, IsPut}
 use Rattle.dvg_c.specs.declared.answer.TheConstants.{NO_TEXT_MEMORY}
 use Rattle.dvg_c.proofs.exports.dvgcheck_explain.Goals as goal
 
@@ -34,9 +34,9 @@ returns c =
     record {
       verdict = Err c.in-Err.bad;
       holds = c.in-Err.ensures.err;
-      answer_is = ap (λ t. t.answer) c.no_text-in-Err.ensures ∙ c.numbered.ensures ∙ ap numbered c.number-in-Err.ensures.value;
+      answer_is = ap (λ t. t.answer) c.no_text-in-Err.ensures ∙ c.numbered.ensures;
       frame_is = ap (λ t. t.frame) c.no_text-in-Err.ensures;
-      text = Err (bad_number c.in-Err.bad);
+      text = Err c.in-Err.bad;
       explains = refl;
-      told = (ap (λ t. t.number) c.no_text-in-Err.ensures ∙ c.number.ensures.value, ap (λ t. t.length) c.no_text-in-Err.ensures, refl);
+      told = (ap (λ t. t.number) c.no_text-in-Err.ensures, ap (λ t. t.length) c.no_text-in-Err.ensures, refl);
     }
