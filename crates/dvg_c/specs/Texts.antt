@@ -7,6 +7,7 @@ use Rattle.dvg_spelling.specs.Report.{answer_text, frame_refusal_text}
 use Rattle.dvg_spelling.specs.declared.outcome.Answer.TheVariants.{Judged}
 use Rattle.dvg_c.specs.declared.text.TextAnswer.{TextAnswer}
 use Rattle.dvg_c.specs.declared.answer.TheConstants.{SHORT_BUFFER, NO_TEXT_MEMORY}
+use Rattle.dvg_c.specs.Told.{numbered}
 use Rattle.dvg_c.specs.Alone.{AloneVerdict, told_alone}
 
 -- the text stands whole at the buffer's start, and what is behind it is as it was; where it is longer than the buffer, all of the buffer
@@ -15,6 +16,10 @@ pub record IsPut (text old new : List ℕ) (t : TextAnswer) : Type 0 where
   pub length_is : t.length ≡ length text
   pub whole : length text ≤ length old → (t.number ≡ 0) × (new ≡ text ++ drop (length text) old)
   pub short : length old < length text → (t.number ≡ SHORT_BUFFER) × (new ≡ old)
+
+-- a number alone, of which there is no text
+abbrev pub text_numbered : ℕ → TextAnswer
+text_numbered n = record { length = 0; frame = 0; answer = numbered n; number = n }
 
 -- what is told of a text, or of the number that says why there is none
 abbrev pub TellsText : Result (List ℕ) ℕ → List ℕ → List ℕ → TextAnswer → Type 0

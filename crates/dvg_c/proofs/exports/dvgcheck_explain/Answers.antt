@@ -34,9 +34,9 @@ returns c =
     record {
       verdict = Err c.in-Err.bad;
       holds = c.in-Err.ensures.err;
-      answer_is = ap (λ t. t.answer) c.no_text-in-Err.ensures ∙ c.numbered.ensures;
-      frame_is = ap (λ t. t.frame) c.no_text-in-Err.ensures;
+      answer_is = ap (λ t. t.answer) c.text_numbered.ensures;
+      frame_is = ap (λ t. t.frame) c.text_numbered.ensures;
       text = Err c.in-Err.bad;
       explains = refl;
-      told = (ap (λ t. t.number) c.no_text-in-Err.ensures, ap (λ t. t.length) c.no_text-in-Err.ensures, refl);
+      told = (ap (λ t. t.number) c.text_numbered.ensures, ap (λ t. t.length) c.text_numbered.ensures, refl);
     }
