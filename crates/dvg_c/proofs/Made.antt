@@ -2,8 +2,8 @@
 use Rattle.dvg_c.proofs.Common.{◌≡◌, ◌≤◌, ℕ, List, [], ◌∷◌, Option, Result, Err, refl, ap, Machine, MemoryMap, IsMap, Key, of_each, WritesMade, MakesForFrames, FramesFaultMeans, machine_of, MakeVerdict, RunVerdict}
 use Rattle.dvg_spelling.specs.declared.fault.MakeRunFault.{MakeRunFault}
 use Rattle.dvg_c.specs.declared.passed.TheConstants.{BOARD}
-use Rattle.dvg_c.specs.declared.make.Unmade.{Unmade}
-use Rattle.dvg_c.specs.declared.make.Unmade.TheVariants as unmade
+use Rattle.dvg_c.specs.declared.text.TextAnswer.{TextAnswer}
+use Rattle.std.proofs.Common.{inr}
 
 -- what holds of each thing's told value, told again
 pub of_each_twice : {A B C : Type 0} (f : A → B) (g : B → C) (xs : List A) → of_each (λ x. g (f x)) xs ≡ of_each g (of_each f xs)
@@ -24,10 +24,8 @@ module _ (machine : Machine) (map : MemoryMap) {rom rom2 : Option (List ℕ)} {r
   refused_as f h = coe 0 1 (i. FramesFaultMeans machine (rom_is i) map (roots_are i) (frames_are i) f) h
 
 -- what comes of a run on the machine and at the map that stand for what C passes
-module _ {number : ℕ} {machine : Machine} {map map2 : MemoryMap} (rom : List ℕ) (roots : List (ℕ × Key)) (bytes lengths : List ℕ)
-    (machine_is : (machine ≡ machine_of number) × (number ≤ BOARD)) (map_is : (map ≡ map2) × IsMap map2) where
-  pub verdict_of : (v : Result (List ℕ) Unmade) → RunVerdict machine rom map roots bytes lengths v
-      → MakeVerdict number rom map2 roots bytes lengths v
-  verdict_of (Err unmade.Machine) h = absurd h
-  verdict_of (Err unmade.Map) h = absurd h
-  verdict_of v h = (machine_is.1, map_is.1, coe 0 1 (i. RunVerdict (machine_is.0 i) rom (map_is.0 i) roots bytes lengths v) h)
+pub verdict_of : {number : ℕ} {machine : Machine} {map map2 : MemoryMap} (rom : List ℕ) (roots : List (ℕ × Key)) (bytes lengths : List ℕ)
+    → (machine ≡ machine_of number) × (number ≤ BOARD) → (map ≡ map2) × IsMap map2 → (v : Result (List ℕ) TextAnswer)
+    → RunVerdict machine rom map roots bytes lengths v → MakeVerdict number rom map2 roots bytes lengths v
+verdict_of rom roots bytes lengths machine_is map_is v h =
+    inr (inr (machine_is.1, map_is.1, coe 0 1 (i. RunVerdict (machine_is.0 i) rom (map_is.0 i) roots bytes lengths v) h))

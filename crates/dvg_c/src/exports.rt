@@ -22,7 +22,7 @@ use crate::answer::{
     own_answer, timed_answer,
 };
 use crate::explain::account_of;
-use crate::make::{Root, Unmade, made_text, no_certificate};
+use crate::make::{Root, made_text};
 use crate::passed::{
     MapEnds, WindowEnds, machine_numbered, map_between, mode_numbered, window_for,
 };
@@ -30,7 +30,7 @@ use crate::recipe::{
     RecipeAnswer, member_answer_of, membership_in, put_witness, recipe_answer_of, recipe_numbered,
     recipe_options,
 };
-use crate::text::{TextAnswer, no_text, put_text};
+use crate::text::{TextAnswer, no_text, put_text, text_numbered};
 use dvg_cmd::Detail;
 use dvg_recipe_cmd::{Explained, Wanted, judge_text};
 use dvg_verdict::check_on;
@@ -76,7 +76,7 @@ pub extern "C" fn dvgcheck_frame_alone(
             let (verdict, clocks) = own.timed_verdict(alloc, frame);
             timed_answer(&verdict, &clocks)
         }
-        Err(bad) => numbered(bad.number()),
+        Err(bad) => numbered(bad),
     }
 }
 
@@ -109,7 +109,7 @@ pub extern "C" fn dvgcheck_explain(
                 None => no_text(NO_TEXT_MEMORY, answer),
             }
         }
-        Err(bad) => no_text(bad.number(), numbered(bad.number())),
+        Err(bad) => text_numbered(bad),
     }
 }
 
@@ -173,14 +173,14 @@ pub extern "C" fn dvgcheck_make(
     ensures { IsMade machine rom.now (map_of map) (of_each root_of roots.now) frames.now lengths.now text.old text.new result }
 {
     let Some(machine) = machine_numbered(machine) else {
-        return no_certificate(&Unmade::Machine);
+        return text_numbered(BAD_MACHINE);
     };
     let Some(map) = map_between(map) else {
-        return no_certificate(&Unmade::Map);
+        return text_numbered(BAD_MAP);
     };
     match made_text(alloc, machine, map, rom, roots, frames, lengths) {
         Ok(made) => put_text(&made, numbered(0), text),
-        Err(unmade) => no_certificate(&unmade),
+        Err(told) => told,
     }
 }
 
@@ -221,7 +221,7 @@ pub extern "C" fn dvgcheck_recipe<'a>(
             let judged = judge_text(alloc, &explained, Wanted::Witness);
             put_witness(&judged.witness, recipe_answer_of(&judged.verdict), frame)
         }
-        Err(bad) => recipe_numbered(bad.number()),
+        Err(bad) => recipe_numbered(bad),
     }
 }
 

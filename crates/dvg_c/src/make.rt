@@ -2,12 +2,10 @@
 
 ghost use Rattle.std.specs.Prelude.{◌≡◌, ℕ, List, Ok, Err, IfOk, IfErr};
 ghost use Rattle.dvg_spelling.specs.Each.{of_each};
-ghost use Rattle.dvg_c.specs.Making.{AreCut, RefusesCut, RunVerdict, TellsMade, root_of, told_run, told_unmade, unmade_frame};
+ghost use Rattle.dvg_c.specs.Making.{AreCut, RefusesCut, RunVerdict, root_of, told_run, told_unmade};
 
-use crate::answer::{
-    ANY_SCALE, Answer, BAD_LENGTHS, BAD_MACHINE, BAD_MAP, NO_CALL, numbered, unmade,
-};
-use crate::text::{TextAnswer, no_text};
+use crate::answer::{ANY_SCALE, Answer, BAD_LENGTHS, NO_CALL, numbered, unmade as unmade_answer};
+use crate::text::{TextAnswer, no_text, text_numbered};
 use dvg_cmd::{Counted, Key, MakeFault, MakeRunFault, run_make_frames};
 use dvg_words::{Machine, RomMap};
 use std::alloc::{AllocError, Global};
@@ -18,21 +16,6 @@ use std::alloc::{AllocError, Global};
 pub struct Root {
     pub addr: u16,
     pub scale: u8,
-}
-
-/// Why there is no certificate.
-#[derive(Clone, Copy)]
-pub enum Unmade {
-    /// The number stands for no machine.
-    Machine,
-    /// No ROM lies there.
-    Map,
-    /// The lengths of the frames don't add up to the length of their bytes.
-    Lengths,
-    /// There was no memory, other than the maker's.
-    Memory,
-    /// What the maker's run tells.
-    Run(MakeRunFault),
 }
 
 /// The address and the key of a root.
@@ -58,12 +41,12 @@ fn roots_of(alloc: Global, roots: &[Root]) -> Result<Vec<(u16, Key)>, AllocError
     Ok(all)
 }
 
-/// Readers of the frames that lie one behind the other in these bytes, with these lengths.
+/// Readers of the frames that lie one behind the other in these bytes, with these lengths, or what is told where there are none.
 fn frames_of<'a>(
     alloc: Global,
     bytes: &'a [u8],
     lengths: &[u32],
-) -> Result<Vec<Counted<&'a [u8]>>, Unmade>
+) -> Result<Vec<Counted<&'a [u8]>>, TextAnswer>
     ensures ok { IfOk result (λ readers. AreCut bytes.now lengths.now (of_each (λ reader. reader.device.now) readers.items)) }
     ensures err { IfErr result (RefusesCut bytes.now lengths.now) }
 {
@@ -72,21 +55,21 @@ fn frames_of<'a>(
     'frames: for i in 0..lengths.len() {
         let length = lengths[i] as usize;
         if rest.len() < length {
-            return Err(Unmade::Lengths);
+            return Err(text_numbered(BAD_LENGTHS));
         }
         let (frame, behind) = rest.split_at(length);
         if readers.push(Counted::new(frame)).is_err() {
-            return Err(Unmade::Memory);
+            return Err(text_numbered(MakeFault::Memory.number()));
         }
         rest = behind;
     }
     if !rest.is_empty() {
-        return Err(Unmade::Lengths);
+        return Err(text_numbered(BAD_LENGTHS));
     }
     Ok(readers)
 }
 
-/// The text of the certificate on a machine, for a ROM that lies at a map, or why there is none.
+/// The text of the certificate on a machine, for a ROM that lies at a map, or what is told where there is none.
 pub fn made_text(
     alloc: Global,
     machine: Machine,
@@ -95,13 +78,13 @@ pub fn made_text(
     roots: &[Root],
     frames: &[u8],
     lengths: &[u32],
-) -> Result<Vec<u8>, Unmade>
+) -> Result<Vec<u8>, TextAnswer>
     ensures ok { IfOk result (λ text. RunVerdict machine rom.now map (of_each root_of roots.now) frames.now lengths.now (Ok text.items)) }
-    ensures err { IfErr result (λ unmade. RunVerdict machine rom.now map (of_each root_of roots.now) frames.now lengths.now (Err unmade)) }
+    ensures err { IfErr result (λ told. RunVerdict machine rom.now map (of_each root_of roots.now) frames.now lengths.now (Err told)) }
 {
     let mut readers = frames_of(alloc, frames, lengths)?;
     let Ok(roots) = roots_of(alloc, roots) else {
-        return Err(Unmade::Memory);
+        return Err(text_numbered(MakeFault::Memory.number()));
     };
     let mut rom = Counted::new(rom);
     let mut out = Counted::new(Vec::new(alloc));
@@ -115,7 +98,7 @@ pub fn made_text(
         &mut out,
     ) {
         Ok(()) => Ok(out.into_inner()),
-        Err(fault) => Err(Unmade::Run(fault)),
+        Err(fault) => Err(unmade(&fault)),
     }
 }
 
@@ -127,7 +110,7 @@ fn run_answer(fault: &MakeRunFault) -> Answer
     match fault {
         MakeRunFault::Call { call, why } => Answer {
             call: call.at,
-            ..unmade(*why)
+            ..unmade_answer(*why)
         },
         MakeRunFault::Make(MakeFault::Unstraight { word }) => Answer {
             word: *word,
@@ -145,37 +128,13 @@ fn run_answer(fault: &MakeRunFault) -> Answer
     }
 }
 
-/// Why there is no certificate, as an answer.
-fn unmade_answer(unmade: &Unmade) -> Answer
-    ensures { result ≡ told_unmade unmade.now }
+/// What is told of a fault of the maker's run.
+fn unmade(fault: &MakeRunFault) -> TextAnswer
+    ensures { result ≡ told_unmade fault.now }
 {
-    match unmade {
-        Unmade::Machine => numbered(BAD_MACHINE),
-        Unmade::Map => numbered(BAD_MAP),
-        Unmade::Lengths => numbered(BAD_LENGTHS),
-        Unmade::Memory => numbered(MakeFault::Memory.number()),
-        Unmade::Run(fault) => run_answer(fault),
-    }
-}
-
-/// The frame that it is about, counted from 0.
-fn unmade_frame(unmade: &Unmade) -> usize
-    ensures { result ≡ unmade_frame unmade.now }
-{
-    match unmade {
-        Unmade::Run(fault) => fault.frame().unwrap_or(0),
-        _ => 0,
-    }
-}
-
-/// The answer where there is no certificate.
-#[tactic(auto, using(std::proofs::lemmas::Bool::Decides::nat_tests))]
-pub fn no_certificate(unmade: &Unmade) -> TextAnswer
-    ensures { (buffer : List ℕ) → TellsMade (Err unmade.now) buffer buffer result }
-{
-    let answer = unmade_answer(unmade);
+    let answer = run_answer(fault);
     TextAnswer {
-        frame: unmade_frame(unmade),
+        frame: fault.frame().unwrap_or(0),
         ..no_text(answer.number, answer)
     }
 }

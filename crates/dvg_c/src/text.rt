@@ -1,9 +1,9 @@
 //! Texts in the buffers that C passes.
 
 ghost use Rattle.std.specs.Prelude.{◌≡◌};
-ghost use Rattle.dvg_c.specs.Texts.{IsPut};
+ghost use Rattle.dvg_c.specs.Texts.{IsPut, text_numbered};
 
-use crate::answer::{Answer, SHORT_BUFFER};
+use crate::answer::{Answer, SHORT_BUFFER, numbered};
 
 /// The answer of a call that writes a text.
 #[repr(C)]
@@ -49,4 +49,11 @@ pub fn no_text(number: u8, answer: Answer) -> TextAnswer
         answer,
         number,
     }
+}
+
+/// Says by a number alone why there is no text, and no answer either.
+pub fn text_numbered(number: u8) -> TextAnswer
+    ensures { result ≡ text_numbered number }
+{
+    no_text(number, numbered(number))
 }

@@ -6,6 +6,6 @@ pub use Rattle.std.specs.Prelude.{Contains, IfSome}
 pub use Rattle.std.proofs.lemmas.Grind.{common_steps}
 pub use Rattle.dvg_words.proofs.Common.{◌≡◌, ℕ, suc, ◌+◌, ◌<◌, ◌≤◌, List, [], ◌∷◌, length, get_or, Some, refl, ap, subst, arith, rules, zero, Bool, ◌∙◌}
 pub use Rattle.dvg_labels.specs.Labels.{Named, named_of, Label, may_name, Names, IsNearest, StandsAt, StandsAtTwo, IsFound, IsAddress, Labelling}
-pub use Rattle.dvg_labels.specs.Cutting.{words, is_blank, has_bytes, first_of, lines, lines_behind, stops}
+pub use Rattle.dvg_labels.specs.Cutting.{words, is_blank, has_bytes, first_of, lines, lines_behind}
 pub use Rattle.dvg_labels.specs.Reading.{no_labels, with_line, with_lines, left}
-pub use Rattle.dvg_labels.specs.Grammar.{are_graphic, number_behind, MOST_VALUE}
+pub use Rattle.dvg_labels.specs.Grammar.{number_behind, MOST_VALUE}

@@ -1,6 +1,9 @@
 -- How lists are cut at the first element that passes a test.
 use Rattle.std.proofs.lemmas.List.Splits.{slice_split_first}
-use Rattle.dvg_labels.proofs.Common.{◌≡◌, ℕ, suc, ◌+◌, ◌<◌, Bool, true, false, not, cond, List, [], ◌∷◌, length, take, drop, refl, ap, sym, arith, one-add, slice_split, position_or_len, onto_first, filter, words, is_blank, has_bytes, first_of}
+use Rattle.std.proofs.lemmas.List.Folds.{length-prefix_len}
+use Rattle.std.specs.Prelude.{position}
+use Rattle.std.specs.Option.{unwrap_or}
+use Rattle.dvg_labels.proofs.Common.{◌≡◌, ℕ, suc, ◌+◌, ◌<◌, Bool, true, false, not, cond, List, [], ◌∷◌, length, take, drop, refl, ap, sym, arith, rules, common_steps, Some, None, one-add, slice_split, position_or_len, onto_first, filter, words, is_blank, has_bytes, first_of}
 
 -- the parts behind the first one, by what is left behind it
 abbrev pub parts_behind : {X : Type 0} → (X → Bool) → List X → List (List X)
@@ -23,6 +26,14 @@ pub cut_at : {X : Type 0} (p : X → Bool) (n : ℕ) (xs : List X) → n ≡ pos
     → slice_split p xs ≡ take n xs ∷ slice_split p (drop (n + 1) xs)
 cut_at p n [] is lt = absurd (omega arith)
 cut_at p n (x ∷ xs) is lt = grind (arith, (slice_split_first p (x ∷ xs) x))
+
+pub cut_in : {X : Type 0} (p : X → Bool) (n : ℕ) (xs : List X) → position p xs ≡ Some n
+    → (n < length xs) × (slice_split p xs ≡ take n xs ∷ slice_split p (drop (n + 1) xs))
+cut_in p n xs is = grind (arith, rules, cut_at)
+
+-- a list in which none passes is one part
+pub uncut : {X : Type 0} (p : X → Bool) (xs : List X) → position p xs ≡ None → slice_split p xs ≡ xs ∷ []
+uncut p xs is = grind (arith, rules, common_steps, (cut_first p xs), (length-prefix_len (λ x. not (p x)) xs))
 
 -- blanks before a word are passed over
 skip_step : (x : ℕ) (xs : List ℕ) (b : Bool) (n : ℕ) → words (drop n xs) ≡ words xs → is_blank x ≡ b
@@ -65,9 +76,20 @@ pub word_cut : (ys : List ℕ) → Passing (λ b. not (is_blank b)) ys → IsCut
 word_cut [] h = (refl, refl)
 word_cut (x ∷ xs) h = visible_step x xs (is_blank x) refl h
 
+-- where the first element that passes stands, or the length
+ended : {X : Type 0} (p : X → Bool) (xs : List X) → unwrap_or (position p xs) (length xs) ≡ position_or_len p xs
+ended p xs = grind (arith, rules, common_steps, (length-prefix_len (λ x. not (p x)) xs))
+
 -- blanks and a word taken off a line
-pub word_off : (xs rest : List ℕ) (m n : ℕ) → rest ≡ drop m xs → m ≡ position_or_len (λ b. not (is_blank b)) xs
-    → n ≡ position_or_len is_blank rest
+pub word_off : (xs rest : List ℕ) (m n : ℕ) → rest ≡ drop m xs → m ≡ unwrap_or (position (λ b. not (is_blank b)) xs) (length xs)
+    → n ≡ unwrap_or (position is_blank rest) (length rest)
     → (take n rest ≡ first_of (words xs)) × (words (drop n rest) ≡ drop 1 (words xs))
 word_off xs rest m n rest_is m_is n_is =
-    grind (arith, (first_passes (λ b. not (is_blank b)) xs), (skipped xs), (word_cut rest))
+    grind (
+      arith,
+      (first_passes (λ b. not (is_blank b)) xs),
+      (skipped xs),
+      (word_cut rest),
+      (ended (λ b. not (is_blank b)) xs),
+      (ended is_blank rest),
+    )

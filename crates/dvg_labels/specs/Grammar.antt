@@ -1,13 +1,13 @@
 -- What a line of a label file tells. The forms are those of the files that ld65 and VICE, ACME, DASM and vasm write (docs/LABELS.md);
 -- what is taken of them is this project's own.
-use Rattle.std.specs.Prelude.{◌≡◌, ℕ, ◌+◌, ◌-◌, ◌*◌, ◌/◌, ◌%◌, Bool, true, false, ◌&&◌, ◌||◌, ◌==◌, nat_le, nat_lt, if◌then◌else◌, min, List, [], ◌∷◌, length, drop, slice_index, codes, Option, Some, None}
+use Rattle.std.specs.Prelude.{ℕ, ◌+◌, ◌*◌, Bool, false, ◌&&◌, ◌||◌, ◌==◌, nat_le, nat_lt, if◌then◌else◌, min, List, [], ◌∷◌, length, drop, slice_index, codes, Option, Some, None}
+use Rattle.std.specs.List.{list_all}
 use Rattle.std.specs.Str.{bytes_eq}
 use Rattle.std.specs.Char.{digit_value}
 use Rattle.dvg_labels.specs.Limits.{LONGEST_NAME}
 use Rattle.dvg_labels.specs.Cutting.{words, first_of}
 use Rattle.dvg_labels.specs.declared.line.Told.{Told}
 use Rattle.dvg_labels.specs.declared.line.Told.TheVariants as told
-pub use Rattle.dvg_labels.specs.declared.fields.Fields.{Fields}
 
 -- what a line tells: nothing; a label and its value, if it has one; or it is of none of the forms
 pub data Meaning : Type 0 where
@@ -36,9 +36,8 @@ number [] = None
 number (c ∷ cs) = number_behind 0 (c ∷ cs)
 
 -- each byte is a graphic ASCII character
-unfoldable pub are_graphic : List ℕ → Bool
-are_graphic [] = true
-are_graphic (b ∷ bs) = (nat_le 33 b && nat_le b 126) && are_graphic bs
+abbrev pub are_graphic : List ℕ → Bool
+are_graphic bytes = list_all (λ b. nat_le 33 b && nat_le b 126) bytes
 
 -- the name of a label: 1 to 80 graphic ASCII characters
 abbrev pub is_name : List ℕ → Bool
@@ -56,13 +55,6 @@ untagged word = if slice_index word 1 == 58 then drop 2 word else (if slice_inde
 -- the words of a line without the `!addr` that ACME may put first
 abbrev pub statement : List (List ℕ) → List (List ℕ)
 statement ws = if bytes_eq (first_of ws) (codes "!addr") then drop 1 ws else ws
-
--- the first four of these words, or nothing where there are fewer
-pub record AreFields (ws : List (List ℕ)) (f : Fields) : Type 0 where
-  pub first : f.first.now ≡ first_of ws
-  pub second : f.second.now ≡ first_of (drop 1 ws)
-  pub third : f.third.now ≡ first_of (drop 1 (drop 1 ws))
-  pub fourth : f.fourth.now ≡ first_of (drop 1 (drop 1 (drop 1 ws)))
 
 -- a label, if its name is one and its value a number
 abbrev pub with_value : List ℕ → Option ℕ → Meaning

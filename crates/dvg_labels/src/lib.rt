@@ -7,7 +7,6 @@
 
 mod cutting;
 mod fault;
-mod fields;
 mod labels;
 mod limits;
 mod line;

@@ -1,9 +1,10 @@
 //! What a line of a label file tells.
 
-ghost use Rattle.std.specs.Prelude.{◌≡◌, true};
-ghost use Rattle.dvg_labels.specs.Grammar.{meaning_of, line_meaning, number, are_graphic, is_name, begins, is_flag, untagged, valued, valueless, vice, acme, row, tells_nothing};
+ghost use Rattle.std.specs.Prelude.{◌≡◌, true, drop};
+ghost use Rattle.dvg_labels.specs.Grammar.{meaning_of, line_meaning, number, are_graphic, is_name, begins, is_flag, untagged, valued, valueless, vice, acme, row, tells_nothing, statement};
+ghost use Rattle.dvg_labels.specs.Cutting.{words, first_of};
 
-use crate::fields::Fields;
+use crate::cutting::take_word;
 use crate::limits::LONGEST_NAME;
 
 /// What a line tells.
@@ -37,16 +38,10 @@ fn number(digits: &[u8]) -> Option<u32>
 }
 
 /// Whether all bytes are graphic ASCII characters.
-#[tactic(auto, unfolding(crate::specs::Grammar::are_graphic))]
 fn are_graphic(bytes: &[u8]) -> bool
     ensures { result ≡ are_graphic bytes.now }
 {
-    for byte in bytes {
-        if !byte.is_ascii_graphic() {
-            return false;
-        }
-    }
-    true
+    bytes.iter().all(|byte| byte.is_ascii_graphic())
 }
 
 /// Whether a word may be a label's name.
@@ -154,16 +149,27 @@ fn tells_nothing(first: &[u8]) -> bool
         || first == b"Symbols".as_slice()
 }
 
-/// What a line tells.
+/// The first word of a line but the `!addr` that ACME may put first, and what is behind it.
+fn take_first(line: &[u8]) -> (&[u8], &[u8])
+    ensures word { result.0.now ≡ first_of (statement (words line.now)) }
+    ensures behind { words result.1.now ≡ drop 1 (statement (words line.now)) }
+{
+    let (first, rest) = take_word(line);
+    if first == b"!addr".as_slice() {
+        take_word(rest)
+    } else {
+        (first, rest)
+    }
+}
+
+/// What a line tells, by its first four words; each is empty where there are fewer.
 pub fn read_line(line: &[u8]) -> Told<'_>
     ensures { meaning_of result ≡ line_meaning line.now }
 {
-    let Fields {
-        first,
-        second,
-        third,
-        fourth,
-    } = Fields::of(line);
+    let (first, rest) = take_first(line);
+    let (second, rest) = take_word(rest);
+    let (third, rest) = take_word(rest);
+    let (fourth, _) = take_word(rest);
     if tells_nothing(first) {
         Told::Nothing
     } else if first == b"al".as_slice() && begins(b'.', third) {

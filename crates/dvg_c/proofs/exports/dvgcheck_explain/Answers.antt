@@ -1,5 +1,5 @@
-use Rattle.dvg_c.proofs.Common.{◌∙◌, Ok, Err, refl, ap, subst, bad_number, numbered, IsPut}
-use Rattle.dvg_c.specs.declared.answer.TheConstants.{NO_TEXT_MEMORY}
+use Rattle.dvg_c.proofs.Common.{◌∙◌, Ok, Err, refl, ap, subst, IsPut}
+use Rattle.std.proofs.Common.{inl, inr}
 use Rattle.dvg_c.proofs.exports.dvgcheck_explain.Goals as goal
 
 pub returns-in-Some : goal.returns-in-Some
@@ -10,10 +10,11 @@ returns-in-Some c =
           c.verdict-verdict.ensures.told;
       answer_is = c.put_text.ensures.answer ∙ c.own_answer-answer.ensures.value;
       frame_is = c.put_text.ensures.frame;
-      text = Ok c.in-Some.account.items;
-      explains = c.in-Some.ensures;
-      told = subst (λ text. IsPut text c.args.text.now c.put_text.new.buffer c.put_text.result) c.deref.ensures.value
-          c.put_text.ensures.put;
+      told = inl (
+        c.in-Some.account.items,
+        c.in-Some.ensures,
+        subst (λ text. IsPut text c.args.text.now c.put_text.new.buffer c.put_text.result) c.deref.ensures.value c.put_text.ensures.put,
+      );
     }
 
 pub returns-in-Ok : goal.returns-in-Ok
@@ -24,9 +25,7 @@ returns-in-Ok c =
           c.verdict-verdict.ensures.told;
       answer_is = ap (λ t. t.answer) c.no_text.ensures ∙ c.own_answer-answer.ensures.value;
       frame_is = ap (λ t. t.frame) c.no_text.ensures;
-      text = Err NO_TEXT_MEMORY;
-      explains = refl;
-      told = (ap (λ t. t.number) c.no_text.ensures, ap (λ t. t.length) c.no_text.ensures, refl);
+      told = inr (ap (λ t. t.number) c.no_text.ensures, ap (λ t. t.length) c.no_text.ensures, refl);
     }
 
 pub returns : goal.returns
@@ -34,9 +33,7 @@ returns c =
     record {
       verdict = Err c.in-Err.bad;
       holds = c.in-Err.ensures.err;
-      answer_is = ap (λ t. t.answer) c.no_text-in-Err.ensures ∙ c.numbered.ensures ∙ ap numbered c.number-in-Err.ensures.value;
-      frame_is = ap (λ t. t.frame) c.no_text-in-Err.ensures;
-      text = Err (bad_number c.in-Err.bad);
-      explains = refl;
-      told = (ap (λ t. t.number) c.no_text-in-Err.ensures ∙ c.number.ensures.value, ap (λ t. t.length) c.no_text-in-Err.ensures, refl);
+      answer_is = ap (λ t. t.answer) c.text_numbered.ensures;
+      frame_is = ap (λ t. t.frame) c.text_numbered.ensures;
+      told = (ap (λ t. t.number) c.text_numbered.ensures, ap (λ t. t.length) c.text_numbered.ensures, refl);
     }

@@ -1,4 +1,5 @@
 use Rattle.dvg_c.proofs.Common.{◌∙◌, Some, ap, sym, of_each}
+use Rattle.std.proofs.Common.{inr}
 use Rattle.dvg_c.proofs.Made.{of_each_twice, written_as, refused_as}
 use Rattle.dvg_c.proofs.make.made_text.Goals as goal
 
@@ -21,7 +22,10 @@ returns-clause-err c =
     let readers = c.in_ok-readers.readers.items in
     let frames_are =
     ap (of_each (λ reader. Some reader.device.now)) c.deref_mut.ensures.value
-    ∙ of_each_twice (λ reader. reader.device.now) Some readers in (
+    ∙ of_each_twice (λ reader. reader.device.now) Some readers in
+    inr (
+      c.in-Err.fault,
+      c.unmade.ensures,
       of_each (λ reader. reader.device.now) readers,
       c.in_ok-readers.ensures.ok,
       refused_as c.args.machine c.args.map (ap (λ device. Some device.device.now) c.new-rom.ensures)

@@ -4,5 +4,5 @@ use Rattle.dvg_labels.proofs.cutting.take_word.Goals as goal
 
 pub returns-clause-behind : goal.returns-clause-behind
 returns-clause-behind c =
-    rw take_rest ((word_off c.args.line.now _ _ _ (take_rest c.args.line.now c.len_before.result) c.len_before.ensures.value
-    c.len_before-end.ensures.value).1)
+    rw take_rest ((word_off c.args.line.now _ _ _ (take_rest c.args.line.now c.unwrap_or.result)
+    (rw c.visible_at.ensures at c.unwrap_or.ensures) (rw c.blank_at.ensures at c.unwrap_or-end.ensures)).1)
