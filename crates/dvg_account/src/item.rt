@@ -106,10 +106,11 @@ fn push_words(lines: &mut Lines, words: Option<(u16, Option<u16>)>) {
 
 /// Adds the line of an item's instruction, or that its words are none.
 fn push_instruction(lines: &mut Lines, instruction: Option<Item>) {
-    lines.add(&[
-        Line("instruction"),
-        instruction.map_or(Text("none"), Piece::Instruction),
-    ]);
+    let instruction = match instruction {
+        Some(there) => Piece::Instruction(there),
+        None => Text("none"),
+    };
+    lines.add(&[Line("instruction"), instruction]);
 }
 
 /// Adds a line with this key that names another item, if there is one.
@@ -124,13 +125,17 @@ fn push_zeros(lines: &mut Lines, zeros: Option<Zeros>) {
     let Some(zeros) = zeros else {
         return;
     };
+    let before = match zeros.before {
+        Some(item) => Piece::Item(item),
+        None => Text("none"),
+    };
     lines.add(&[
         Line("zeros"),
         Address(zeros.first),
         Text(" to "),
         Address(zeros.last),
         Line("before zeros"),
-        zeros.before.map_or(Text("none"), Piece::Item),
+        before,
     ]);
 }
 
