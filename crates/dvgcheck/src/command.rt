@@ -2,10 +2,10 @@
 
 use crate::escaping::{escaped, marked, shown};
 use crate::form::Form;
-use crate::input::{Input, is_no_memory};
+use crate::input::Input;
 use crate::labels::load_labels;
 use crate::stop::Stop;
-use crate::subcommand::{Task, Verb, command, syntax_named};
+use crate::subcommand::{Task, command, syntax_named};
 use clap::ArgMatches;
 use clap::error::ErrorKind;
 use dvg_cmd::{
@@ -25,42 +25,20 @@ pub struct Named<'a> {
     pub name: String,
 }
 
-/// The certificates by which frames are judged.
-#[derive(Drop)]
-pub enum Certificates<'a> {
-    /// One made for each frame, over a ROM that lies there; and what is asked of the frames' clocks, if anything is.
-    Made(RomMap, Option<ClockOptions>),
-    /// The certificate in this file, for all frames.
-    Given(Input<'a>),
-}
-
-/// The frames that are judged.
-#[derive(Drop)]
-pub enum FrameNames<'a> {
-    /// Those of the command line.
-    Given(Vec<Named<'a>>),
-    /// Those that the list in this file names.
-    Listed(Input<'a>, NameEnd),
-    /// Those that are the records of this length in the files of the command line.
-    Records(Vec<Named<'a>>, RecordLength),
-}
-
 /// What is asked of frames, whatever frames they are, and what is written of them.
 #[derive(Drop)]
 pub struct Asked<'a> {
     pub rom: Input<'a>,
-    pub certificates: Certificates<'a>,
+    /// Where the ROM lies, unless a certificate says so.
+    pub map: RomMap,
+    /// The certificate for all frames, or `None` where one is made for each.
+    pub cert: Option<Input<'a>>,
+    /// What is asked of the frames' clocks, if anything is.
+    pub clocks: Option<ClockOptions>,
     pub options: FrameOptions,
     pub labels: Option<&'a Labels>,
     /// With the detail of answers, or `None` where remarks on accepted frames are wanted in their place.
     pub listing: Listing<Option<Detail<'a>>>,
-}
-
-impl<'a> Asked<'a> {
-    /// Whether accounts are written.
-    pub fn has_account(&self) -> bool {
-        matches!(self.listing.detail, Some(Detail::Account(_)))
-    }
 }
 
 /// What is written of frames, where remarks are found so.
@@ -103,14 +81,12 @@ pub struct BelongsAsked<'a> {
 pub fn words(rt: &HostRuntime) -> Result<Vec<String>, Stop> {
     match env::args(rt) {
         Ok(words) => Ok(words.collect(rt.alloc())?),
-        Err(error) if is_no_memory(&error) => Err(Stop::Run(RunFault::Memory)),
-        Err(_) => Err(unreadable(rt.alloc())),
+        Err(error) => Err(Stop::unread(&error, UNREAD_WORDS, 2)),
     }
 }
 
-fn unreadable(alloc: Global) -> Stop {
-    Stop::saying(String::from_str(alloc, "dvgcheck: cannot read the command line"))
-}
+/// What is said of a command line that can't be read.
+const UNREAD_WORDS: &str = "dvgcheck: cannot read the command line";
 
 /// The arguments that name files to read.
 const FILES: [&str; 10] = [
@@ -125,8 +101,9 @@ const USUAL_BUDGET: u32 = 20_000;
 #[derive(Drop)]
 pub struct Arguments<'a> {
     rt: &'a HostRuntime,
-    pub verb: Verb,
     pub task: Task,
+    /// What is written of an answer.
+    pub detail: Detail<'a>,
     matches: ArgMatches<'a>,
     pub labels: Option<&'a Labels>,
 }
@@ -135,20 +112,18 @@ impl<'a> Arguments<'a> {
     /// What `clap` makes of the words.
     pub fn parsed(rt: &'a HostRuntime, words: &'a [String]) -> Result<Arguments<'a>, Stop> {
         let alloc = rt.alloc();
-        let Some((verb, syntax, rest)) = syntax_named(words) else {
+        let Some((detail, syntax, rest)) = syntax_named(words) else {
             return Err(refused(alloc, words)?);
         };
         match syntax.command_for(alloc, rest)?.try_get_matches_from(rest) {
             Ok(matches) => Ok(Arguments {
                 rt,
-                verb,
                 task: syntax.task,
+                detail,
                 matches,
                 labels: None,
             }),
-            Err(error) if error.kind() == ErrorKind::OutOfMemory => {
-                Err(Stop::Run(RunFault::Memory))
-            }
+            Err(error) if error.kind() == ErrorKind::OutOfMemory => Err(RunFault::Memory.into()),
             Err(_) => Err(refused(alloc, words)?),
         }
     }
@@ -163,14 +138,14 @@ impl<'a> Arguments<'a> {
 
     /// The same arguments, with these labels.
     pub fn with_labels(self, labels: Option<&'a Labels>) -> Arguments<'a> {
-        Arguments { labels, ..self }
-    }
-
-    /// What is written of an answer.
-    pub fn detail(&self) -> Detail<'a> {
-        match self.verb {
-            Verb::Print => Detail::Line,
-            Verb::Explain => Detail::Account(self.labels),
+        let detail = match self.detail {
+            Detail::Line => Detail::Line,
+            Detail::Account(_) => Detail::Account(labels),
+        };
+        Arguments {
+            labels,
+            detail,
+            ..self
         }
     }
 
@@ -180,11 +155,6 @@ impl<'a> Arguments<'a> {
         } else {
             Machine::Profile
         }
-    }
-
-    /// What is said of arguments that `clap` takes.
-    fn bad(&self, line: &str) -> Stop {
-        Stop::saying(String::from_str(self.rt.alloc(), line))
     }
 
     /// What a word spells, if it has this form.
@@ -296,26 +266,28 @@ impl<'a> Arguments<'a> {
             given = given.saturating_add(files.iter().filter(|path| **path == "-").count());
         }
         if given > 1 {
-            return Err(self.bad("dvgcheck: standard input is given twice"));
+            return Err(Stop::Said("dvgcheck: standard input is given twice", 2));
         }
         Ok(())
     }
 
-    /// The frames that the arguments name.
-    fn frame_names(&self) -> Result<FrameNames<'a>, Stop> {
-        if let Some(word) = self.matches.get_str("records") {
-            let length = self.spelled(Form::Records, word, record_length_of(word))?;
-            return Ok(FrameNames::Records(self.files("FRAME")?, length));
+    /// The length of the records that the frames are, if they are records.
+    pub fn record_length(&self) -> Result<Option<RecordLength>, Stop> {
+        match self.matches.get_str("records") {
+            Some(word) => { Ok(Some(self.spelled(Form::Records, word, record_length_of(word))?)) }
+            None => Ok(None),
         }
-        let Some(list) = self.matches.get_str("list") else {
-            return Ok(FrameNames::Given(self.files("FRAME")?));
-        };
+    }
+
+    /// The list that names the frames, if one does, and what ends its names.
+    pub fn list(&self) -> Option<(Input<'a>, NameEnd)> {
+        let list = Input::named(self.rt, self.matches.get_str("list")?);
         let end = if self.matches.get_flag("null") {
             NameEnd::Nul
         } else {
             NameEnd::Line
         };
-        Ok(FrameNames::Listed(Input::named(self.rt, list), end))
+        Some((list, end))
     }
 
     /// What is written of frames, with this detail. `only_bad` is the option that leaves out the lines of the good ones.
@@ -331,8 +303,8 @@ impl<'a> Arguments<'a> {
         }
     }
 
-    /// What `frames` asks of which frames.
-    pub fn frames(&self) -> Result<(FrameNames<'a>, Asked<'a>), Stop> {
+    /// What `frames` asks of frames.
+    pub fn frames(&self) -> Result<Asked<'a>, Stop> {
         self.one_standard_input()?;
         let map = self.map()?;
         let window = self.window()?;
@@ -342,23 +314,17 @@ impl<'a> Arguments<'a> {
             budget: self.budget(),
             window,
         };
-        let certificates = match self.matches.get_str("cert") {
-            Some(cert) => Certificates::Given(Input::named(self.rt, cert)),
-            None => Certificates::Made(map, self.clocks()?),
-        };
-        let wanted = if self.matches.get_flag("remarks") {
-            None
-        } else {
-            Some(self.detail())
-        };
-        let asked = Asked {
+        let wanted = Some(self.detail).filter(|_| !self.matches.get_flag("remarks"));
+        let cert = self.matches.get_str("cert");
+        Ok(Asked {
             rom: self.file("ROM"),
-            certificates,
+            map,
+            cert: cert.map(|cert| Input::named(self.rt, cert)),
+            clocks: self.clocks()?,
             options,
             labels: self.labels,
             listing: self.listing(wanted, "only-refused"),
-        };
-        Ok((self.frame_names()?, asked))
+        })
     }
 
     /// How `check` is to judge.
@@ -380,7 +346,8 @@ impl<'a> Arguments<'a> {
     pub fn make(&self) -> Result<MakeArgs<'a>, Stop> {
         let words = self.matches.get_strs("ROOT").unwrap_or(&[]);
         if words.is_empty() && !self.matches.contains_id("frame") {
-            return Err(self.bad("dvgcheck: no root: a ROOT, as 800/0, or --frame FRAME wanted"));
+            let line = "dvgcheck: no root: a ROOT, as 800/0, or --frame FRAME wanted";
+            return Err(Stop::Said(line, 2));
         }
         self.one_standard_input()?;
         let map = self.map()?;
@@ -423,23 +390,22 @@ impl<'a> Arguments<'a> {
     /// The path of the file for a frame that shows why the one of so many recipes is refused.
     pub fn witness(&self, recipes: usize) -> Result<Option<&'a str>, Stop> {
         match self.matches.get_str("output") {
-            Some("-") => Err(self.bad("dvgcheck: -o takes a file, not -")),
-            Some(_) if recipes > 1 => Err(self.bad("dvgcheck: -o takes one recipe")),
+            Some("-") => Err(Stop::Said("dvgcheck: -o takes a file, not -", 2)),
+            Some(_) if recipes > 1 => Err(Stop::Said("dvgcheck: -o takes one recipe", 2)),
             path => Ok(path),
         }
     }
 
-    /// What `belongs` asks of which frames.
-    pub fn belongs(&self) -> Result<(FrameNames<'a>, BelongsAsked<'a>), Stop> {
+    /// What `belongs` asks of frames.
+    pub fn belongs(&self) -> Result<BelongsAsked<'a>, Stop> {
         self.one_standard_input()?;
-        let asked = BelongsAsked {
+        Ok(BelongsAsked {
             rom: self.file("ROM"),
             map: self.map()?,
             recipe: self.file("RECIPE"),
             labels: self.labels,
-            listing: self.listing(self.detail(), "only-outside"),
-        };
-        Ok((self.frame_names()?, asked))
+            listing: self.listing(self.detail, "only-outside"),
+        })
     }
 
     /// The rule that `rules` is to tell of, or `None` for all rules.
@@ -449,7 +415,7 @@ impl<'a> Arguments<'a> {
         };
         match rule_of(number) {
             Some(rule) => Ok(Some(rule)),
-            None => Err(self.bad("dvgcheck: no such number")),
+            None => Err(Stop::Said("dvgcheck: no such number", 2)),
         }
     }
 }
@@ -459,7 +425,7 @@ impl<'a> Arguments<'a> {
 fn refused(alloc: Global, words: &[String]) -> Result<Stop, AllocError> {
     let marked = marked(alloc, words)?;
     let Err(error) = command(alloc)?.try_get_matches_from(&marked) else {
-        return Ok(unreadable(alloc));
+        return Ok(Stop::Said(UNREAD_WORDS, 2));
     };
     if error.kind() == ErrorKind::OutOfMemory {
         return Err(AllocError);

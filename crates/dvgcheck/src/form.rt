@@ -16,47 +16,45 @@ pub enum Form {
 }
 
 impl Form {
-    fn name(self) -> &'static str {
+    /// Its name, the form as the help of options and messages show it, and what stands for the letters of the form.
+    fn texts(self) -> (&'static str, &'static str, &'static str) {
         match self {
-            Form::Map => "map",
-            Form::Window => "window",
-            Form::Root => "root",
-            Form::Start => "start",
-            Form::Within => "limit",
-            Form::Records => "record length",
+            Form::Map => (
+                "map",
+                "AAA/BBB",
+                "two word addresses within 400 to BFF, the lower one first, each of three hexadecimal digits in capitals",
+            ),
+            Form::Window => (
+                "window",
+                "X0,X1,Y0,Y1",
+                "four numbers of 0 to 1023 without leading zeros, X0 at most X1, and Y0 at most Y1",
+            ),
+            Form::Root => (
+                "root",
+                "AAA/SCALE",
+                "a word address of three hexadecimal digits in capitals, and a scale of 0 to 15 or any",
+            ),
+            Form::Start => (
+                "start",
+                "AAA",
+                "a word address of three hexadecimal digits in capitals",
+            ),
+            Form::Within => (
+                "limit",
+                "MS",
+                "milliseconds of 0.001 to 10000 without leading zeros, with at most three digits behind the point",
+            ),
+            Form::Records => (
+                "record length",
+                "N",
+                "an even number of bytes from 2 to 2048 without leading zeros",
+            ),
         }
     }
 
-    /// The form, as the help of options and messages show it.
+    /// The form, as the help of options shows it.
     pub fn pattern(self) -> &'static str {
-        match self {
-            Form::Map => "AAA/BBB",
-            Form::Window => "X0,X1,Y0,Y1",
-            Form::Root => "AAA/SCALE",
-            Form::Start => "AAA",
-            Form::Within => "MS",
-            Form::Records => "N",
-        }
-    }
-
-    /// What stands for the letters of the form.
-    fn parts(self) -> &'static str {
-        match self {
-            Form::Map => {
-                "two word addresses within 400 to BFF, the lower one first, each of three hexadecimal digits in capitals"
-            }
-            Form::Window => {
-                "four numbers of 0 to 1023 without leading zeros, X0 at most X1, and Y0 at most Y1"
-            }
-            Form::Root => {
-                "a word address of three hexadecimal digits in capitals, and a scale of 0 to 15 or any"
-            }
-            Form::Start => "a word address of three hexadecimal digits in capitals",
-            Form::Within => {
-                "milliseconds of 0.001 to 10000 without leading zeros, with at most three digits behind the point"
-            }
-            Form::Records => "an even number of bytes from 2 to 2048 without leading zeros",
-        }
+        self.texts().1
     }
 
     fn fits(self, word: &str) -> bool {
@@ -73,10 +71,8 @@ impl Form {
     /// The line on standard error, without its LF, about a word that has not this form: the word, the form, and the word that was
     /// meant, where that is known.
     pub fn message(self, alloc: Global, word: &str) -> Result<String, AllocError> {
-        let name = self.name();
+        let (name, pattern, parts) = self.texts();
         let given = shown(alloc, word)?;
-        let pattern = self.pattern();
-        let parts = self.parts();
         let mut line = format!(in alloc;
             "dvgcheck: bad {name} {given}: {pattern} wanted, {parts}"
         )?;
@@ -93,7 +89,7 @@ impl Form {
         why: Unnamed,
         word: &str,
     ) -> Result<String, AllocError> {
-        let name = self.name();
+        let (name, _, _) = self.texts();
         let given = shown(alloc, word)?;
         let why = match (self, why) {
             (Form::Start, Unnamed::Unknown) => "no label with this name is at a word of vector RAM",

@@ -1,19 +1,19 @@
 //! The file of labels.
 
-use crate::input::{Input, is_no_memory};
+use crate::input::Input;
 use crate::stop::Stop;
-use dvg_cmd::{LabelFault, LabelWhy, Labels, MOST_LABEL_BYTES, RunFault, read_labels};
+use dvg_cmd::{LabelFault, LabelWhy, Labels, MOST_LABEL_BYTES, read_labels};
 use std::alloc::{AllocError, Global};
 use std::io;
 use std::io::Read;
 
 /// Reads the labels of a file, to its end or to one byte past its limit.
 pub fn load_labels(rt: &HostRuntime, input: Input) -> Result<Labels, Stop> {
-    let bytes = match read_bytes(rt, input) {
-        Ok(bytes) => bytes,
-        Err(error) if is_no_memory(&error) => return Err(Stop::Run(RunFault::Memory)),
-        Err(_) => return Err(Stop::UnreadLabels),
-    };
+    let bytes = read_bytes(rt, input).map_err(|error| Stop::unread(
+        &error,
+        "dvgcheck: cannot read the labels",
+        3,
+    ))?;
     match read_labels(rt.alloc(), bytes.as_slice()) {
         Ok(labels) => Ok(labels),
         Err(fault) => Err(Stop::saying(message_of(rt.alloc(), fault))),
@@ -29,19 +29,20 @@ fn read_bytes(rt: &HostRuntime, input: Input) -> io::Result<Vec<u8>> {
 
 /// The line on standard error about labels with this fault, without its LF.
 fn message_of(alloc: Global, fault: LabelFault) -> Result<String, AllocError> {
-    let (line, why) = match fault {
+    match fault {
         LabelFault::TooLong => {
-            return format!(in alloc; "dvgcheck: bad labels: over {MOST_LABEL_BYTES} bytes");
+            format!(in alloc; "dvgcheck: bad labels: over {MOST_LABEL_BYTES} bytes")
         }
-        LabelFault::Line { line, why } => (line, why),
-    };
-    match why {
-        LabelWhy::Form => {
-            format!(in alloc; "dvgcheck: bad labels: line {line} has none of the forms of labels")
-        }
-        LabelWhy::TooMany => {
-            format!(in alloc; "dvgcheck: bad labels: line {line} has the 65537th label")
-        }
-        LabelWhy::Memory => Err(AllocError),
+        LabelFault::Line { line, why } => match why {
+            LabelWhy::Form => {
+                format!(in alloc;
+                    "dvgcheck: bad labels: line {line} has none of the forms of labels"
+                )
+            }
+            LabelWhy::TooMany => {
+                format!(in alloc; "dvgcheck: bad labels: line {line} has the 65537th label")
+            }
+            LabelWhy::Memory => Err(AllocError),
+        },
     }
 }

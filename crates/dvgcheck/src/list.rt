@@ -1,15 +1,19 @@
 //! A list of frames that a file or standard input holds, read as a stream.
 
 use crate::escaping::shown;
-use crate::frames_fault::FramesFault;
 use crate::input::{Input, Source};
+use crate::stop::Stop;
 use dvg_cmd::{Counted, NameBytes, NameEnd, NamedReader, read_name};
 use std::alloc::AllocError;
 use std::io::BufReader;
-use std::str;
+use std::{io, str};
 
 /// How many bytes a name may have.
 const LONGEST_NAME: usize = 4096;
+
+fn unread(error: &io::Error) -> Stop {
+    Stop::unread(error, "dvgcheck: cannot read the list", 3)
+}
 
 /// A list that is read name by name.
 #[derive(Drop)]
@@ -18,16 +22,20 @@ pub struct List {
     end: NameEnd,
     /// The first name, until its turn.
     first: Option<NameBytes>,
-    fault: Option<FramesFault>,
+    fault: Option<Stop>,
 }
 
 impl List {
     /// Opens a list and reads its first name.
-    pub fn open(rt: &HostRuntime, input: Input, end: NameEnd) -> Result<List, FramesFault> {
-        let mut source = Counted::new(BufReader::new(rt.alloc(), input.open(rt)?)?);
-        let first = read_name(&mut source, end)?;
+    pub fn open(rt: &HostRuntime, input: Input, end: NameEnd) -> Result<List, Stop> {
+        let source = input
+            .open(rt)
+            .and_then(|file| BufReader::new(rt.alloc(), file))
+            .map_err(|error| unread(&error))?;
+        let mut source = Counted::new(source);
+        let first = read_name(&mut source, end).map_err(|error| unread(&error))?;
         if first.is_none() {
-            return Err(FramesFault::EmptyList);
+            return Err(Stop::Said("dvgcheck: the list is empty", 2));
         }
         Ok(List {
             source,
@@ -52,22 +60,22 @@ impl List {
     }
 
     /// The fault behind which the list gave no name.
-    pub fn fault(&self) -> Option<FramesFault> {
+    pub fn fault(self) -> Option<Stop> {
         self.fault
     }
 
     fn read_frame(
         &mut self,
         rt: &HostRuntime,
-    ) -> Result<Option<NamedReader<Counted<Source>>>, FramesFault> {
+    ) -> Result<Option<NamedReader<Counted<Source>>>, Stop> {
         let name = match self.first.take() {
-            Some(first) => first,
-            None => match read_name(&mut self.source, self.end)? {
-                Some(name) => name,
-                None => return Ok(None),
-            },
+            Some(first) => Some(first),
+            None => { read_name(&mut self.source, self.end).map_err(|error| unread(&error))? }
         };
-        Ok(Some(frame_named(rt, name.as_slice())?))
+        match name {
+            Some(name) => Ok(Some(frame_named(rt, name.as_slice())?)),
+            None => Ok(None),
+        }
     }
 }
 

@@ -10,7 +10,6 @@ ghost use Rattle.std.specs.Prelude.{◌≡◌};
 mod command;
 mod escaping;
 mod form;
-mod frames_fault;
 mod input;
 mod labels;
 mod list;
@@ -23,14 +22,14 @@ mod stop;
 mod subcommand;
 mod together;
 
-use command::{Arguments, Asked, Certificates, MakeArgs, Named, listing_by};
+use command::{Arguments, Asked, MakeArgs, Named, listing_by};
 use dvg_cmd::{
-    ASTEROIDS, ClockOptions, Counted, CountedRead, CountedWrite, KeptCertificates, Labels,
-    MakeRunFault, NamedReader, Outcome, OwnCertificates, Remarking, RomMap, Rule, RunFault,
-    ShapeStarts, TimedCertificates, Window, all_rules, load_cert, load_rom, make_status_of,
-    message_of, run_check_in, run_comparison, run_explain_diff, run_explain_make, run_frames,
-    run_frames_given, run_make_frames, run_places, run_rule, run_rules, status_of,
-    write_make_answer, write_make_fault, write_message, write_text,
+    Counted, CountedRead, CountedWrite, Detail, KeptCertificates, Labels, MakeRunFault,
+    NamedReader, Outcome, OwnCertificates, Remarking, RomMap, Rule, RunFault, ShapeStarts,
+    TimedCertificates, Window, all_rules, load_cert, load_rom, make_status_of, message_of,
+    run_check_in, run_comparison, run_explain_diff, run_explain_make, run_frames, run_frames_given,
+    run_make_frames, run_places, run_rule, run_rules, status_of, write_make_answer,
+    write_make_fault, write_message, write_text,
 };
 use input::{Input, Source};
 use output::{Output, unwritten};
@@ -40,14 +39,11 @@ use std::io;
 use std::io::Printer;
 use std::process::ExitCode;
 use stop::Stop;
-use subcommand::{Task, Verb};
+use subcommand::Task;
 use together::read_frames;
 
 fn open<F: Drop>(rt: &HostRuntime, input: Input, fault: F) -> Result<Counted<Source>, F> {
-    match input.open(rt) {
-        Ok(file) => Ok(Counted::new(file)),
-        Err(_) => Err(fault),
-    }
+    input.open(rt).ok().map(Counted::new).ok_or(fault)
 }
 
 /// Standard output.
@@ -71,7 +67,7 @@ fn check(rt: &HostRuntime, arguments: &Arguments) -> Result<Outcome, Stop> {
         &mut cert,
         &mut frame,
         &options,
-        arguments.detail(),
+        arguments.detail,
         &mut standard_output(rt),
     )?)
 }
@@ -81,23 +77,13 @@ fn check(rt: &HostRuntime, arguments: &Arguments) -> Result<Outcome, Stop> {
 fn explain_together(
     rt: &HostRuntime,
     asked: &Asked,
-    map: RomMap,
-    clocks: Option<ClockOptions>,
     named: Vec<Named>,
 ) -> Result<Outcome, RunFault> {
     let rom = load_rom(&mut open(rt, asked.rom, RunFault::ReadRom)?)?;
-    let alone = own_certificates(asked, rom.as_slice(), map, None);
+    let alone = own_certificates(asked, rom.as_slice(), asked.map, None);
     let mut starts = ShapeStarts::new(rt.alloc())?;
     let frames = read_frames(rt, named, asked.options.start, &alone, &mut starts)?;
-    judge_by_own(
-        rt,
-        asked,
-        rom.as_slice(),
-        map,
-        Some(&starts),
-        clocks,
-        frames.into_iter(),
-    )
+    judge_by_own(rt, asked, rom.as_slice(), Some(&starts), frames.into_iter())
 }
 
 /// Judges frames by certificates of their own over this ROM, with their clocks, if these are asked for.
@@ -106,9 +92,7 @@ fn judge_by_own<'a, R: CountedRead + Drop, I: Iterator<Item = NamedReader<R>> + 
     rt: &HostRuntime,
     asked: &Asked<'a>,
     rom: &'a [u8],
-    map: RomMap,
     others: Option<&'a ShapeStarts>,
-    clocks: Option<ClockOptions>,
     frames: I,
 ) -> Result<Outcome, RunFault>
     requires can { I.can_next frames }
@@ -116,20 +100,19 @@ fn judge_by_own<'a, R: CountedRead + Drop, I: Iterator<Item = NamedReader<R>> + 
 {
     let mut out = standard_output(rt);
     let start = asked.options.start;
+    let own = own_certificates(asked, rom, asked.map, others);
     let remarking = Remarking {
-        own: own_certificates(asked, rom, map, others),
+        own: own_certificates(asked, rom, asked.map, others),
         labels: asked.labels,
     };
     let listing = listing_by(asked.listing, &remarking);
     let detail = listing.detail.of_answer();
-    match clocks {
+    match asked.clocks {
         Some(clocks) => {
-            let own = own_certificates(asked, rom, map, others);
             let mut judge = TimedCertificates::new(rt.alloc(), own, clocks, detail);
             run_frames(rt.alloc(), &mut judge, start, frames, listing, &mut out)
         }
         None => {
-            let own = own_certificates(asked, rom, map, others);
             let mut judge = KeptCertificates::new(rt.alloc(), own, detail);
             run_frames(rt.alloc(), &mut judge, start, frames, listing, &mut out)
         }
@@ -168,41 +151,36 @@ impl<'a> AskedOfFrames for Asked<'a> {
         frames: I,
     ) -> Result<Outcome, RunFault> {
         let rom = load_rom(&mut open(rt, self.rom, RunFault::ReadRom)?)?;
-        match self.certificates {
-            Certificates::Made(map, clocks) => {
-                judge_by_own(rt, self, rom.as_slice(), map, None, clocks, frames)
-            }
-            Certificates::Given(cert) => {
-                let cert = load_cert(rt.alloc(), &mut open(rt, cert, RunFault::ReadCert)?)?;
-                let map = match &cert {
-                    Ok(cert) => cert.map(),
-                    Err(_) => ASTEROIDS,
-                };
-                let remarking = Remarking {
-                    own: own_certificates(self, rom.as_slice(), map, None),
-                    labels: self.labels,
-                };
-                run_frames_given(
-                    rt.alloc(),
-                    rom.as_slice(),
-                    &cert,
-                    &self.options,
-                    frames,
-                    listing_by(self.listing, &remarking),
-                    &mut standard_output(rt),
-                )
-            }
-        }
+        let Some(cert) = self.cert else {
+            return judge_by_own(rt, self, rom.as_slice(), None, frames);
+        };
+        let cert = load_cert(rt.alloc(), &mut open(rt, cert, RunFault::ReadCert)?)?;
+        let map = match &cert {
+            Ok(cert) => cert.map(),
+            Err(_) => self.map,
+        };
+        let remarking = Remarking {
+            own: own_certificates(self, rom.as_slice(), map, None),
+            labels: self.labels,
+        };
+        run_frames_given(
+            rt.alloc(),
+            rom.as_slice(),
+            &cert,
+            &self.options,
+            frames,
+            listing_by(self.listing, &remarking),
+            &mut standard_output(rt),
+        )
     }
 
     /// Does so with the frames of the command line. Accounts of several frames by certificates of their own come when all frames are read.
     fn run_named(&self, rt: &HostRuntime, frames: Vec<Named>) -> Result<Outcome, RunFault> {
-        match self.certificates {
-            Certificates::Made(map, clocks) if self.has_account() && frames.len() > 1 => {
-                explain_together(rt, self, map, clocks, frames)
-            }
-            _ => self.run(rt, frames.into_iter().map(|frame| opened(rt, frame))),
+        let has_account = matches!(self.listing.detail, Some(Detail::Account(_)));
+        if self.cert.is_none() && has_account && frames.len() > 1 {
+            return explain_together(rt, self, frames);
         }
+        self.run(rt, frames.into_iter().map(|frame| opened(rt, frame)))
     }
 }
 
@@ -367,9 +345,7 @@ fn tell(rt: &HostRuntime, stop: &Stop) -> u8 {
             2
         }
         Stop::Line(line) => say(rt, line.as_str(), 2),
-        Stop::UnreadLabels => say(rt, "dvgcheck: cannot read the labels", 3),
-        Stop::Frames(fault, frames) => say(rt, fault.message(), fault.status(*frames)),
-        Stop::Run(fault) => tell_end(rt, &Err(*fault)),
+        Stop::Said(line, status) => say(rt, line, *status),
     }
 }
 
@@ -383,10 +359,7 @@ fn tell_end(rt: &HostRuntime, end: &Result<Outcome, RunFault>) -> u8 {
 
 /// The name of a frame, or none where no frame is meant.
 fn name_of<'a>(frames: &'a [Named], frame: Option<usize>) -> &'a str {
-    let Some(frame) = frame else {
-        return "";
-    };
-    match frames.get(frame) {
+    match frames.get(frame.unwrap_or(frames.len())) {
         Some(frame) => frame.name.as_str(),
         None => "",
     }
@@ -415,11 +388,11 @@ fn explain_diff(rt: &HostRuntime, arguments: &Arguments) -> Result<u8, Stop> {
 /// Runs a task that certificates are made for; the status of `diff` is 1 if something is touched.
 fn run_maker_task(rt: &HostRuntime, arguments: &Arguments) -> Result<u8, Stop> {
     let args = arguments.make()?;
-    let end = match (arguments.task, arguments.verb) {
+    let end = match (arguments.task, arguments.detail) {
         (Task::Places, _) => places(rt, &args, arguments.window()?).map(|()| 0),
         (Task::Diff, _) => diff(rt, &args, arguments.file("OTHER")).map(u8::from),
-        (_, Verb::Print) => make(rt, &args, arguments.output()).map(|()| 0),
-        (_, Verb::Explain) => explain_make(rt, &args, arguments.labels),
+        (_, Detail::Line) => make(rt, &args, arguments.output()).map(|()| 0),
+        (_, Detail::Account(labels)) => explain_make(rt, &args, labels),
     };
     Ok(tell_make(rt, &args.frames, end))
 }
@@ -427,21 +400,15 @@ fn run_maker_task(rt: &HostRuntime, arguments: &Arguments) -> Result<u8, Stop> {
 /// Runs a task, and answers the exit status. All arguments are read before any file but the labels is opened.
 fn run_task(rt: &HostRuntime, arguments: &Arguments) -> Result<u8, Stop> {
     let outcome = match arguments.task {
-        Task::Diff if arguments.verb == Verb::Explain => return explain_diff(rt, arguments),
-        Task::Frames => {
-            let (names, asked) = arguments.frames()?;
-            run_over(rt, names, &asked)?
-        }
+        Task::Diff if arguments.detail.has_account() => return explain_diff(rt, arguments),
+        Task::Frames => run_over(rt, arguments, &arguments.frames()?)?,
         Task::Check => check(rt, arguments)?,
         Task::Make | Task::Places | Task::Diff => return run_maker_task(rt, arguments),
         Task::Recipe => match arguments.printed()? {
             Some(recipe) => print(rt, arguments, &recipe)?,
             None => judge_recipes(rt, arguments)?,
         },
-        Task::Belongs => {
-            let (names, asked) = arguments.belongs()?;
-            run_over(rt, names, &asked)?
-        }
+        Task::Belongs => run_over(rt, arguments, &arguments.belongs()?)?,
         Task::Rules => {
             rules(rt, arguments.rule()?)?;
             Outcome::Accepted
@@ -450,25 +417,19 @@ fn run_task(rt: &HostRuntime, arguments: &Arguments) -> Result<u8, Stop> {
     Ok(status_of(&Ok(outcome)))
 }
 
-/// Runs what these words ask for, and answers the exit status.
-fn run_words(rt: &HostRuntime, words: &[String]) -> Result<u8, Stop> {
-    let arguments = Arguments::parsed(rt, words)?;
+/// Runs what the words of the command line ask for, and answers the exit status.
+fn run(rt: &HostRuntime) -> Result<u8, Stop> {
+    let words = command::words(rt)?;
+    let arguments = Arguments::parsed(rt, &words)?;
     let labels = arguments.load_labels()?;
     let arguments = arguments.with_labels(labels.as_ref());
     run_task(rt, &arguments)
 }
 
-fn run(rt: &HostRuntime) -> u8 {
-    let words = match command::words(rt) {
-        Ok(words) => words,
-        Err(stop) => return tell(rt, &stop),
-    };
-    match run_words(rt, &words) {
-        Ok(status) => status,
-        Err(stop) => tell(rt, &stop),
-    }
-}
-
 fn main(rt: HostRuntime) -> ExitCode {
-    ExitCode::from(run(&rt))
+    let status = match run(&rt) {
+        Ok(status) => status,
+        Err(stop) => tell(&rt, &stop),
+    };
+    ExitCode::from(status)
 }

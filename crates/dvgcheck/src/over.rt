@@ -2,7 +2,7 @@
 
 ghost use Rattle.std.specs.Iterator.{IsFinite};
 
-use crate::command::{FrameNames, Named};
+use crate::command::{Arguments, Named};
 use crate::input::Source;
 use crate::list::List;
 use crate::records::Records;
@@ -38,29 +38,24 @@ pub fn opened(rt: &HostRuntime, named: Named) -> NamedReader<Counted<Source>> {
 /// Answers frames. A list is read name by name, beginning before any other file is opened, and a record is answered as soon as it is read.
 pub fn run_over<A: AskedOfFrames>(
     rt: &HostRuntime,
-    names: FrameNames,
+    arguments: &Arguments,
     asked: &A,
 ) -> Result<Outcome, Stop> {
-    let (end, fault) = match names {
-        FrameNames::Given(named) => (asked.run_named(rt, named), None),
-        FrameNames::Listed(input, end) => {
-            let mut list = List::open(rt, input, end)?;
-            // No list has so many names.
-            let frames = (0..u64::MAX).map_while(|_| list.next_frame(rt));
-            let end = asked.run(rt, frames);
-            (end, list.fault())
-        }
-        FrameNames::Records(files, length) => {
-            let mut records = Records::new(files, length);
-            // No files have so many records.
-            let frames = (0..u64::MAX).map_while(|_| records.step(rt)).flatten();
-            let end = asked.run(rt, frames);
-            (end, records.fault())
-        }
+    let (outcome, fault) = if let Some(length) = arguments.record_length()? {
+        let mut records = Records::new(arguments.files("FRAME")?, length);
+        // No files have so many records.
+        let frames = (0..u64::MAX).map_while(|_| records.step(rt)).flatten();
+        (asked.run(rt, frames)?, records.fault())
+    } else if let Some((input, end)) = arguments.list() {
+        let mut list = List::open(rt, input, end)?;
+        // No list has so many names.
+        let frames = (0..u64::MAX).map_while(|_| list.next_frame(rt));
+        (asked.run(rt, frames)?, list.fault())
+    } else {
+        (asked.run_named(rt, arguments.files("FRAME")?)?, None)
     };
-    let outcome = end?;
     match fault {
-        Some(fault) => Err(Stop::Frames(fault, outcome)),
+        Some(fault) => Err(fault.behind(outcome)),
         None => Ok(outcome),
     }
 }

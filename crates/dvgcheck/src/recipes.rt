@@ -24,7 +24,7 @@ pub fn judge_recipes(rt: &HostRuntime, arguments: &Arguments) -> Result<Outcome,
             rom.as_slice(),
             &asked,
             arguments.labels,
-            arguments.detail(),
+            arguments.detail,
             recipes.into_iter().map(|recipe| opened(rt, recipe)),
             &mut standard_output(rt),
         )?,
@@ -38,10 +38,9 @@ fn judge_for_witness(
     rom: &[u8],
     arguments: &Arguments,
     asked: &RecipeAsked,
-    recipes: Vec<Named>,
+    mut recipes: Vec<Named>,
     path: &str,
 ) -> Result<Outcome, RunFault> {
-    let mut recipes = recipes;
     let Some(recipe) = recipes.pop() else {
         return Ok(Outcome::Accepted);
     };

@@ -1,8 +1,8 @@
 //! Frames that are the records of files, read record by record.
 
 use crate::command::Named;
-use crate::frames_fault::FramesFault;
 use crate::input::{Kept, Source, kept_frame};
+use crate::stop::Stop;
 use dvg_cmd::{Counted, NamedReader, Record, RecordLength, read_record, record_name};
 use std::alloc::{AllocError, Global};
 use std::vec::IntoIter;
@@ -23,7 +23,7 @@ pub struct Records<'a> {
     files: IntoIter<Named<'a>>,
     length: RecordLength,
     current: Option<Recording>,
-    fault: Option<FramesFault>,
+    fault: Option<Stop>,
 }
 
 impl<'a> Records<'a> {
@@ -49,15 +49,15 @@ impl<'a> Records<'a> {
         };
         match stepped {
             Ok(frame) => Some(frame),
-            Err(_) => {
-                self.fault = Some(FramesFault::OutOfMemory);
+            Err(error) => {
+                self.fault = Some(error.into());
                 None
             }
         }
     }
 
     /// The last fault that was met.
-    pub fn fault(&self) -> Option<FramesFault> {
+    pub fn fault(self) -> Option<Stop> {
         self.fault
     }
 
@@ -83,9 +83,8 @@ impl<'a> Records<'a> {
     fn read(
         &mut self,
         alloc: Global,
-        recording: Recording,
+        mut recording: Recording,
     ) -> Result<Option<NamedReader<Kept>>, AllocError> {
-        let mut recording = recording;
         let number = recording.next;
         match read_record(alloc, &mut recording.source, self.length)? {
             Record::Whole(bytes) => {
@@ -97,7 +96,7 @@ impl<'a> Records<'a> {
             Record::Cut => Ok(Some(frame_of(alloc, recording.name.as_str(), number, None)?)),
             Record::End => {
                 if number == 1 {
-                    self.fault = Some(FramesFault::NoRecord);
+                    self.fault = Some(Stop::Said("dvgcheck: no record", 2));
                 }
                 Ok(None)
             }

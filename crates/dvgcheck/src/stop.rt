@@ -1,8 +1,9 @@
 //! Why a run ends without an answer, or before its last.
 
-use crate::frames_fault::FramesFault;
-use dvg_cmd::{Outcome, RunFault};
+use crate::input::is_no_memory;
+use dvg_cmd::{Outcome, RunFault, message_of, status_of};
 use std::alloc::{AllocError, AllocFailed};
+use std::io;
 
 /// Why a run ends without an answer, or before its last.
 #[derive(Drop)]
@@ -13,11 +14,8 @@ pub enum Stop {
     Usage(String),
     /// An argument that `clap` takes, or the file of labels, has no meaning: the line on standard error, without its LF.
     Line(String),
-    /// The labels can't be opened or read.
-    UnreadLabels,
-    /// There are no frames, or none any more behind frames that came to this.
-    Frames(FramesFault, Outcome),
-    Run(RunFault),
+    /// Anything else: the line on standard error, without its LF, and the exit status.
+    Said(&'static str, u8),
 }
 
 impl Stop {
@@ -28,28 +26,39 @@ impl Stop {
             Err(error) => error.into(),
         }
     }
+
+    /// That something could not be read, which this line and this status tell, unless there was no memory for it.
+    pub fn unread(error: &io::Error, line: &'static str, status: u8) -> Stop {
+        if is_no_memory(error) {
+            RunFault::Memory.into()
+        } else {
+            Stop::Said(line, status)
+        }
+    }
+
+    /// The same behind frames that came to this: that one of them could not be read is worse than that memory was out.
+    pub fn behind(self, frames: Outcome) -> Stop {
+        match (self, frames) {
+            (Stop::Said(line, 4), Outcome::Unread) => Stop::Said(line, 3),
+            (stop, _) => stop,
+        }
+    }
 }
 
 impl From<RunFault> for Stop {
     fn from(fault: RunFault) -> Stop {
-        Stop::Run(fault)
-    }
-}
-
-impl From<FramesFault> for Stop {
-    fn from(fault: FramesFault) -> Stop {
-        Stop::Frames(fault, Outcome::Accepted)
+        Stop::Said(message_of(&fault), status_of(&Err(fault)))
     }
 }
 
 impl From<AllocError> for Stop {
     fn from(_error: AllocError) -> Stop {
-        Stop::Run(RunFault::Memory)
+        RunFault::Memory.into()
     }
 }
 
 impl<T: Drop> From<AllocFailed<T>> for Stop {
     fn from(_error: AllocFailed<T>) -> Stop {
-        Stop::Run(RunFault::Memory)
+        RunFault::Memory.into()
     }
 }

@@ -6,6 +6,7 @@ use crate::options::CommandOption::{
     Print, Records, Remarks, Start, Summary, Window, Within,
 };
 use clap::{Arg, Command, value_parser};
+use dvg_cmd::Detail;
 use std::alloc::{AllocError, Global};
 
 /// What `--version` says behind the program's name: its version, and the logic with which it is proved.
@@ -22,13 +23,6 @@ pub enum Task {
     Recipe,
     Belongs,
     Rules,
-}
-
-/// Whether an answer is printed alone or, with `explain` before the task, an account of it, too.
-#[derive(Clone, Copy, PartialEq, Eq)]
-pub enum Verb {
-    Print,
-    Explain,
 }
 
 /// What stands at a place of the command line.
@@ -247,22 +241,18 @@ impl Task {
             Task::Rules => "rules",
         }
     }
-
-    /// What the help says behind its arguments and options.
-    fn after_help<'a>(self) -> &'a str {
-        match self {
-            Task::Rules => SHORTEST_HELP,
-            _ => INPUT_HELP,
-        }
-    }
 }
 
 impl<'a> Syntax<'a> {
     /// Its command, with its arguments and these of its options.
     fn command(&self, alloc: Global, options: &[CommandOption]) -> Result<Command<'a>, AllocError> {
+        let behind = match self.task {
+            Task::Rules => SHORTEST_HELP,
+            _ => INPUT_HELP,
+        };
         let mut command = Command::new(alloc, self.task.name())
             .about(self.about)
-            .after_help(self.task.after_help());
+            .after_help(behind);
         for argument in self.arguments {
             command = command.arg(argument.arg(alloc)?)?;
         }
@@ -289,15 +279,18 @@ impl<'a> Syntax<'a> {
     }
 }
 
-/// What these words name, with `explain` before the task or without, and the words behind its name. The first word is the program's name.
-pub fn syntax_named(words: &[String]) -> Option<(Verb, Syntax<'static>, &[String])> {
+/// What these words name, with an account if `explain` stands before the task, and the words behind its name. The first word is the
+/// program's name.
+pub fn syntax_named<'a>(
+    words: &'a [String],
+) -> Option<(Detail<'a>, Syntax<'static>, &'a [String])> {
     let (_, words) = words.split_first()?;
     let (name, rest) = words.split_first()?;
     if name.as_str() != "explain" {
-        return Some((Verb::Print, named(&PRINTED, name)?, rest));
+        return Some((Detail::Line, named(&PRINTED, name)?, rest));
     }
     let (name, rest) = rest.split_first()?;
-    Some((Verb::Explain, named(&EXPLAINED, name)?, rest))
+    Some((Detail::Account(None), named(&EXPLAINED, name)?, rest))
 }
 
 /// The one of these whose task has this name.
