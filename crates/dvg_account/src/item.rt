@@ -122,21 +122,24 @@ pub fn push_item(lines: &mut Lines, key: &'static str, item: Option<Item>) {
 
 /// Adds the lines of the zeros that lead to an item, if there are any, and of the item before them, or that there is none.
 fn push_zeros(lines: &mut Lines, zeros: Option<Zeros>) {
-    let Some(zeros) = zeros else {
-        return;
-    };
-    let before = match zeros.before {
+    if let Some(zeros) = zeros {
+        lines.add(&[
+            Line("zeros"),
+            Address(zeros.first),
+            Text(" to "),
+            Address(zeros.last),
+            Line("before zeros"),
+            item_or_none(zeros.before),
+        ]);
+    }
+}
+
+/// An item, or that there is none.
+fn item_or_none(item: Option<Item>) -> Piece {
+    match item {
         Some(item) => Piece::Item(item),
         None => Text("none"),
-    };
-    lines.add(&[
-        Line("zeros"),
-        Address(zeros.first),
-        Text(" to "),
-        Address(zeros.last),
-        Line("before zeros"),
-        before,
-    ]);
+    }
 }
 
 /// The entry that is named by what was found.

@@ -35,7 +35,6 @@ pub fn push_slow(
     limit: u64,
     time: &FrameTime,
 ) {
-    let framed = FrameOn::new(inputs.machine, frame);
     lines.push_machine(inputs.machine);
     lines.push_zone(&inputs.window);
     lines.add(&[
@@ -45,7 +44,7 @@ pub fn push_slow(
         Text("with it the frame may take more clocks than the limit, "),
         Number(limit),
     ]);
-    RefusedItem::call(&framed, at).push_lines(lines);
+    RefusedItem::call(&FrameOn::new(inputs.machine, frame), at).push_lines(lines);
     push_time(lines, time);
     lines.add(&[ToDo, Cure(TOO_LONG)]);
 }

@@ -1,5 +1,5 @@
 -- Runs of the maker, over values that stand for those of C's arguments.
-use Rattle.dvg_c.proofs.Common.{◌≡◌, ◌≤◌, ℕ, List, [], ◌∷◌, Option, Result, Err, refl, ap, Machine, MemoryMap, IsMap, Key, of_each, WritesMade, MakesForFrames, FramesFaultMeans, machine_of, MakeVerdict, RunVerdict}
+use Rattle.dvg_c.proofs.Common.{◌≡◌, ◌≤◌, ℕ, List, [], ◌∷◌, Option, Result, refl, ap, Machine, MemoryMap, IsMap, Key, of_each, WritesMade, MakesForFrames, FramesFaultMeans, machine_of, MakeVerdict, RunVerdict}
 use Rattle.dvg_spelling.specs.declared.fault.MakeRunFault.{MakeRunFault}
 use Rattle.dvg_c.specs.declared.passed.TheConstants.{BOARD}
 use Rattle.dvg_c.specs.declared.text.TextAnswer.{TextAnswer}

@@ -1,6 +1,6 @@
 //! The certificate that the maker makes, as a text in C's buffer.
 
-ghost use Rattle.std.specs.Prelude.{◌≡◌, ℕ, List, Ok, Err, IfOk, IfErr};
+ghost use Rattle.std.specs.Prelude.{◌≡◌, Ok, Err, IfOk, IfErr};
 ghost use Rattle.dvg_spelling.specs.Each.{of_each};
 ghost use Rattle.dvg_c.specs.Making.{AreCut, RefusesCut, RunVerdict, root_of, told_run, told_unmade};
 

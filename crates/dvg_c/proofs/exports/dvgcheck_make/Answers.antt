@@ -1,4 +1,4 @@
-use Rattle.dvg_c.proofs.Common.{◌∙◌, Ok, Err, refl, sym, ap, subst, of_each, root_of, IsPut}
+use Rattle.dvg_c.proofs.Common.{◌∙◌, Ok, Err, refl, ap, subst, of_each, root_of, IsPut}
 use Rattle.std.proofs.Common.{inl, inr}
 use Rattle.dvg_c.proofs.Made.{verdict_of}
 use Rattle.dvg_c.proofs.exports.dvgcheck_make.Goals as goal
