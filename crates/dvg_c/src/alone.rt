@@ -4,26 +4,26 @@ ghost use Rattle.std.specs.Prelude.{◌≡◌, IfOk, IfErr};
 ghost use Rattle.dvg_c.specs.Told.{machine_of, map_of, window_of};
 ghost use Rattle.dvg_c.specs.Alone.{IsBad, JudgesAlone};
 
-use crate::answer::{BAD_MACHINE, BAD_MAP, BAD_WINDOW};
+use crate::answer::OutOfRange;
 use crate::passed::{MapEnds, WindowEnds, machine_numbered, map_between, window_for};
 use dvg_cmd::OwnCertificates;
 
-/// The judge of frames, each by its own certificate, over a ROM at a map, or the number of the first of the machine, the map and the window
-/// that is out of range.
+/// The judge of frames, each by its own certificate, over a ROM at a map, or the first of the machine, the map and the window that is
+/// out of range.
 pub fn own_certificates<'a>(
     machine: u32,
     rom: &'a [u8],
     map: MapEnds,
     budget: u32,
     window: WindowEnds,
-) -> Result<OwnCertificates<'a>, u8>
+) -> Result<OwnCertificates<'a>, OutOfRange>
     ensures ok { IfOk result (JudgesAlone machine rom.now (map_of map) budget (window_of window)) }
     ensures over { IfOk result (λ own. (own.machine ≡ machine_of machine) × (own.map ≡ map_of map) × (own.rom.now ≡ rom.now)) }
     ensures err { IfErr result (IsBad machine (map_of map) (window_of window)) }
 {
-    let machine = machine_numbered(machine).ok_or(BAD_MACHINE)?;
-    let map = map_between(map).ok_or(BAD_MAP)?;
-    let window = window_for(machine, window).ok_or(BAD_WINDOW)?;
+    let machine = machine_numbered(machine).ok_or(OutOfRange::Machine)?;
+    let map = map_between(map).ok_or(OutOfRange::Map)?;
+    let window = window_for(machine, window).ok_or(OutOfRange::Window)?;
     Ok(OwnCertificates {
         machine,
         rom,

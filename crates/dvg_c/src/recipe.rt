@@ -7,7 +7,7 @@ ghost use Rattle.dvg_c.specs.Told.{map_of, window_of};
 ghost use Rattle.dvg_c.specs.Alone.{AreTaken, IsBad};
 ghost use Rattle.dvg_c.specs.Recipes.{MemberVerdict, TellsWitness, at_line, options_of, recipe_numbered, recipe_yes_of, told_member, told_recipe, told_recipe_no, told_unmade_for};
 
-use crate::answer::{BAD_MAP, BAD_WINDOW, NO_TEXT_MEMORY, numbered, scale_of, unmade};
+use crate::answer::{NO_TEXT_MEMORY, OutOfRange, numbered, scale_of, unmade};
 use crate::passed::{MapEnds, WindowEnds, map_between, window_for};
 use crate::text::put_text;
 use dvg_check::Yes;
@@ -131,14 +131,18 @@ pub fn recipe_answer_of(verdict: &Result<Yes, RecipeNo>) -> RecipeAnswer
     }
 }
 
-/// What is asked of a recipe's frames, or the number of the first of the map and the window that is out of range. The machine is the board.
-pub fn recipe_options(map: MapEnds, budget: u32, window: WindowEnds) -> Result<RecipeOptions, u8>
+/// What is asked of a recipe's frames, or the first of the map and the window that is out of range. The machine is the board.
+pub fn recipe_options(
+    map: MapEnds,
+    budget: u32,
+    window: WindowEnds,
+) -> Result<RecipeOptions, OutOfRange>
     ensures ok { IfOk result (λ options. (options ≡ options_of (map_of map) budget (window_of window))
         × AreTaken BOARD (map_of map) (window_of window)) }
     ensures err { IfErr result (IsBad BOARD (map_of map) (window_of window)) }
 {
-    let map = map_between(map).ok_or(BAD_MAP)?;
-    let window = window_for(Machine::Board, window).ok_or(BAD_WINDOW)?;
+    let map = map_between(map).ok_or(OutOfRange::Map)?;
+    let window = window_for(Machine::Board, window).ok_or(OutOfRange::Window)?;
     Ok(RecipeOptions {
         map,
         budget,

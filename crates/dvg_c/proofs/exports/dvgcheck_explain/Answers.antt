@@ -1,4 +1,4 @@
-use Rattle.dvg_c.proofs.Common.{◌∙◌, Ok, Err, refl, ap, subst, IsPut}
+use Rattle.dvg_c.proofs.Common.{◌∙◌, Ok, Err, refl, ap, subst, numbered, IsPut}
 use Rattle.std.proofs.Common.{inl, inr}
 use Rattle.dvg_c.proofs.exports.dvgcheck_explain.Goals as goal
 
@@ -33,7 +33,11 @@ returns c =
     record {
       verdict = Err c.in-Err.bad;
       holds = c.in-Err.ensures.err;
-      answer_is = ap (λ t. t.answer) c.text_numbered.ensures;
+      answer_is = ap (λ t. t.answer) c.text_numbered.ensures ∙ ap numbered c.number.ensures.value;
       frame_is = ap (λ t. t.frame) c.text_numbered.ensures;
-      told = (ap (λ t. t.number) c.text_numbered.ensures, ap (λ t. t.length) c.text_numbered.ensures, refl);
+      told = (
+        ap (λ t. t.number) c.text_numbered.ensures ∙ c.number.ensures.value,
+        ap (λ t. t.length) c.text_numbered.ensures,
+        refl,
+      );
     }
