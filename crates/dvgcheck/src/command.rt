@@ -81,7 +81,7 @@ pub struct BelongsAsked<'a> {
 pub fn words(rt: &HostRuntime) -> Result<Vec<String>, Stop> {
     match env::args(rt) {
         Ok(words) => Ok(words.collect(rt.alloc())?),
-        Err(error) => Err(Stop::unread(&error, UNREAD_WORDS, 2)),
+        Err(error) => Err(Stop::unread(&error, Stop::Misuse(UNREAD_WORDS))),
     }
 }
 
@@ -266,7 +266,7 @@ impl<'a> Arguments<'a> {
             given = given.saturating_add(files.iter().filter(|path| **path == "-").count());
         }
         if given > 1 {
-            return Err(Stop::Said("dvgcheck: standard input is given twice", 2));
+            return Err(Stop::Misuse("dvgcheck: standard input is given twice"));
         }
         Ok(())
     }
@@ -347,7 +347,7 @@ impl<'a> Arguments<'a> {
         let words = self.matches.get_strs("ROOT").unwrap_or(&[]);
         if words.is_empty() && !self.matches.contains_id("frame") {
             let line = "dvgcheck: no root: a ROOT, as 800/0, or --frame FRAME wanted";
-            return Err(Stop::Said(line, 2));
+            return Err(Stop::Misuse(line));
         }
         self.one_standard_input()?;
         let map = self.map()?;
@@ -390,8 +390,8 @@ impl<'a> Arguments<'a> {
     /// The path of the file for a frame that shows why the one of so many recipes is refused.
     pub fn witness(&self, recipes: usize) -> Result<Option<&'a str>, Stop> {
         match self.matches.get_str("output") {
-            Some("-") => Err(Stop::Said("dvgcheck: -o takes a file, not -", 2)),
-            Some(_) if recipes > 1 => Err(Stop::Said("dvgcheck: -o takes one recipe", 2)),
+            Some("-") => Err(Stop::Misuse("dvgcheck: -o takes a file, not -")),
+            Some(_) if recipes > 1 => Err(Stop::Misuse("dvgcheck: -o takes one recipe")),
             path => Ok(path),
         }
     }
@@ -415,7 +415,7 @@ impl<'a> Arguments<'a> {
         };
         match rule_of(number) {
             Some(rule) => Ok(Some(rule)),
-            None => Err(Stop::Said("dvgcheck: no such number", 2)),
+            None => Err(Stop::Misuse("dvgcheck: no such number")),
         }
     }
 }
@@ -425,7 +425,7 @@ impl<'a> Arguments<'a> {
 fn refused(alloc: Global, words: &[String]) -> Result<Stop, AllocError> {
     let marked = marked(alloc, words)?;
     let Err(error) = command(alloc)?.try_get_matches_from(&marked) else {
-        return Ok(Stop::Said(UNREAD_WORDS, 2));
+        return Ok(Stop::Misuse(UNREAD_WORDS));
     };
     if error.kind() == ErrorKind::OutOfMemory {
         return Err(AllocError);

@@ -11,8 +11,7 @@ use std::io::Read;
 pub fn load_labels(rt: &HostRuntime, input: Input) -> Result<Labels, Stop> {
     let bytes = read_bytes(rt, input).map_err(|error| Stop::unread(
         &error,
-        "dvgcheck: cannot read the labels",
-        3,
+        Stop::Unreadable("dvgcheck: cannot read the labels"),
     ))?;
     match read_labels(rt.alloc(), bytes.as_slice()) {
         Ok(labels) => Ok(labels),

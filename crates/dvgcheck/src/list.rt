@@ -12,7 +12,7 @@ use std::{io, str};
 const LONGEST_NAME: usize = 4096;
 
 fn unread(error: &io::Error) -> Stop {
-    Stop::unread(error, "dvgcheck: cannot read the list", 3)
+    Stop::unread(error, Stop::Unreadable("dvgcheck: cannot read the list"))
 }
 
 /// A list that is read name by name.
@@ -35,7 +35,7 @@ impl List {
         let mut source = Counted::new(source);
         let first = read_name(&mut source, end).map_err(|error| unread(&error))?;
         if first.is_none() {
-            return Err(Stop::Said("dvgcheck: the list is empty", 2));
+            return Err(Stop::Misuse("dvgcheck: the list is empty"));
         }
         Ok(List {
             source,

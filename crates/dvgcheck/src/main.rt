@@ -38,7 +38,7 @@ use recipes::{judge_recipes, print};
 use std::io;
 use std::io::Printer;
 use std::process::ExitCode;
-use stop::Stop;
+use stop::{Stop, status_behind};
 use subcommand::Task;
 use together::read_frames;
 
@@ -345,7 +345,11 @@ fn tell(rt: &HostRuntime, stop: &Stop) -> u8 {
             2
         }
         Stop::Line(line) => say(rt, line.as_str(), 2),
-        Stop::Said(line, status) => say(rt, line, *status),
+        Stop::Misuse(line) => say(rt, line, 2),
+        Stop::Unreadable(line) => say(rt, line, status_of(&Ok(Outcome::Unread))),
+        Stop::Fault { fault, frames } => {
+            say(rt, message_of(fault), status_behind(*fault, *frames))
+        }
     }
 }
 
@@ -398,6 +402,7 @@ fn run_maker_task(rt: &HostRuntime, arguments: &Arguments) -> Result<u8, Stop> {
 }
 
 /// Runs a task, and answers the exit status. All arguments are read before any file but the labels is opened.
+#[inline(never)]
 fn run_task(rt: &HostRuntime, arguments: &Arguments) -> Result<u8, Stop> {
     let outcome = match arguments.task {
         Task::Diff if arguments.detail.has_account() => return explain_diff(rt, arguments),

@@ -47,6 +47,43 @@ impl CommandOption {
         }
     }
 
+    /// How words begin, behind `--`, that name it or an option that requires it.
+    fn beginnings(self) -> &'static [&'static str] {
+        match self {
+            Board => &["board", "clip", "clocks", "within"],
+            Budget => &["budget"],
+            Cert => &["cert"],
+            Clip => &["clip"],
+            Clocks => &["clocks"],
+            Exact => &["exact"],
+            Frame => &["frame"],
+            Labels => &["labels"],
+            List => &["list", "null"],
+            Map => &["rom"],
+            Null => &["null"],
+            OnlyBad => &["only-"],
+            Output => &["output"],
+            Print => &["print"],
+            Records => &["records"],
+            Remarks => &["remarks"],
+            Start => &["start"],
+            Summary => &["summary"],
+            Window => &["window"],
+            Within => &["within"],
+        }
+    }
+
+    /// Whether this word may name it, or an option that requires it.
+    pub fn matters_to(self, word: &str) -> bool {
+        match word.strip_prefix("--") {
+            Some(name) => self
+                .beginnings()
+                .iter()
+                .any(|start| name.starts_with(*start)),
+            None => matches!(self, Output) && word.starts_with("-o"),
+        }
+    }
+
     /// Its names, how the help names its value, and what it says of the option.
     fn text<'a>(self, alloc: Global) -> Arg<'a> {
         match self {

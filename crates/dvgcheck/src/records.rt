@@ -96,7 +96,7 @@ impl<'a> Records<'a> {
             Record::Cut => Ok(Some(frame_of(alloc, recording.name.as_str(), number, None)?)),
             Record::End => {
                 if number == 1 {
-                    self.fault = Some(Stop::Said("dvgcheck: no record", 2));
+                    self.fault = Some(Stop::Misuse("dvgcheck: no record"));
                 }
                 Ok(None)
             }

@@ -1,7 +1,7 @@
 //! Why a run ends without an answer, or before its last.
 
 use crate::input::is_no_memory;
-use dvg_cmd::{Outcome, RunFault, message_of, status_of};
+use dvg_cmd::{Outcome, RunFault, status_of};
 use std::alloc::{AllocError, AllocFailed};
 use std::io;
 
@@ -14,8 +14,12 @@ pub enum Stop {
     Usage(String),
     /// An argument that `clap` takes, or the file of labels, has no meaning: the line on standard error, without its LF.
     Line(String),
-    /// Anything else: the line on standard error, without its LF, and the exit status.
-    Said(&'static str, u8),
+    /// The command line can't be read or asks for what can't be, or it names no frame: the line, without its LF.
+    Misuse(&'static str),
+    /// A file can't be read that names frames or addresses: the line, without its LF.
+    Unreadable(&'static str),
+    /// A fault of the run, behind frames that came to this; to `Accepted` where there are none.
+    Fault { fault: RunFault, frames: Outcome },
 }
 
 impl Stop {
@@ -27,27 +31,38 @@ impl Stop {
         }
     }
 
-    /// That something could not be read, which this line and this status tell, unless there was no memory for it.
-    pub fn unread(error: &io::Error, line: &'static str, status: u8) -> Stop {
+    /// What something that could not be read ends the run by, unless there was no memory for it.
+    pub fn unread(error: &io::Error, stop: Stop) -> Stop {
         if is_no_memory(error) {
             RunFault::Memory.into()
         } else {
-            Stop::Said(line, status)
+            stop
         }
     }
 
-    /// The same behind frames that came to this: that one of them could not be read is worse than that memory was out.
+    /// The same behind frames that came to this.
     pub fn behind(self, frames: Outcome) -> Stop {
-        match (self, frames) {
-            (Stop::Said(line, 4), Outcome::Unread) => Stop::Said(line, 3),
-            (stop, _) => stop,
+        match self {
+            Stop::Fault { fault, .. } => Stop::Fault { fault, frames },
+            _ => self,
         }
+    }
+}
+
+/// The exit status of a fault behind frames that came to this: that one of them could not be read is worse than that memory was out.
+pub fn status_behind(fault: RunFault, frames: Outcome) -> u8 {
+    match frames {
+        Outcome::Unread => status_of(&Ok(frames)),
+        _ => status_of(&Err(fault)),
     }
 }
 
 impl From<RunFault> for Stop {
     fn from(fault: RunFault) -> Stop {
-        Stop::Said(message_of(&fault), status_of(&Err(fault)))
+        Stop::Fault {
+            fault,
+            frames: Outcome::Accepted,
+        }
     }
 }
 

@@ -244,8 +244,8 @@ impl Task {
 }
 
 impl<'a> Syntax<'a> {
-    /// Its command, with its arguments and these of its options.
-    fn command(&self, alloc: Global, options: &[CommandOption]) -> Result<Command<'a>, AllocError> {
+    /// Its command, with its arguments and its options, all or those that matter to some of these words.
+    fn command(&self, alloc: Global, words: Option<&[String]>) -> Result<Command<'a>, AllocError> {
         let behind = match self.task {
             Task::Rules => SHORTEST_HELP,
             _ => INPUT_HELP,
@@ -256,22 +256,23 @@ impl<'a> Syntax<'a> {
         for argument in self.arguments {
             command = command.arg(argument.arg(alloc)?)?;
         }
-        for option in options {
-            command = command.arg(option.arg(alloc, self.task)?)?;
+        for option in self.options {
+            let is_taken = match words {
+                Some(words) => words.iter().any(|word| option.matters_to(word.as_str())),
+                None => true,
+            };
+            if is_taken {
+                command = command.arg(option.arg(alloc, self.task)?)?;
+            }
         }
         Ok(command)
     }
 
-    /// Its command as it is parsed alone, where these words stand behind its name: without its help, and without its options where no word
-    /// may name one, since the rest of the program's command would only cost time.
+    /// Its command as it is parsed alone, where these words stand behind its name: without its help, and without options that matter to
+    /// none of them, since the rest of the program's command would only cost time.
     pub fn command_for(&self, alloc: Global, words: &[String]) -> Result<Command<'a>, AllocError> {
-        let options = if words.iter().any(|word| word.as_str().starts_with('-')) {
-            self.options
-        } else {
-            &[]
-        };
         Ok(
-            self.command(alloc, options)?
+            self.command(alloc, Some(words))?
                 .no_binary_name(true)
                 .disable_help_flag(true)
                 .disable_help_subcommand(true),
@@ -312,7 +313,7 @@ pub fn command<'a>(alloc: Global) -> Result<Command<'a>, AllocError> {
         if let Task::Rules = syntax.task {
             command = command.subcommand(explain_command(alloc)?)?;
         }
-        command = command.subcommand(syntax.command(alloc, syntax.options)?)?;
+        command = command.subcommand(syntax.command(alloc, None)?)?;
     }
     Ok(command)
 }
@@ -327,7 +328,7 @@ fn explain_command<'a>(alloc: Global) -> Result<Command<'a>, AllocError> {
         .subcommand_required(true)
         .arg_required_else_help(true);
     for syntax in EXPLAINED {
-        command = command.subcommand(syntax.command(alloc, syntax.options)?)?;
+        command = command.subcommand(syntax.command(alloc, None)?)?;
     }
     Ok(command)
 }
