@@ -20,13 +20,12 @@ use Rattle.dvg_recipe_cmd.specs.declared.membership.Membership.{Membership}
 use Rattle.dvg_recipe_cmd.specs.declared.membership.Membership.TheVariants as member
 use Rattle.dvg_recipe_cmd.specs.Frames.{IsMembership, RefusesRecipe, TakesRecipe}
 use Rattle.dvg_recipe_cmd.specs.Recipes.{IsVerdict}
-use Rattle.dvg_c.specs.declared.answer.OutOfRange.{OutOfRange}
 use Rattle.dvg_c.specs.declared.answer.TheConstants.{BAD_MAP, NO_TEXT_MEMORY}
 use Rattle.dvg_c.specs.declared.passed.TheConstants.{BOARD}
 use Rattle.dvg_c.specs.declared.recipe.RecipeAnswer.{RecipeAnswer}
 use Rattle.dvg_c.specs.declared.recipe.TheConstants.{OUTSIDE}
 use Rattle.dvg_c.specs.declared.text.TextAnswer.{TextAnswer}
-use Rattle.dvg_c.specs.Told.{bad_number, told_fault, told_key}
+use Rattle.dvg_c.specs.Told.{told_fault, told_key}
 use Rattle.dvg_c.specs.Alone.{AreTaken, IsBad}
 use Rattle.dvg_c.specs.Texts.{IsPut}
 
@@ -69,15 +68,15 @@ recipe_yes_of a = record { shapes = a.shapes; words = a.words; depth = a.depth }
 abbrev pub options_of : MemoryMap → ℕ → Window → RecipeOptions
 options_of map budget w = record { map = map; budget = budget; window = w }
 
--- what is out of range, the map or the window, which are those of a board; or a verdict on the text
-abbrev pub RecipeVerdict : List ℕ → MemoryMap → ℕ → Window → Result (Result Yes RecipeNo) OutOfRange → Type 0
+-- the number of what is out of range, the map or the window, which are those of a board; or a verdict on the text
+abbrev pub RecipeVerdict : List ℕ → MemoryMap → ℕ → Window → Result (Result Yes RecipeNo) ℕ → Type 0
 RecipeVerdict rom map budget w (Ok v) = AreTaken BOARD map w × IsVerdict rom (options_of map budget w) v
-RecipeVerdict rom map budget w (Err b) = IsBad BOARD map w b
+RecipeVerdict rom map budget w (Err n) = IsBad BOARD map w n
 
 -- the answer in plain numbers, but for what shows why
-abbrev pub told_judged : Result (Result Yes RecipeNo) OutOfRange → RecipeAnswer
+abbrev pub told_judged : Result (Result Yes RecipeNo) ℕ → RecipeAnswer
 told_judged (Ok v) = told_recipe v
-told_judged (Err b) = recipe_numbered (bad_number b)
+told_judged (Err n) = recipe_numbered n
 
 -- what is told of the frame that shows why: it stands whole at the buffer's start, or the answer has its length and the buffer is as it
 -- was; or there is none, or there was no memory to look for it, and the buffer is as it was
@@ -89,7 +88,7 @@ TellsWitness found.NoMemory bare old new a = (a ≡ record bare { witness = NO_T
 
 -- it is told what the recipe comes to, and of a frame. Which frame that is, is only tested
 pub record IsJudged (rom : List ℕ) (map : MemoryMap) (budget : ℕ) (w : Window) (old new : List ℕ) (a : RecipeAnswer) : Type 0 where
-  pub verdict : Result (Result Yes RecipeNo) OutOfRange
+  pub verdict : Result (Result Yes RecipeNo) ℕ
   pub holds : RecipeVerdict rom map budget w verdict
   pub shown : Witness
   pub told : TellsWitness shown (told_judged verdict) old new a

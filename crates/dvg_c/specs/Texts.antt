@@ -7,8 +7,7 @@ use Rattle.dvg_spelling.specs.Report.{answer_text, frame_refusal_text}
 use Rattle.dvg_spelling.specs.declared.outcome.Answer.TheVariants.{Judged}
 use Rattle.dvg_c.specs.declared.text.TextAnswer.{TextAnswer}
 use Rattle.dvg_c.specs.declared.answer.TheConstants.{SHORT_BUFFER, NO_TEXT_MEMORY}
-use Rattle.dvg_c.specs.declared.answer.OutOfRange.{OutOfRange}
-use Rattle.dvg_c.specs.Told.{bad_number, numbered}
+use Rattle.dvg_c.specs.Told.{numbered}
 use Rattle.dvg_c.specs.Alone.{AloneVerdict, told_alone}
 
 -- the text stands whole at the buffer's start, and what is behind it is as it was; where it is longer than the buffer, all of the buffer
@@ -28,15 +27,15 @@ pub record IsAccount (v : Result Yes FrameRefusal) (text : List ℕ) : Type 0 wh
   pub text_is : text ≡ answer_text frame_refusal_text (Judged v) ++ codes "\n" ++ behind
 
 -- what is told of the account of what a frame comes to: it is put, or there was no memory for it; or the number of what is out of range
-abbrev pub TellsAccount : Result (Result Yes FrameRefusal) OutOfRange → List ℕ → List ℕ → TextAnswer → Type 0
+abbrev pub TellsAccount : Result (Result Yes FrameRefusal) ℕ → List ℕ → List ℕ → TextAnswer → Type 0
 TellsAccount (Ok v) old new t =
     ((text : List ℕ) × IsAccount v text × IsPut text old new t) ⊎ ((t.number ≡ NO_TEXT_MEMORY) × (t.length ≡ 0) × (new ≡ old))
-TellsAccount (Err b) old new t = (t.number ≡ bad_number b) × (t.length ≡ 0) × (new ≡ old)
+TellsAccount (Err n) old new t = (t.number ≡ n) × (t.length ≡ 0) × (new ≡ old)
 
 -- what the frame comes to is told, and so is the account of it
 pub record IsExplained (machine : ℕ) (rom : List ℕ) (map : MemoryMap) (frame : List ℕ) (budget : ℕ) (w : Window) (old new : List ℕ)
     (t : TextAnswer) : Type 0 where
-  pub verdict : Result (Result Yes FrameRefusal) OutOfRange
+  pub verdict : Result (Result Yes FrameRefusal) ℕ
   pub holds : AloneVerdict machine rom map frame budget w verdict
   pub answer_is : t.answer ≡ told_alone verdict
   pub frame_is : t.frame ≡ 0

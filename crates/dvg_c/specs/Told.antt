@@ -19,9 +19,7 @@ use Rattle.dvg_make.specs.declared.judging.FrameRefusal.TheVariants.{Make, NoMem
 use Rattle.dvg_c.specs.declared.passed.WindowEnds.{WindowEnds}
 use Rattle.dvg_c.specs.declared.passed.MapEnds.{MapEnds}
 use Rattle.dvg_c.specs.declared.answer.Answer.{Answer}
-use Rattle.dvg_c.specs.declared.answer.OutOfRange.{OutOfRange}
-use Rattle.dvg_c.specs.declared.answer.OutOfRange.TheVariants as bad
-use Rattle.dvg_c.specs.declared.answer.TheConstants.{ANY_SCALE, BAD_MACHINE, BAD_MAP, BAD_WINDOW}
+use Rattle.dvg_c.specs.declared.answer.TheConstants.{ANY_SCALE}
 use Rattle.dvg_c.specs.declared.passed.TheConstants.{BOARD, EXACT}
 
 -- the machine that a number stands for: 1 for the board
@@ -53,12 +51,6 @@ told_key Any = ANY_SCALE
 -- a number alone
 abbrev pub numbered : ℕ → Answer
 numbered n = record { clocks = 0; shapes = 0; words = 0; line = 0; word = 0; shape = 0; scale = 0; depth = 0; number = n; call = 0 }
-
--- what is out of range
-abbrev pub bad_number : OutOfRange → ℕ
-bad_number bad.Machine = BAD_MACHINE
-bad_number bad.Map = BAD_MAP
-bad_number bad.Window = BAD_WINDOW
 
 -- what is accepted, with its counts
 abbrev pub told_yes : Yes → Answer

@@ -1,7 +1,7 @@
 //! The answer of a judgement, in plain numbers.
 
-ghost use Rattle.std.specs.Prelude.{◌≡◌, ◌≢◌, Ok};
-ghost use Rattle.dvg_c.specs.Told.{bad_number, told_key, numbered, told_yes, told_refusal, told, told_fault, told_own, told_timed, yes_of};
+ghost use Rattle.std.specs.Prelude.{◌≡◌, Ok};
+ghost use Rattle.dvg_c.specs.Told.{told_key, numbered, told_yes, told_refusal, told, told_fault, told_own, told_timed, yes_of};
 
 use dvg_cert::Key;
 use dvg_check::{Refusal, Yes};
@@ -64,31 +64,6 @@ pub const NO_CALL: u16 = 0xFFFF;
 
 /// What stands for the key of any scale.
 pub const ANY_SCALE: u8 = 16;
-
-/// What of a call's parts is out of range.
-#[derive(Clone, Copy)]
-pub enum OutOfRange {
-    /// The number stands for no machine.
-    Machine,
-    /// No ROM lies there.
-    Map,
-    /// It is no window for the machine.
-    Window,
-}
-
-impl OutOfRange {
-    /// Its number.
-    pub fn number(self) -> u8
-        ensures value { result ≡ bad_number self }
-        ensures refused { result ≢ 0 }
-    {
-        match self {
-            OutOfRange::Machine => BAD_MACHINE,
-            OutOfRange::Map => BAD_MAP,
-            OutOfRange::Window => BAD_WINDOW,
-        }
-    }
-}
 
 /// A number that stands for a key.
 pub fn scale_of(key: Key) -> u8

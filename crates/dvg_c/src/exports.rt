@@ -76,7 +76,7 @@ pub extern "C" fn dvgcheck_frame_alone(
             let (verdict, clocks) = own.timed_verdict(alloc, frame);
             timed_answer(&verdict, &clocks)
         }
-        Err(bad) => numbered(bad.number()),
+        Err(answer) => answer,
     }
 }
 
@@ -109,7 +109,7 @@ pub extern "C" fn dvgcheck_explain(
                 None => no_text(NO_TEXT_MEMORY, answer),
             }
         }
-        Err(bad) => text_numbered(bad.number()),
+        Err(answer) => no_text(answer.number, answer),
     }
 }
 
@@ -221,7 +221,7 @@ pub extern "C" fn dvgcheck_recipe<'a>(
             let judged = judge_text(alloc, &explained, Wanted::Witness);
             put_witness(&judged.witness, recipe_answer_of(&judged.verdict), frame)
         }
-        Err(bad) => recipe_numbered(bad.number()),
+        Err(answer) => answer,
     }
 }
 

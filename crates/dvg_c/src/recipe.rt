@@ -7,7 +7,7 @@ ghost use Rattle.dvg_c.specs.Told.{map_of, window_of};
 ghost use Rattle.dvg_c.specs.Alone.{AreTaken, IsBad};
 ghost use Rattle.dvg_c.specs.Recipes.{MemberVerdict, TellsWitness, at_line, options_of, recipe_numbered, recipe_yes_of, told_member, told_recipe, told_recipe_no, told_unmade_for};
 
-use crate::answer::{NO_TEXT_MEMORY, OutOfRange, numbered, scale_of, unmade};
+use crate::answer::{BAD_MAP, BAD_WINDOW, NO_TEXT_MEMORY, numbered, scale_of, unmade};
 use crate::passed::{MapEnds, WindowEnds, map_between, window_for};
 use crate::text::put_text;
 use dvg_check::Yes;
@@ -131,18 +131,20 @@ pub fn recipe_answer_of(verdict: &Result<Yes, RecipeNo>) -> RecipeAnswer
     }
 }
 
-/// What is asked of a recipe's frames, or the first of the map and the window that is out of range. The machine is the board.
+/// What is asked of a recipe's frames, or the answer that tells the first of the map and the window that is out of range. The machine is the
+/// board.
 pub fn recipe_options(
     map: MapEnds,
     budget: u32,
     window: WindowEnds,
-) -> Result<RecipeOptions, OutOfRange>
+) -> Result<RecipeOptions, RecipeAnswer>
     ensures ok { IfOk result (λ options. (options ≡ options_of (map_of map) budget (window_of window))
         × AreTaken BOARD (map_of map) (window_of window)) }
-    ensures err { IfErr result (IsBad BOARD (map_of map) (window_of window)) }
+    ensures err { IfErr result (λ answer. IsBad BOARD (map_of map) (window_of window) answer.number) }
+    ensures alone { IfErr result (λ answer. answer ≡ recipe_numbered answer.number) }
 {
-    let map = map_between(map).ok_or(OutOfRange::Map)?;
-    let window = window_for(Machine::Board, window).ok_or(OutOfRange::Window)?;
+    let map = map_between(map).ok_or(recipe_numbered(BAD_MAP))?;
+    let window = window_for(Machine::Board, window).ok_or(recipe_numbered(BAD_WINDOW))?;
     Ok(RecipeOptions {
         map,
         budget,

@@ -1,4 +1,4 @@
-use Rattle.dvg_c.proofs.Common.{◌∙◌, Ok, Err, refl, ap, subst, numbered, IsPut}
+use Rattle.dvg_c.proofs.Common.{◌∙◌, Ok, Err, refl, ap, subst, IsPut}
 use Rattle.std.proofs.Common.{inl, inr}
 use Rattle.dvg_c.proofs.exports.dvgcheck_explain.Goals as goal
 
@@ -31,13 +31,9 @@ returns-in-Ok c =
 pub returns : goal.returns
 returns c =
     record {
-      verdict = Err c.in-Err.bad;
+      verdict = Err c.in-Err.answer.number;
       holds = c.in-Err.ensures.err;
-      answer_is = ap (λ t. t.answer) c.text_numbered.ensures ∙ ap numbered c.number.ensures.value;
-      frame_is = ap (λ t. t.frame) c.text_numbered.ensures;
-      told = (
-        ap (λ t. t.number) c.text_numbered.ensures ∙ c.number.ensures.value,
-        ap (λ t. t.length) c.text_numbered.ensures,
-        refl,
-      );
+      answer_is = ap (λ t. t.answer) c.no_text-in-Err.ensures ∙ c.in-Err.ensures.alone;
+      frame_is = ap (λ t. t.frame) c.no_text-in-Err.ensures;
+      told = (ap (λ t. t.number) c.no_text-in-Err.ensures, ap (λ t. t.length) c.no_text-in-Err.ensures, refl);
     }

@@ -1,4 +1,4 @@
-use Rattle.dvg_c.proofs.Common.{◌∙◌, Ok, Err, ap, numbered}
+use Rattle.dvg_c.proofs.Common.{Ok, Err}
 use Rattle.std.specs.Prelude.{None}
 use Rattle.dvg_c.proofs.Counting.{hold, none}
 use Rattle.dvg_c.proofs.exports.dvgcheck_frame_alone.Goals as goal
@@ -20,7 +20,7 @@ returns-in-Ok-clause-clocks c =
     c.timed_answer.ensures.value (rw (over.0, over.1, over.2) at judged.ensures.clocks)
 
 pub returns-in-Err-clause-verdict : goal.returns-in-Err-clause-verdict
-returns-in-Err-clause-verdict c = (Err c.in-Err.bad, None, c.in-Err.ensures.err, c.numbered.ensures ∙ ap numbered c.number.ensures.value)
+returns-in-Err-clause-verdict c = (Err c.in-Err.answer.number, None, c.in-Err.ensures.err, c.in-Err.ensures.alone)
 
 pub returns-in-Err-clause-clocks : goal.returns-in-Err-clause-clocks
-returns-in-Err-clause-clocks c = none c.args.machine c.args.rom.now _ c.args.frame.now c.numbered.result _ c.numbered.ensures
+returns-in-Err-clause-clocks c = none c.args.machine c.args.rom.now _ c.args.frame.now c.in-Err.answer _ c.in-Err.ensures.alone

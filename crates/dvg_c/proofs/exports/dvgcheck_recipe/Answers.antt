@@ -1,7 +1,7 @@
-use Rattle.dvg_c.proofs.Common.{◌∙◌, Ok, Err, refl, sym, ap, subst}
+use Rattle.dvg_c.proofs.Common.{◌∙◌, Ok, Err, refl, sym, subst}
 use Rattle.dvg_recipe_cmd.specs.declared.judging.Witness.TheVariants as found
 use Rattle.dvg_recipe_cmd.specs.Recipes.{IsVerdict, IsAcceptedRecipe}
-use Rattle.dvg_c.specs.Recipes.{TellsWitness, recipe_numbered}
+use Rattle.dvg_c.specs.Recipes.{TellsWitness}
 use Rattle.dvg_c.proofs.exports.dvgcheck_recipe.Goals as goal
 
 pub returns-in-Ok-clause-verdict : goal.returns-in-Ok-clause-verdict
@@ -28,8 +28,8 @@ returns-in-Ok-clause-means c = λ zero.
 pub returns-in-Err-clause-verdict : goal.returns-in-Err-clause-verdict
 returns-in-Err-clause-verdict c =
     record {
-      verdict = Err c.in-Err.bad;
+      verdict = Err c.in-Err.answer.number;
       holds = c.in-Err.ensures.err;
       shown = found.Nothing;
-      told = (c.recipe_numbered.ensures ∙ ap recipe_numbered c.number.ensures.value, refl);
+      told = (c.in-Err.ensures.alone, refl);
     }
