@@ -60,7 +60,6 @@ pub use dvg_check::Yes;
 pub use dvg_clocks::DVG_STATES;
 pub use dvg_clocks::Timing;
 pub use dvg_labels::LabelFault;
-pub use dvg_labels::LabelWhy;
 pub use dvg_labels::Labels;
 pub use dvg_labels::MOST_BYTES as MOST_LABEL_BYTES;
 pub use dvg_labels::Unnamed;
