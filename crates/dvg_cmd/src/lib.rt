@@ -142,7 +142,6 @@ pub use records::record_length_of;
 pub use records::record_name;
 pub use remarking::FrameDetail;
 pub use remarking::Remarking;
-pub use roots::RootFault;
 pub use roots::root_by;
 pub use rules::run_rule;
 pub use rules::run_rules;
