@@ -40,6 +40,8 @@ mod timed_judge;
 pub use comparing::run_comparison;
 pub use detail::Behind;
 pub use detail::Detail;
+pub use detail::behind_text;
+pub use detail::outcome_behind;
 pub use dvg_account::PlainWhy;
 pub use dvg_account::ShapeStarts;
 pub use dvg_cert::Cert;

@@ -1,6 +1,6 @@
 use Rattle.dvg_recipe_cmd.proofs.Common.{◌∙◌, ap, refl, arith, common_steps}
 use Rattle.std.specs.Prelude.{string_bytes}
-use Rattle.dvg_cmd.specs.declared.detail.Behind.{Behind}
+use Rattle.dvg_cmd.specs.Detail.{Behind}
 use Rattle.dvg_cmd.specs.Telling.{Line, gone}
 use Rattle.dvg_recipe_cmd.specs.declared.membership.Membership.{Membership}
 use Rattle.dvg_cmd.proofs.LineByLine.{on_err}

@@ -1,6 +1,6 @@
 use Rattle.dvg_recipe_cmd.proofs.Common.{refl, arith, common_steps}
 use Rattle.std.specs.Prelude.{string_bytes}
-use Rattle.dvg_cmd.specs.declared.detail.Behind.{Behind}
+use Rattle.dvg_cmd.specs.Detail.{Behind}
 use Rattle.dvg_cmd.specs.Telling.{Line}
 use Rattle.dvg_recipe_cmd.specs.Recipes.{RecipeAnswer}
 use Rattle.dvg_cmd.proofs.LineByLine.{on_err}
