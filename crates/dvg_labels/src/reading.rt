@@ -7,7 +7,7 @@ use crate::cutting::cut_line;
 use crate::fault::LabelFault;
 use crate::labels::Labels;
 use crate::limits::MOST_BYTES;
-use crate::line::{Told, read_line};
+use crate::line::read_line;
 use std::alloc::Global;
 
 /// Adds the label that the line with this number tells, if it tells one.
@@ -15,14 +15,15 @@ fn take_line(labels: &mut Labels, alloc: Global, line: u32, bytes: &[u8]) -> Res
     ensures ok { OnOk result (with_line labels.old bytes.now ≡ Some labels.new) }
     ensures err { IfErr result (IsLineFault labels.old line bytes.now) }
 {
-    match read_line(bytes) {
-        Told::Nothing => Ok(()),
-        Told::Label(..) if labels.is_full() => Err(LabelFault::TooMany { line }),
-        Told::Label(name, value) => match labels.add(alloc, name, value) {
-            Ok(()) => Ok(()),
-            Err(_) => Err(LabelFault::Memory { line }),
-        },
-        Told::Wrong => Err(LabelFault::Form { line }),
+    let Some((name, value)) = read_line(line, bytes)? else {
+        return Ok(());
+    };
+    if labels.is_full() {
+        return Err(LabelFault::TooMany { line });
+    }
+    match labels.add(alloc, name, value) {
+        Ok(()) => Ok(()),
+        Err(_) => Err(LabelFault::Memory { line }),
     }
 }
 
