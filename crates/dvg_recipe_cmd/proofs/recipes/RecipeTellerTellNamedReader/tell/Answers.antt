@@ -13,7 +13,7 @@ returns-in_err-write_line-clause-prefix g c =
     on_err c.from_residual.result
     (cut_told _ _ c.args.thing line
     (record { name_is = refl; answers = c.answer_opened-answer.ensures.answers; asked = c.answer_opened-answer.ensures.behind })
-    c.args.progress.now c.outcome_with-outcome.result _ (grind (arith, common_steps)) (grind (arith, common_steps)) _ _
+    c.args.progress.now c.outcome_behind-outcome.result _ (grind (arith, common_steps)) (grind (arith, common_steps)) _ _
     c.in_err-write_line.ensures.prefix)
 
 pub returns-clause-ok : goal.returns-clause-ok
@@ -21,5 +21,5 @@ returns-clause-ok g c =
     let line : Line (RecipeAnswer × Behind) = record { name = string_bytes c.args.thing.name; answer = (c.answer_opened-answer.result.answer, c.answer_opened-answer.result.behind) } in
     line_told _ _ c.args.thing line
     (record { name_is = refl; answers = c.answer_opened-answer.ensures.answers; asked = c.answer_opened-answer.ensures.behind })
-    c.args.progress.now c.outcome_with-outcome.result _ (grind (arith, common_steps)) (grind (arith, common_steps)) _ _ _ _
+    c.args.progress.now c.outcome_behind-outcome.result _ (grind (arith, common_steps)) (grind (arith, common_steps)) _ _ _ _
     c.in_ok-write_line.ensures.sent _ (c.add.ensures)
