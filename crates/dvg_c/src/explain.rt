@@ -15,7 +15,7 @@ pub fn account_of(
 ) -> Option<Vec<u8>>
     ensures { IfSome result (λ text. IsAccount verdict.now text.items) }
 {
-    let Behind::Account(account) = behind else {
+    let Ok(Some(account)) = behind else {
         return None;
     };
     let answer = Answer::Judged(*verdict);

@@ -1,5 +1,5 @@
 -- What a run writes behind the line of a frame. All of it is this project's own.
-use Rattle.std.specs.Prelude.{◌≡◌, ℕ, List, [], ◌∷◌, Option, Some, None, codes, string_bytes}
+use Rattle.std.specs.Prelude.{◌≡◌, ℕ, List, [], ◌∷◌, Option, Some, None, Ok, Err, IfSome, codes, string_bytes}
 use Rattle.dvg_account.specs.declared.remarked.FrameRemark.{FrameRemark}
 use Rattle.dvg_spelling.specs.Outcomes.{worse}
 use Rattle.dvg_spelling.specs.Tally.{answer_number}
@@ -11,8 +11,7 @@ use Rattle.dvg_spelling.specs.declared.outcome.Outcome.{Outcome}
 use Rattle.dvg_spelling.specs.declared.outcome.Outcome.TheVariants.{NoMemory}
 use Rattle.dvg_cmd.specs.Detail.{Detail, IsBehind, behind_text, outcome_behind}
 use Rattle.dvg_cmd.specs.declared.detail.Detail.TheVariants as details
-use Rattle.dvg_cmd.specs.declared.detail.Behind.TheVariants as behinds
-use Rattle.dvg_cmd.specs.Called.{CalledCount, called_by, with_called}
+use Rattle.dvg_cmd.specs.Called.{Called, CalledCount, called_by, with_called}
 use Rattle.dvg_words.specs.declared.machine.Machine.{Machine}
 use Rattle.dvg_cmd.specs.Frames.{yes_in}
 pub use Rattle.dvg_cmd.specs.declared.remarking.FrameDetail.{FrameDetail}
@@ -27,40 +26,37 @@ answer_detail (detail.Remarks remarking) = details.Line
 
 -- remarks, or that there was no memory for them
 abbrev pub AreRemarks : BehindFrame → Type 0
-AreRemarks (behind.Answer what) = ⊥
-AreRemarks (behind.Called what called) = ⊥
-AreRemarks what = Unit {0}
+AreRemarks (behind.Answer what called) = ⊥
+AreRemarks (behind.Remarks remarks) = Unit {0}
 
 -- remarks stand behind the line of each accepted frame, and of no other
 abbrev pub AreRemarksOn : Option Yes → BehindFrame → Type 0
 AreRemarksOn (Some accepted) what = AreRemarks what
-AreRemarksOn None what = what ≡ behind.Answer behinds.Nothing
+AreRemarksOn None what = what ≡ behind.Answer (Ok None) None
 
 -- what a detail asks for behind the line of an answer; a called shape is counted by the number of the refusal
 abbrev pub IsBehindFrame : FrameDetail → FrameAnswer → BehindFrame → Type 0
-IsBehindFrame (detail.Answer asked) answer (behind.Answer what) = IsBehind asked what
-IsBehindFrame (detail.Answer asked) answer (behind.Called what called) = IsBehind asked what × (called.number ≡ answer_number answer)
-IsBehindFrame (detail.Answer asked) answer what = ⊥
+IsBehindFrame (detail.Answer asked) answer (behind.Answer what called) =
+    IsBehind asked what × IfSome called (λ (c : Called). c.number ≡ answer_number answer)
+IsBehindFrame (detail.Answer asked) answer (behind.Remarks remarks) = ⊥
 IsBehindFrame (detail.Remarks remarking) answer what = AreRemarksOn (yes_in answer) what
 
 -- a called shape is that of the item because of which a frame of these words is refused
 abbrev pub TellsCall : Machine → List ℕ → FrameAnswer → BehindFrame → Type 0
-TellsCall machine words answer (behind.Called what called) = called_by machine words answer ≡ Some called.shape
-TellsCall machine words answer what = Unit {0}
+TellsCall machine words answer (behind.Answer what called) = IfSome called (λ (c : Called). called_by machine words answer ≡ Some c.shape)
+TellsCall machine words answer (behind.Remarks remarks) = Unit {0}
 
 -- the text that is written behind the line
 abbrev pub text_behind_frame : BehindFrame → List ℕ
-text_behind_frame (behind.Answer what) = behind_text what
-text_behind_frame (behind.Called what called) = behind_text what
-text_behind_frame (behind.Remarks remarks) = string_bytes remarks.text
-text_behind_frame behind.NoRemarks = codes "remarks: out of memory\n"
+text_behind_frame (behind.Answer what called) = behind_text what
+text_behind_frame (behind.Remarks (Ok remarks)) = string_bytes remarks.text
+text_behind_frame (behind.Remarks (Err out_of_memory)) = codes "remarks: out of memory\n"
 
 -- the outcome, from that of the line
 abbrev pub outcome_behind_frame : BehindFrame → Outcome → Outcome
-outcome_behind_frame (behind.Answer what) line = outcome_behind what line
-outcome_behind_frame (behind.Called what called) line = outcome_behind what line
-outcome_behind_frame (behind.Remarks remarks) line = line
-outcome_behind_frame behind.NoRemarks line = worse line NoMemory
+outcome_behind_frame (behind.Answer what called) line = outcome_behind what line
+outcome_behind_frame (behind.Remarks (Ok remarks)) line = line
+outcome_behind_frame (behind.Remarks (Err out_of_memory)) line = worse line NoMemory
 
 -- ---- the summary of remarks
 
@@ -76,7 +72,7 @@ tally_in (Some t) = t
 
 -- with what stands behind a line
 abbrev pub remarked_with : Option RemarkTally → BehindFrame → Option RemarkTally
-remarked_with tally (behind.Remarks remarks) = Some (with_remarks remarks.found.items (tally_in tally))
+remarked_with tally (behind.Remarks (Ok remarks)) = Some (with_remarks remarks.found.items (tally_in tally))
 remarked_with tally what = tally
 
 -- no line where there are no remarks on any frame
@@ -88,5 +84,5 @@ remarks_texts (Some t) = remarks_text t ∷ []
 
 -- with what stands behind a line
 abbrev pub called_with : List CalledCount → BehindFrame → List CalledCount
-called_with counts (behind.Called what called) = with_called counts called
+called_with counts (behind.Answer what (Some called)) = with_called counts called
 called_with counts what = counts

@@ -8,13 +8,15 @@ use Rattle.dvg_labels.specs.Labels.{Labelling, StandsAt, IsAddress}
 use Rattle.dvg_labels.specs.declared.fault.Unnamed.{Unnamed}
 use Rattle.dvg_spelling.specs.Arguments.{IsRoot}
 use Rattle.dvg_cmd.specs.declared.roots.TheConstants.{SLASH}
-use Rattle.dvg_cmd.specs.declared.roots.RootFault.{RootFault}
-use Rattle.dvg_cmd.specs.declared.roots.RootFault.TheVariants as fault
 
 -- the text is a label's name, a slash and this key
 pub record NamesRoot (text name : List ℕ) (key : Key) : Type 0 where
   pub is_key : IsKey key
   pub spelled : text ≡ name ++ SLASH ∷ key_token key
+
+-- the text is no root's by its address
+abbrev pub IsNoRoot : List ℕ → Type 0
+IsNoRoot text = (addr : ℕ) (key : Key) → IsRoot text addr key → ⊥
 
 -- the text is this root's by one of these labels, all of which of the name stand at the address
 abbrev pub IsNamedRoot : Option (Bor Labelling) → List ℕ → ℕ → Key → Type 0
@@ -23,15 +25,10 @@ IsNamedRoot (Some labels) text addr key = (name : List ℕ) × NamesRoot text na
 
 -- the text is this root's by its address, or else, where it is no root's by its address, by a label
 abbrev pub IsRootBy : Option (Bor Labelling) → List ℕ → ℕ → Key → Type 0
-IsRootBy labels text addr key = IsRoot text addr key
-    ⊎ (((a : ℕ) (k : Key) → IsRoot text a k → ⊥) × IsNamedRoot labels text addr key)
+IsRootBy labels text addr key = IsRoot text addr key ⊎ (IsNoRoot text × IsNamedRoot labels text addr key)
 
--- why the text is no root's: a label's name, a slash and a key, and no label, or labels at two addresses, with the name
-abbrev pub IsLabelFault : Option (Bor Labelling) → List ℕ → Unnamed → Type 0
-IsLabelFault None text why = ⊥
-IsLabelFault (Some labels) text why = (name : List ℕ) × (key : Key) × NamesRoot text name key × IsAddress labels.now.named name (Err why)
-
--- why the text is no root: it has not the form of one, or what it says of a label
-abbrev pub IsRootFault : Option (Bor Labelling) → List ℕ → RootFault → Type 0
-IsRootFault labels text fault.Form = (a : ℕ) (k : Key) → IsRoot text a k → ⊥
-IsRootFault labels text (fault.Label why) = ((a : ℕ) (k : Key) → IsRoot text a k → ⊥) × IsLabelFault labels text why
+-- the text is no root's by its address, but a label's name, a slash and a key, and no label, or labels at two addresses, with the name
+abbrev pub NamesNoAddress : Option (Bor Labelling) → List ℕ → Unnamed → Type 0
+NamesNoAddress None text why = ⊥
+NamesNoAddress (Some labels) text why =
+    IsNoRoot text × (name : List ℕ) × (key : Key) × NamesRoot text name key × IsAddress labels.now.named name (Err why)

@@ -1,9 +1,7 @@
 //! What a run writes of an answer: its line, or its line and an account of it.
 
-ghost use Rattle.std.specs.Prelude.{◌≡◌, None, IfOk, OnErr};
-ghost use Rattle.dvg_cmd.specs.Detail.{IsBehind, behind_text, has_account, outcome_behind};
-ghost use Rattle.dvg_cmd.specs.declared.detail.Detail.TheVariants as details;
-ghost use Rattle.dvg_cmd.specs.declared.detail.Behind.TheVariants as behinds;
+ghost use Rattle.std.specs.Prelude.{◌≡◌};
+ghost use Rattle.dvg_cmd.specs.Detail.{behind_text, has_account, outcome_behind};
 
 use dvg_labels::Labels;
 use dvg_spelling::Outcome;
@@ -34,48 +32,26 @@ impl<'a> Detail<'a> {
 /// What is written in the place of an account for which there was no memory.
 pub const NO_ACCOUNT: &str = "account: out of memory\n";
 
-/// What is written behind the line of an answer.
-#[derive(Drop)]
-pub enum Behind {
-    /// Nothing: the line alone was asked for.
-    Nothing,
-    /// An account.
-    Account(String),
-    /// That there was no memory for the account.
-    NoMemory,
+/// What is written behind the line of an answer: an account, if one is asked for, or that there was no memory for it.
+pub type Behind = Result<Option<String>, AllocError>;
+
+/// The text behind a line.
+pub fn behind_text(behind: &Behind) -> &str
+    ensures { result.now ≡ behind_text behind.now }
+{
+    match behind {
+        Ok(Some(account)) => account.as_str(),
+        Ok(None) => "",
+        Err(_) => NO_ACCOUNT,
+    }
 }
 
-impl Behind {
-    /// This account, or that there was no memory for it.
-    pub fn of(account: Result<String, AllocError>) -> Behind
-        ensures account { IfOk account (λ text. result ≡ behinds.Account text) }
-        ensures no_memory { OnErr account (result ≡ behinds.NoMemory) }
-        ensures asked { IsBehind (details.Account None) result }
-    {
-        match account {
-            Ok(text) => Behind::Account(text),
-            Err(_) => Behind::NoMemory,
-        }
-    }
-
-    /// The text.
-    pub fn text(&self) -> &str
-        ensures { result.now ≡ behind_text self.now }
-    {
-        match self {
-            Behind::Nothing => "",
-            Behind::Account(text) => text.as_str(),
-            Behind::NoMemory => NO_ACCOUNT,
-        }
-    }
-
-    /// The outcome of a line and of this text behind it.
-    pub fn outcome_with(&self, line: Outcome) -> Outcome
-        ensures { result ≡ outcome_behind self.now line }
-    {
-        match self {
-            Behind::Nothing | Behind::Account(_) => line,
-            Behind::NoMemory => line.or_worse(Outcome::NoMemory),
-        }
+/// The outcome of a line and of the text behind it.
+pub fn outcome_behind(behind: &Behind, line: Outcome) -> Outcome
+    ensures { result ≡ outcome_behind behind.now line }
+{
+    match behind {
+        Ok(_) => line,
+        Err(_) => line.or_worse(Outcome::NoMemory),
     }
 }

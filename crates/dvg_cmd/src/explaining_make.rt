@@ -9,7 +9,7 @@ ghost use Rattle.dvg_cmd.specs.MakingFrames.{blames_frames_rom, blames_a_frame, 
 ghost use Rattle.dvg_spelling.specs.Faults.{make_run_number};
 ghost use Rattle.dvg_cmd.specs.Private.Inputs.{AreRead};
 
-use crate::detail::Behind;
+use crate::detail::{Behind, behind_text, outcome_behind};
 use crate::inputs::InputBytes;
 use dvg_account::{PlainWhy, made_text, plain_text, unmade_text};
 use dvg_cert::Key;
@@ -52,7 +52,7 @@ fn unasked(
 {
     MakeAnswer {
         made: Err(fault),
-        behind: Behind::of(plain_text(machine, alloc, fault.number(), why, labels)),
+        behind: plain_text(machine, alloc, fault.number(), why, labels).map(Some),
     }
 }
 
@@ -101,11 +101,11 @@ fn answer_on(
     match explain_making(alloc, &images.rom, roots, &images.frames) {
         Ok(cert) => MakeAnswer {
             made: Ok(cert.entries().len() as u32),
-            behind: Behind::of(made_text(machine, alloc, &cert, labels)),
+            behind: made_text(machine, alloc, &cert, labels).map(Some),
         },
         Err(account) => MakeAnswer {
             made: Err(account.fault.into()),
-            behind: Behind::of(unmade_text(alloc, &images.rom, &images.frames, account, labels)),
+            behind: unmade_text(alloc, &images.rom, &images.frames, account, labels).map(Some),
         },
     }
 }
@@ -168,12 +168,12 @@ pub fn write_make_answer<W: CountedWrite>(
     write_lines(
         name.as_bytes(),
         report.as_bytes(),
-        answer.behind.text().as_bytes(),
+        behind_text(&answer.behind).as_bytes(),
         out,
     )?;
     let outcome = match answer.made {
         Ok(_) => Outcome::Accepted,
         Err(_) => Outcome::Refused,
     };
-    Ok(answer.behind.outcome_with(outcome))
+    Ok(outcome_behind(&answer.behind, outcome))
 }

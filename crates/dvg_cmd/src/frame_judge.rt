@@ -117,7 +117,7 @@ impl<'a> OwnCertificates<'a> {
         ensures behind { IsBehind detail.entry result.1 }
     {
         match detail {
-            Detail::Line => (verdict_by_own(alloc, self, frame), Behind::Nothing),
+            Detail::Line => (verdict_by_own(alloc, self, frame), Ok(None)),
             Detail::Account(labels) => {
                 let explained = explain_by_own(alloc, self, &UNLIMITED, frame, labels);
                 (explained.verdict, explained.behind)
@@ -244,7 +244,7 @@ pub fn explain_by_own<'a>(
             ExplainedFrame {
                 verdict: own_verdict(&timed.judged),
                 answer: timed.answer,
-                behind: Behind::of(timed_text(alloc, &inputs, &rom, &image, timed, timing.limit)),
+                behind: timed_text(alloc, &inputs, &rom, &image, timed, timing.limit).map(Some),
             }
         }
         Err(refusal) => {
@@ -252,7 +252,7 @@ pub fn explain_by_own<'a>(
             ExplainedFrame {
                 verdict: Err(refusal),
                 answer: Err(TimedRefusal::Judged(refusal)),
-                behind: Behind::of(frame_text(alloc, &inputs, &Err(refusal), None)),
+                behind: frame_text(alloc, &inputs, &Err(refusal), None).map(Some),
             }
         }
     }
@@ -350,7 +350,7 @@ impl<'a> FrameJudge for KeptCertificates<'a> {
         let (verdict, behind) = match (detail, &mut self.kept) {
             (Detail::Line, Some(kept)) => (
                 verdict_by_kept(alloc, &self.own, kept, frame),
-                Behind::Nothing,
+                Ok(None),
             ),
             _ => self.own.verdict(alloc, frame, detail),
         };
@@ -386,7 +386,7 @@ impl<'a, E: Entries> FrameJudge for GivenCertificate<'a, E> {
     fn answer(&mut self, alloc: Global, frame: &[u8], detail: Detail) -> ToldAnswer {
         let (verdict, cause) = verdict_over(self.shapes, self.cert, frame, self.budget);
         let behind = match detail {
-            Detail::Line => Behind::Nothing,
+            Detail::Line => Ok(None),
             Detail::Account(labels) => {
                 account_over(alloc, self, frame, &verdict, cause.as_ref(), labels)
             }
@@ -451,5 +451,5 @@ fn account_over<'a, E: Entries>(
         labels,
         others: None,
     };
-    Behind::of(frame_text(alloc, &inputs, verdict, cause))
+    frame_text(alloc, &inputs, verdict, cause).map(Some)
 }

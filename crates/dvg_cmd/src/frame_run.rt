@@ -55,8 +55,8 @@ pub fn plain_account(
     ensures { IsBehind detail.entry result }
 {
     match detail {
-        Detail::Line => Behind::Nothing,
-        Detail::Account(labels) => Behind::of(plain_text(machine, alloc, number, why, labels)),
+        Detail::Line => Ok(None),
+        Detail::Account(labels) => plain_text(machine, alloc, number, why, labels).map(Some),
     }
 }
 
@@ -88,7 +88,7 @@ fn behind_answer(
         (FrameDetail::Answer(Detail::Account(labels)), _) => {
             behind_call(alloc, machine, frame, answer, behind, labels)
         }
-        _ => BehindFrame::Answer(behind),
+        _ => BehindFrame::Answer(behind, None),
     }
 }
 
@@ -107,18 +107,18 @@ fn behind_call(
     ensures called { TellsCall machine (words_of frame.now) answer.now result }
 {
     let Some(shape) = called_by(machine, frame, answer) else {
-        return BehindFrame::Answer(behind);
+        return BehindFrame::Answer(behind, None);
     };
     match address_text(alloc, shape, labels) {
-        Ok(text) => BehindFrame::Called(
+        Ok(text) => BehindFrame::Answer(
             behind,
-            Called {
+            Some(Called {
                 number: answer_number(answer),
                 shape,
                 name: name_of(text.as_str()),
-            },
+            }),
         ),
-        Err(_) => BehindFrame::Answer(Behind::NoMemory),
+        Err(error) => BehindFrame::Answer(Err(error), None),
     }
 }
 
@@ -150,7 +150,10 @@ pub fn answer_of<J: FrameJudge, R: CountedRead>(
         }
         Err(_) => (
             Answer::Unread,
-            BehindFrame::Answer(unread_account(judge.machine(), alloc, detail.of_answer())),
+            BehindFrame::Answer(
+                unread_account(judge.machine(), alloc, detail.of_answer()),
+                None,
+            ),
         ),
     }
 }

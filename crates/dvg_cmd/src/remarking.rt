@@ -4,7 +4,7 @@ ghost use Rattle.std.specs.Prelude.{◌≡◌};
 ghost use Rattle.dvg_cmd.specs.Remarking.{AreRemarks, answer_detail, outcome_behind_frame, text_behind_frame};
 
 use crate::called::Called;
-use crate::detail::{Behind, Detail};
+use crate::detail::{Behind, Detail, behind_text, outcome_behind};
 use crate::frame_judge::OwnCertificates;
 use dvg_account::{FrameRemark, Inputs, frame_remarks, remarks_text};
 use dvg_cert::Cert;
@@ -55,13 +55,10 @@ pub struct FrameRemarks {
 /// What is written behind the line of a frame.
 #[derive(Drop)]
 pub enum BehindFrame {
-    /// The account of the answer, if one is asked for.
-    Answer(Behind),
-    /// The account of a refusal because of an item that calls this shape.
-    Called(Behind, Called),
-    Remarks(FrameRemarks),
-    /// That there was no memory for the remarks.
-    NoRemarks,
+    /// The account of the answer, if one is asked for; that of a refusal because of an item that calls a shape, with this shape.
+    Answer(Behind, Option<Called>),
+    /// The remarks, or that there was no memory for them.
+    Remarks(Result<FrameRemarks, AllocError>),
 }
 
 /// What is written in the place of remarks for which there was no memory.
@@ -73,9 +70,9 @@ impl BehindFrame {
         ensures { result.now ≡ text_behind_frame self.now }
     {
         match self {
-            BehindFrame::Answer(behind) | BehindFrame::Called(behind, _) => behind.text(),
-            BehindFrame::Remarks(remarks) => remarks.text.as_str(),
-            BehindFrame::NoRemarks => NO_REMARKS,
+            BehindFrame::Answer(behind, _) => behind_text(behind),
+            BehindFrame::Remarks(Ok(remarks)) => remarks.text.as_str(),
+            BehindFrame::Remarks(Err(_)) => NO_REMARKS,
         }
     }
 
@@ -84,11 +81,9 @@ impl BehindFrame {
         ensures { result ≡ outcome_behind_frame self.now line }
     {
         match self {
-            BehindFrame::Answer(behind) | BehindFrame::Called(behind, _) => {
-                behind.outcome_with(line)
-            }
-            BehindFrame::Remarks(_) => line,
-            BehindFrame::NoRemarks => line.or_worse(Outcome::NoMemory),
+            BehindFrame::Answer(behind, _) => outcome_behind(behind, line),
+            BehindFrame::Remarks(Ok(_)) => line,
+            BehindFrame::Remarks(Err(_)) => line.or_worse(Outcome::NoMemory),
         }
     }
 }
@@ -99,10 +94,7 @@ impl<'a> Remarking<'a> {
     pub fn on(&self, alloc: Global, name: &str, frame: &[u8]) -> BehindFrame
         ensures { AreRemarks result }
     {
-        match self.find(alloc, name, frame) {
-            Ok(remarks) => BehindFrame::Remarks(remarks),
-            Err(_) => BehindFrame::NoRemarks,
-        }
+        BehindFrame::Remarks(self.find(alloc, name, frame))
     }
 
     fn find(&self, alloc: Global, name: &str, frame: &[u8]) -> Result<FrameRemarks, AllocError> {

@@ -1,7 +1,7 @@
 //! Roots that words of the command line spell, by addresses or by labels.
 
-ghost use Rattle.std.specs.Prelude.{IfOk, IfErr, IfSome};
-ghost use Rattle.dvg_cmd.specs.Roots.{NamesRoot, IsRootBy, IsRootFault};
+ghost use Rattle.std.specs.Prelude.{IfOk, IfErr, IfSome, IfNone};
+ghost use Rattle.dvg_cmd.specs.Roots.{NamesRoot, IsNoRoot, IsRootBy, NamesNoAddress};
 
 use dvg_cert::Key;
 use dvg_labels::{Labels, Unnamed};
@@ -11,15 +11,6 @@ use dvg_text::read_key;
 /// What stands between a label's name and a scale.
 const SLASH: char = '/';
 
-/// Why a word spells no root.
-#[derive(Clone, Copy, Debug, PartialEq, Eq)]
-pub enum RootFault {
-    /// It has not the form of a root.
-    Form,
-    /// It has the form of a label's root, and the label names no word address.
-    Label(Unnamed),
-}
-
 /// The name and the key of a label's root.
 fn name_and_key(text: &str) -> Option<(&str, Key)>
     ensures { IfSome result (λ root. NamesRoot text.now root.0.now root.1) }
@@ -28,24 +19,21 @@ fn name_and_key(text: &str) -> Option<(&str, Key)>
     Some((name, read_key(key.as_bytes())?))
 }
 
-/// The root that a word of the command line spells: as [`root_of`] reads it; else by a label of these, with its name, which has no
-/// slash, in place of the address.
+/// The root that a word of the command line spells, if it has the form of one: as [`root_of`] reads it; else by a label of these, with
+/// its name, which has no slash, in place of the address. Fails if it has the form of a label's root, and the label names no address.
 #[tactic(auto, using(std::proofs::lemmas::Bool::Decides::nat_tests))]
-pub fn root_by(labels: Option<&Labels>, text: &str) -> Result<(u16, Key), RootFault>
-    ensures ok { IfOk result (λ root. IsRootBy labels.entry text.now root.0 root.1) }
-    ensures err { IfErr result (IsRootFault labels.entry text.now) }
+pub fn root_by(labels: Option<&Labels>, text: &str) -> Result<Option<(u16, Key)>, Unnamed>
+    ensures some { IfOk result (λ root. IfSome root (λ root. IsRootBy labels.entry text.now root.0 root.1)) }
+    ensures none { IfOk result (λ root. IfNone root (IsNoRoot text.now)) }
+    ensures err { IfErr result (NamesNoAddress labels.entry text.now) }
 {
-    if let Some(root) = root_of(text) {
+    let root = root_of(text);
+    if root.is_some() {
         return Ok(root);
     }
-    let Some((name, key)) = name_and_key(text) else {
-        return Err(RootFault::Form);
+    let (Some(labels), Some((name, key))) = (labels, name_and_key(text)) else {
+        return Ok(None);
     };
-    let Some(labels) = labels else {
-        return Err(RootFault::Form);
-    };
-    match labels.address_of(name.as_bytes()) {
-        Ok(addr) => Ok((addr, key)),
-        Err(why) => Err(RootFault::Label(why)),
-    }
+    let addr = labels.address_of(name.as_bytes())?;
+    Ok(Some((addr, key)))
 }

@@ -12,7 +12,7 @@ ghost use Rattle.dvg_cmd.specs.declared.detail.Detail.TheVariants as details;
 ghost use Rattle.dvg_cmd.specs.Private.Judging.{JudgesRom};
 ghost use Rattle.dvg_cmd.specs.Private.Reading.{IsPrefix};
 
-use crate::detail::{Behind, Detail};
+use crate::detail::{Behind, Detail, behind_text, outcome_behind};
 use crate::reading::{read_certificate, read_frame, read_rom, skip};
 use dvg_account::{Inputs, certificate_text, verdict_text};
 use dvg_cert::Cert;
@@ -155,8 +155,8 @@ pub fn text_account(
     ensures { IsBehind detail.entry result }
 {
     match detail {
-        Detail::Line => Behind::Nothing,
-        Detail::Account(labels) => Behind::of(certificate_text(machine, alloc, refused, labels)),
+        Detail::Line => Ok(None),
+        Detail::Account(labels) => certificate_text(machine, alloc, refused, labels).map(Some),
     }
 }
 
@@ -175,7 +175,7 @@ fn account_of<'a>(
         return text_account(options.machine, alloc, refused, detail);
     }
     let Detail::Account(labels) = detail else {
-        return Behind::Nothing;
+        return Ok(None);
     };
     let inputs = Inputs {
         machine: options.machine,
@@ -189,7 +189,7 @@ fn account_of<'a>(
         labels,
         others: None,
     };
-    Behind::of(verdict_text(alloc, &inputs, &judged.verdict, judged.cause.as_ref()))
+    verdict_text(alloc, &inputs, &judged.verdict, judged.cause.as_ref()).map(Some)
 }
 
 /// Writes the report of a verdict, and a text behind it.
@@ -210,8 +210,8 @@ pub fn write_report<W: CountedWrite>(
     ensures count { W.failures out.new ≡ count_after (is_err result) (W.failures out.old) }
 {
     let report = report_of(verdict);
-    write_lines(report.as_bytes(), behind.text().as_bytes(), &[], out)?;
-    Ok(behind.outcome_with(outcome_of(verdict)))
+    write_lines(report.as_bytes(), behind_text(behind).as_bytes(), &[], out)?;
+    Ok(outcome_behind(behind, outcome_of(verdict)))
 }
 
 /// Reads a ROM, a frame and a certificate, in this order, and writes the report of the verdict on them, and an account of it if the

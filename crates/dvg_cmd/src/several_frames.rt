@@ -69,7 +69,10 @@ fn answer_opened<J: FrameJudge, R: CountedRead + Drop>(
         Some(mut reader) => answer_of(alloc, judge, start, name, &mut reader, detail),
         None => (
             Answer::Unread,
-            BehindFrame::Answer(unread_account(judge.machine(), alloc, detail.of_answer())),
+            BehindFrame::Answer(
+                unread_account(judge.machine(), alloc, detail.of_answer()),
+                None,
+            ),
         ),
     }
 }
@@ -198,7 +201,7 @@ impl<'a> Given<'a> {
         ensures { IsBehind detail.entry result }
     {
         let Detail::Account(labels) = detail else {
-            return Behind::Nothing;
+            return Ok(None);
         };
         let inputs = Inputs {
             machine: self.options.machine,
@@ -213,7 +216,7 @@ impl<'a> Given<'a> {
             others: None,
         };
         let verdict = Err(cause.refusal());
-        Behind::of(verdict_text(alloc, &inputs, &verdict, Some(cause)))
+        verdict_text(alloc, &inputs, &verdict, Some(cause)).map(Some)
     }
 
     /// Writes the report of that refusal, and what the detail asks for behind it.

@@ -54,7 +54,7 @@ fn count_remarks(tally: &mut RemarkTally, found: &[FrameRemark])
 fn add_remarks(tally: &mut Option<RemarkTally>, behind: &BehindFrame)
     ensures { tally.new ≡ remarked_with tally.old behind.now }
 {
-    if let BehindFrame::Remarks(remarks) = behind {
+    if let BehindFrame::Remarks(Ok(remarks)) = behind {
         let mut counted = tally.unwrap_or(RemarkTally::new());
         count_remarks(&mut counted, remarks.found.as_slice());
         *tally = Some(counted);
@@ -66,10 +66,12 @@ fn add_called(tally: &mut CalledTally, behind: BehindFrame)
     ensures { tally.new ≡ called_with tally.old behind }
 {
     match behind {
-        BehindFrame::Called(_behind, called) => tally.add(called),
-        BehindFrame::Answer(_behind) => {}
+        BehindFrame::Answer(_behind, called) => {
+            if let Some(called) = called {
+                tally.add(called);
+            }
+        }
         BehindFrame::Remarks(_remarks) => {}
-        BehindFrame::NoRemarks => {}
     }
 }
 

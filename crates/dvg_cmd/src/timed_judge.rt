@@ -8,7 +8,7 @@ ghost use Rattle.dvg_cmd.specs.declared.detail.Detail.TheVariants as details;
 ghost use Rattle.dvg_cmd.specs.Kept.{IsTimedFor};
 ghost use Rattle.dvg_cmd.specs.Private.Judging.{IsAnswerOf};
 
-use crate::detail::{Behind, Detail};
+use crate::detail::Detail;
 use crate::frame_judge::{FrameJudge, OwnCertificates, ToldAnswer, explain_by_own};
 use dvg_check::frame_of;
 use dvg_clocks::{TimedRefusal, TimedYes, Timing, judge_timed};
@@ -179,11 +179,11 @@ impl<'a> FrameJudge for TimedCertificates<'a> {
             }
             (Detail::Line, Some(kept)) => (
                 answer_by_kept(alloc, &self.own, &self.asked, kept, frame),
-                Behind::Nothing,
+                Ok(None),
             ),
             (Detail::Line, None) => (
                 answer_by_own(alloc, &self.own, &self.asked, frame),
-                Behind::Nothing,
+                Ok(None),
             ),
         }
     }

@@ -1,13 +1,13 @@
 -- What a line of a label file tells. The forms are those of the files that ld65 and VICE, ACME, DASM and vasm write (docs/LABELS.md);
 -- what is taken of them is this project's own.
-use Rattle.std.specs.Prelude.{ℕ, ◌+◌, ◌*◌, Bool, false, ◌&&◌, ◌||◌, ◌==◌, nat_le, nat_lt, if◌then◌else◌, min, List, [], ◌∷◌, length, drop, slice_index, codes, Option, Some, None}
+use Rattle.std.specs.Prelude.{ℕ, ◌+◌, ◌*◌, Bool, false, ◌&&◌, ◌||◌, ◌==◌, nat_le, nat_lt, if◌then◌else◌, min, List, [], ◌∷◌, length, drop, slice_index, codes, Option, Some, None, Result, Ok, Err}
 use Rattle.std.specs.List.{list_all}
 use Rattle.std.specs.Str.{bytes_eq}
 use Rattle.std.specs.Char.{digit_value}
 use Rattle.dvg_labels.specs.Limits.{LONGEST_NAME}
 use Rattle.dvg_labels.specs.Cutting.{words, first_of}
-use Rattle.dvg_labels.specs.declared.line.Told.{Told}
-use Rattle.dvg_labels.specs.declared.line.Told.TheVariants as told
+use Rattle.std.specs.Borrow.{Bor}
+use Rattle.dvg_labels.specs.declared.fault.LabelFault.{LabelFault}
 
 -- what a line tells: nothing; a label and its value, if it has one; or it is of none of the forms
 pub data Meaning : Type 0 where
@@ -15,11 +15,16 @@ pub data Meaning : Type 0 where
   Label : List ℕ → Option ℕ → Meaning
   Wrong : Meaning
 
+-- what a label is told as: a line of one of the forms tells one
+abbrev pub label_meaning : Option (Bor (List ℕ) × Option ℕ) → Meaning
+label_meaning None = Wrong
+label_meaning (Some label) = Label label.0.now label.1
+
 -- what is told of a line, as its meaning
-abbrev pub meaning_of : Told → Meaning
-meaning_of told.Nothing = Nothing
-meaning_of (told.Label name value) = Label name.now value
-meaning_of told.Wrong = Wrong
+abbrev pub meaning_of : Result (Option (Bor (List ℕ) × Option ℕ)) LabelFault → Meaning
+meaning_of (Ok None) = Nothing
+meaning_of (Ok label) = label_meaning label
+meaning_of (Err fault) = Wrong
 
 -- no value is greater than this one, which no address is
 abbrev pub MOST_VALUE : ℕ

@@ -7,8 +7,6 @@ use Rattle.dvg_labels.specs.Grammar.{Meaning, Nothing, Label, Wrong, line_meanin
 use Rattle.dvg_labels.specs.Labels.{Labelling, word_of, total, add}
 use Rattle.dvg_labels.specs.declared.fault.LabelFault.{LabelFault}
 use Rattle.dvg_labels.specs.declared.fault.LabelFault.TheVariants as fault
-use Rattle.dvg_labels.specs.declared.fault.LabelWhy.{LabelWhy}
-use Rattle.dvg_labels.specs.declared.fault.LabelWhy.TheVariants as why
 
 -- no labels
 abbrev pub no_labels : Labelling
@@ -35,28 +33,28 @@ abbrev pub TellsLabel : Meaning → Type 0
 TellsLabel (Label name value) = Unit {0}
 TellsLabel other = ⊥
 
--- why a line is refused where these labels stand before it
-abbrev pub IsLineFault : Labelling → List ℕ → LabelWhy → Type 0
-IsLineFault known line why.Form = line_meaning line ≡ Wrong
-IsLineFault known line why.TooMany = TellsLabel (line_meaning line) × (total known ≡ MOST_LABELS)
-IsLineFault known line why.Memory = TellsLabel (line_meaning line)
+-- why the line with this number is refused where these labels stand before it
+abbrev pub IsLineFault : Labelling → ℕ → List ℕ → LabelFault → Type 0
+IsLineFault known number line fault.TooLong = ⊥
+IsLineFault known number line (fault.Form n) = (n ≡ number) × (line_meaning line ≡ Wrong)
+IsLineFault known number line (fault.TooMany n) = (n ≡ number) × TellsLabel (line_meaning line) × (total known ≡ MOST_LABELS)
+IsLineFault known number line (fault.Memory n) = (n ≡ number) × TellsLabel (line_meaning line)
 
--- the line with this number, counted from 1, is refused, and the labels of all lines before it are read
-pub record RefusesLine (text : List ℕ) (number : ℕ) (why : LabelWhy) : Type 0 where
+-- a line, counted from 1, is refused, and the labels of all lines before it are read
+pub record RefusesLine (text : List ℕ) (why : LabelFault) : Type 0 where
   pub before : List (List ℕ)
   pub line : List ℕ
   pub after : List (List ℕ)
   pub cut : lines text ≡ before ++ line ∷ after
-  pub counted : number ≡ length before + 1
   pub known : Labelling
   pub read : with_lines (Some no_labels) before ≡ Some known
-  pub refused : IsLineFault known line why
+  pub refused : IsLineFault known (length before + 1) line why
 
 -- what the bytes of a label file are read as: all its labels, or why it is refused
 abbrev pub ReadsLabels : List ℕ → Result Labelling LabelFault → Type 0
 ReadsLabels text (Ok labels) = (length text ≤ MOST_BYTES) × (with_lines (Some no_labels) (lines text) ≡ Some labels)
 ReadsLabels text (Err fault.TooLong) = MOST_BYTES < length text
-ReadsLabels text (Err (fault.Line number why)) = (length text ≤ MOST_BYTES) × RefusesLine text number why
+ReadsLabels text (Err why) = (length text ≤ MOST_BYTES) × RefusesLine text why
 
 -- what is left to read: one more than the bytes of the text that is left, if there is one
 abbrev pub left : Option (Bor (List ℕ)) → ℕ

@@ -2,29 +2,21 @@
 
 use thiserror::Error;
 
-/// Why a label file is refused.
-#[derive(Clone, Copy, Debug, PartialEq, Eq, Error)]
-pub enum LabelWhy {
-    /// The line is of none of the forms (docs/LABELS.md).
-    #[error("the line is of none of the forms of label files")]
-    Form,
-    /// The line's label is the 65,537th.
-    #[error("there are too many labels")]
-    TooMany,
-    /// There was no memory for the line's label.
-    #[error("there is no memory for the label")]
-    Memory,
-}
-
-/// A refused label file.
+/// Why a label file is refused. Lines are counted from 1.
 #[derive(Clone, Copy, Debug, PartialEq, Eq, Error)]
 pub enum LabelFault {
     /// It has more than 1,048,576 bytes.
     #[error("the file is too long")]
     TooLong,
-    /// A line, counted from 1, and what is wrong with it.
-    #[error("line {line}: {why}")]
-    Line { line: u32, why: LabelWhy },
+    /// A line is of none of the forms (docs/LABELS.md).
+    #[error("line {line}: the line is of none of the forms of label files")]
+    Form { line: u32 },
+    /// The label of a line is the 65,537th.
+    #[error("line {line}: there are too many labels")]
+    TooMany { line: u32 },
+    /// There was no memory for the label of a line.
+    #[error("line {line}: there is no memory for the label")]
+    Memory { line: u32 },
 }
 
 /// Why a name names no word address.

@@ -1,10 +1,10 @@
 //! The labels of words, and what they name.
 
-ghost use Rattle.std.specs.Prelude.{◌≡◌, ℕ, List, ◌++◌, ◌∷◌, [], ◌+◌, true, false, map, IfSome, IfNone, IfErr, IfOk, OnOk, OnErr, IsTrue, ◌↔◌, ◌⊎◌};
+ghost use Rattle.std.specs.Prelude.{◌≡◌, ◌≢◌, ℕ, List, ◌++◌, ◌∷◌, [], ◌+◌, true, false, map, IfSome, IfNone, IfErr, IfOk, OnOk, OnErr, IsTrue, ◌↔◌};
 ghost use Rattle.dvg_labels.specs.Labels.{Named, named_of, word_of, may_name, IsNearest, IsAddress, IsFound, StandsAtTwo, IsLabelling, add, total};
 ghost use Rattle.dvg_labels.specs.Limits.{MOST_LABELS};
 
-use crate::fault::{LabelWhy, Unnamed};
+use crate::fault::Unnamed;
 use crate::limits::MOST_LABELS;
 use dvg_words::{MEMORY_LAST, RAM_WORDS};
 use std::alloc::{AllocError, Global};
@@ -165,26 +165,29 @@ impl Labels {
         }
     }
 
-    /// Adds a label with this value, if there is room and memory for it.
+    /// Whether there are as many labels as there may be.
+    pub(crate) fn is_full(&self) -> bool
+        ensures { IsTrue result ↔ total self.now ≡ MOST_LABELS }
+    {
+        self.labels.len() + self.passed >= MOST_LABELS
+    }
+
+    /// Adds a label with this value, if there is memory for it.
     pub(crate) fn add(
         &mut self,
         alloc: Global,
         name: &[u8],
         value: Option<u32>,
-    ) -> Result<(), LabelWhy>
-        ensures ok { OnOk result (self.new ≡ add self.old name.now (word_of value)) }
-        ensures err { IfErr result (λ why. (why ≡ LabelWhy.Memory) ⊎ ((why ≡ LabelWhy.TooMany) × (total self.old ≡ MOST_LABELS))) }
+    ) -> Result<(), AllocError>
+        requires { total self.old ≢ MOST_LABELS }
+        ensures { OnOk result (self.new ≡ add self.old name.now (word_of value)) }
     {
-        if self.labels.len() + self.passed >= MOST_LABELS {
-            return Err(LabelWhy::TooMany);
-        }
-        let Some(addr) = word_of(value) else {
-            self.passed += 1;
-            return Ok(());
-        };
-        match push_label(&mut self.labels, alloc, name, addr) {
-            Ok(()) => Ok(()),
-            Err(_) => Err(LabelWhy::Memory),
+        match word_of(value) {
+            Some(addr) => push_label(&mut self.labels, alloc, name, addr),
+            None => {
+                self.passed += 1;
+                Ok(())
+            }
         }
     }
 

@@ -12,7 +12,7 @@ mod limits;
 mod line;
 mod reading;
 
-pub use fault::{LabelFault, LabelWhy, Unnamed};
+pub use fault::{LabelFault, Unnamed};
 pub use labels::{Label, Labels, Nearest};
 pub use limits::{LONGEST_NAME, MOST_BYTES, MOST_LABELS};
 pub use reading::read_labels;

@@ -1,22 +1,15 @@
 //! What a line of a label file tells.
 
-ghost use Rattle.std.specs.Prelude.{◌≡◌, true, drop};
-ghost use Rattle.dvg_labels.specs.Grammar.{meaning_of, line_meaning, number, are_graphic, is_name, begins, is_flag, untagged, valued, valueless, vice, acme, row, tells_nothing, statement};
+ghost use Rattle.std.specs.Prelude.{◌≡◌, true, drop, IfErr};
+ghost use Rattle.dvg_labels.specs.Grammar.{label_meaning, meaning_of, line_meaning, number, are_graphic, is_name, begins, is_flag, untagged, valued, valueless, vice, acme, row, tells_nothing, statement};
 ghost use Rattle.dvg_labels.specs.Cutting.{words, first_of};
 
 use crate::cutting::take_word;
+use crate::fault::LabelFault;
 use crate::limits::LONGEST_NAME;
 
-/// What a line tells.
-#[derive(Clone, Copy)]
-pub enum Told<'a> {
-    /// Nothing: it is empty, a remark or a heading.
-    Nothing,
-    /// A label and its value, `None` where that is no address.
-    Label(&'a [u8], Option<u32>),
-    /// It is of none of the forms.
-    Wrong,
-}
+/// What a line tells: the name of a label and its value, `None` where that is no address.
+pub type ToldLabel<'a> = (&'a [u8], Option<u32>);
 
 /// The value that every number over FFFF counts as: it is no address of the processor.
 const MOST_VALUE: u32 = 0x10000;
@@ -73,48 +66,48 @@ fn untagged(word: &[u8]) -> &[u8]
 }
 
 /// A label with the value that its digits spell.
-fn valued<'a>(name: &'a [u8], digits: &[u8]) -> Told<'a>
-    ensures { meaning_of result ≡ valued name.now digits.now }
+fn valued<'a>(name: &'a [u8], digits: &[u8]) -> Option<ToldLabel<'a>>
+    ensures { label_meaning result ≡ valued name.now digits.now }
 {
     match number(digits) {
-        Some(value) if is_name(name) => Told::Label(name, Some(value)),
-        _ => Told::Wrong,
+        Some(value) if is_name(name) => Some((name, Some(value))),
+        _ => None,
     }
 }
 
 /// A label without a value that is an address.
-fn valueless(name: &[u8]) -> Told<'_>
-    ensures { meaning_of result ≡ valueless name.now }
+fn valueless(name: &[u8]) -> Option<ToldLabel<'_>>
+    ensures { label_meaning result ≡ valueless name.now }
 {
     if is_name(name) {
-        Told::Label(name, None)
+        Some((name, None))
     } else {
-        Told::Wrong
+        None
     }
 }
 
 /// What a line of VICE tells: its value, its name behind a dot, and what is behind that.
-fn vice<'a>(value: &[u8], name: &'a [u8], behind: &[u8]) -> Told<'a>
+fn vice<'a>(value: &[u8], name: &'a [u8], behind: &[u8]) -> Option<ToldLabel<'a>>
     requires { begins 46 name.now ≡ true }
-    ensures { meaning_of result ≡ vice value.now name.now behind.now }
+    ensures { label_meaning result ≡ vice value.now name.now behind.now }
 {
     if behind.is_empty() {
         valued(&name[1..], untagged(value))
     } else {
-        Told::Wrong
+        None
     }
 }
 
 /// What a line of ACME tells: its name, its value behind the sign of equality, and what is behind that.
-fn acme<'a>(name: &'a [u8], value: &[u8], behind: &[u8]) -> Told<'a>
-    ensures { meaning_of result ≡ acme name.now value.now behind.now }
+fn acme<'a>(name: &'a [u8], value: &[u8], behind: &[u8]) -> Option<ToldLabel<'a>>
+    ensures { label_meaning result ≡ acme name.now value.now behind.now }
 {
     if !behind.is_empty() && !begins(b';', behind) {
-        return Told::Wrong;
+        return None;
     }
     match value {
         [b'$', digits @ ..] => valued(name, digits),
-        [] => Told::Wrong,
+        [] => None,
         _ => valueless(name),
     }
 }
@@ -127,11 +120,11 @@ fn is_flag(word: &[u8]) -> bool
 }
 
 /// What a row of a table of symbols tells: its name, its value, and what is behind that.
-fn row<'a>(name: &'a [u8], value: &[u8], behind: &[u8]) -> Told<'a>
-    ensures { meaning_of result ≡ row name.now value.now behind.now }
+fn row<'a>(name: &'a [u8], value: &[u8], behind: &[u8]) -> Option<ToldLabel<'a>>
+    ensures { label_meaning result ≡ row name.now value.now behind.now }
 {
     if !is_flag(behind) {
-        Told::Wrong
+        None
     } else if value == b"????".as_slice() {
         valueless(name)
     } else {
@@ -162,21 +155,28 @@ fn take_first(line: &[u8]) -> (&[u8], &[u8])
     }
 }
 
-/// What a line tells, by its first four words; each is empty where there are fewer.
-pub fn read_line(line: &[u8]) -> Told<'_>
-    ensures { meaning_of result ≡ line_meaning line.now }
+/// What the line with this number tells, by its first four words; each is empty where there are fewer. It tells nothing if it is empty, a
+/// remark or a heading.
+pub fn read_line(line: u32, bytes: &[u8]) -> Result<Option<ToldLabel<'_>>, LabelFault>
+    ensures meaning { meaning_of result ≡ line_meaning bytes.now }
+    ensures err { IfErr result (λ fault. fault ≡ LabelFault.Form line) }
 {
-    let (first, rest) = take_first(line);
+    let (first, rest) = take_first(bytes);
     let (second, rest) = take_word(rest);
     let (third, rest) = take_word(rest);
     let (fourth, _) = take_word(rest);
     if tells_nothing(first) {
-        Told::Nothing
-    } else if first == b"al".as_slice() && begins(b'.', third) {
+        return Ok(None);
+    }
+    let label = if first == b"al".as_slice() && begins(b'.', third) {
         vice(second, third, fourth)
     } else if second == b"=".as_slice() {
         acme(first, third, fourth)
     } else {
         row(first, second, third)
+    };
+    match label {
+        Some(label) => Ok(Some(label)),
+        None => Err(LabelFault::Form { line }),
     }
 }

@@ -4,21 +4,26 @@ ghost use Rattle.std.specs.Prelude.{◌≡◌, Some, OnOk, IfErr};
 ghost use Rattle.dvg_labels.specs.Reading.{ReadsLabels, with_line, IsLineFault};
 
 use crate::cutting::cut_line;
-use crate::fault::{LabelFault, LabelWhy};
+use crate::fault::LabelFault;
 use crate::labels::Labels;
 use crate::limits::MOST_BYTES;
-use crate::line::{Told, read_line};
+use crate::line::read_line;
 use std::alloc::Global;
 
-/// Adds the label that a line tells, if it tells one.
-fn take_line(labels: &mut Labels, alloc: Global, line: &[u8]) -> Result<(), LabelWhy>
-    ensures ok { OnOk result (with_line labels.old line.now ≡ Some labels.new) }
-    ensures err { IfErr result (IsLineFault labels.old line.now) }
+/// Adds the label that the line with this number tells, if it tells one.
+fn take_line(labels: &mut Labels, alloc: Global, line: u32, bytes: &[u8]) -> Result<(), LabelFault>
+    ensures ok { OnOk result (with_line labels.old bytes.now ≡ Some labels.new) }
+    ensures err { IfErr result (IsLineFault labels.old line bytes.now) }
 {
-    match read_line(line) {
-        Told::Nothing => Ok(()),
-        Told::Label(name, value) => labels.add(alloc, name, value),
-        Told::Wrong => Err(LabelWhy::Form),
+    let Some((name, value)) = read_line(line, bytes)? else {
+        return Ok(());
+    };
+    if labels.is_full() {
+        return Err(LabelFault::TooMany { line });
+    }
+    match labels.add(alloc, name, value) {
+        Ok(()) => Ok(()),
+        Err(_) => Err(LabelFault::Memory { line }),
     }
 }
 
@@ -36,9 +41,7 @@ pub fn read_labels(alloc: Global, text: &[u8]) -> Result<Labels, LabelFault>
     while let Some(bytes) = rest {
         let (first, behind) = cut_line(bytes);
         line += 1;
-        if let Err(why) = take_line(&mut labels, alloc, first) {
-            return Err(LabelFault::Line { line, why });
-        }
+        take_line(&mut labels, alloc, line, first)?;
         rest = behind;
     }
     Ok(labels)

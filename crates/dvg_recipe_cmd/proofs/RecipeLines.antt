@@ -3,7 +3,7 @@ use Rattle.dvg_recipe_cmd.proofs.Common.{◌≡◌, sym, ap, ◌∙◌, ◌++◌
 use Rattle.dvg_cmd.specs.Telling.{Line, Reports, WritesLine, gone_with, no_line, texts_of, all_texts}
 use Rattle.dvg_cmd.specs.declared.progress.Progress.{Progress}
 use Rattle.dvg_cmd.specs.declared.detail.Detail.TheVariants as details
-use Rattle.dvg_cmd.specs.declared.detail.Behind.{Behind}
+use Rattle.dvg_cmd.specs.Detail.{Behind}
 use Rattle.dvg_cmd.specs.Sent.{Sent}
 use Rattle.dvg_recipe_cmd.specs.Recipes.{RecipeAnswer, of_recipes}
 

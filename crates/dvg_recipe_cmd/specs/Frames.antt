@@ -11,9 +11,8 @@ use Rattle.dvg_recipe_text.specs.declared.reader.ReadRecipe.{ReadRecipe}
 use Rattle.dvg_recipe_text.specs.declared.fault.RecipeTextFault.{RecipeTextFault}
 use Rattle.dvg_cmd.specs.Frames.{Outcome, ReadsFrame}
 use Rattle.dvg_cmd.specs.Runs.{MOST_FRAME_READ, IsReadTo}
-use Rattle.dvg_cmd.specs.Detail.{IsBehind, behind_text, outcome_behind, has_account}
+use Rattle.dvg_cmd.specs.Detail.{Behind, IsBehind, behind_text, outcome_behind, has_account}
 use Rattle.dvg_cmd.specs.declared.detail.Detail.{Detail}
-use Rattle.dvg_cmd.specs.declared.detail.Behind.{Behind}
 use Rattle.dvg_cmd.specs.declared.listing.Listing.{Listing}
 use Rattle.dvg_cmd.specs.declared.several_frames.NamedReader.{NamedReader}
 use Rattle.dvg_recipe_cmd.specs.declared.answer.RecipeNo.{RecipeNo}

@@ -11,13 +11,12 @@ use Rattle.dvg_check.specs.declared.verdict.Yes.{Yes}
 use Rattle.dvg_recipe.specs.Recipes.{Recipe}
 use Rattle.dvg_recipe.specs.Lengths.{FitsAreas}
 use Rattle.dvg_recipe.specs.Means.{AllMean, AllTake}
-use Rattle.dvg_cmd.specs.Detail.{IsBehind, behind_text, outcome_behind, has_account}
+use Rattle.dvg_cmd.specs.Detail.{Behind, IsBehind, behind_text, outcome_behind, has_account}
 use Rattle.dvg_cmd.specs.declared.detail.Detail.{Detail}
 use Rattle.dvg_cmd.specs.declared.detail.Detail.TheVariants as details
 use Rattle.dvg_cmd.specs.declared.timed_judge.ClockOptions.{ClockOptions}
 use Rattle.dvg_cmd.specs.declared.timed_judge.LineClocks.{LineClocks}
 use Rattle.dvg_cmd.specs.declared.timed_judge.LineClocks.TheVariants as line_clocks
-use Rattle.dvg_cmd.specs.declared.detail.Behind.{Behind}
 use Rattle.dvg_cmd.specs.declared.listing.Lines.TheVariants as which
 use Rattle.dvg_cmd.specs.Frames.{told_with}
 use Rattle.dvg_spelling.specs.declared.outcome.Answer.{Answer}

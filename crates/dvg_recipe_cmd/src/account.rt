@@ -111,7 +111,7 @@ fn push_shown(
     ready: &Ready,
     refusal: &RecipeRefusal,
     detail: Detail,
-) -> Result<Behind, AllocError>
+) -> Behind
     requires { IsReady ready.now }
 {
     let RecipeOptions {
@@ -123,7 +123,7 @@ fn push_shown(
     let Some(shown) = find_refused(ready.alloc, &ready.image, recipe, budget, window, refusal)?
     else {
         text.push_nothing_shown();
-        return Ok(Behind::Nothing);
+        return Ok(None);
     };
     if let Some(piece) = piece_of(refusal) {
         push_turns(text, ready, piece, &shown.turns)?;
@@ -139,7 +139,7 @@ fn push_shown(
     };
     match judge.verdict(ready.alloc, &shown.frame, detail) {
         (Err(FrameRefusal::NoMemory), _) => Err(AllocError),
-        (_, behind) => Ok(behind),
+        (_, behind) => behind,
     }
 }
 
@@ -150,13 +150,13 @@ fn push_surveyed(
     ready: &Ready,
     surveyed: &SurveyedRecipe,
     detail: Detail,
-) -> Result<Behind, AllocError>
+) -> Behind
     requires { IsReady ready.now }
 {
     let number = match &surveyed.verdict {
         Ok(_) => {
             push_accepted(text, ready, &surveyed.seen)?;
-            return Ok(Behind::Nothing);
+            return Ok(None);
         }
         Err(RecipeRefusal::Memory) => return Err(AllocError),
         Err(RecipeRefusal::TooLong { .. }) => {
@@ -172,7 +172,7 @@ fn push_surveyed(
         Err(refusal) => return push_shown(text, ready, refusal, detail),
     };
     let why = PlainWhy::Nothing;
-    Ok(plain_account(Machine::Board, ready.alloc, number, why, detail))
+    plain_account(Machine::Board, ready.alloc, number, why, detail)
 }
 
 /// The account of the verdict on a recipe that was read; addresses are named by these labels, if there are any.
@@ -186,9 +186,8 @@ pub fn account_text(
     let mut text = RecipeText::new(ready.alloc);
     let behind = push_surveyed(&mut text, ready, surveyed, Detail::Account(labels))?;
     let mut text = text.finish()?;
-    match behind {
-        Behind::NoMemory => return Err(AllocError),
-        Behind::Nothing | Behind::Account(_) => text.push_str(behind.text())?,
+    if let Some(account) = behind {
+        text.push_str(account.as_str())?;
     }
     Ok(text)
 }

@@ -16,8 +16,8 @@ use crate::membership::{Membership, membership_line_of, membership_outcome_of};
 use crate::tally::BelongsTally;
 use dvg_account::leaving_text;
 use dvg_cmd::{
-    Behind, Detail, FRAME_READ, Listing, NamedReader, PlainWhy, Progress, Tell, plain_account,
-    read_started, run_each, unread_account,
+    Behind, Detail, FRAME_READ, Listing, NamedReader, PlainWhy, Progress, Tell, behind_text,
+    outcome_behind, plain_account, read_started, run_each, unread_account,
 };
 use dvg_labels::Labels;
 use dvg_recipe::{NotMember, belongs, too_long};
@@ -93,8 +93,8 @@ pub fn membership_of(
     };
     let found = belongs(alloc, image, &read.recipe, &frame);
     let behind = match detail {
-        Detail::Line => Behind::Nothing,
-        Detail::Account(labels) => { Behind::of(account_text(alloc, read, &frame, &found, labels)) }
+        Detail::Line => Ok(None),
+        Detail::Account(labels) => account_text(alloc, read, &frame, &found, labels).map(Some),
     };
     let membership = match found {
         Ok(()) => Membership::Belongs,
@@ -163,9 +163,15 @@ impl<'a, R: CountedRead + Drop> Tell<NamedReader<R>> for MemberTeller<'a> {
     ) -> Result<(), WriteFault> {
         let NamedReader { name, reader } = thing;
         let (membership, behind) = self.membership_read(alloc, reader);
-        let outcome = behind.outcome_with(membership_outcome_of(membership));
+        let outcome = outcome_behind(&behind, membership_outcome_of(membership));
         let line = membership_line_of(membership);
-        progress.write_line(outcome, name.as_str(), line.as_bytes(), behind.text(), out)?;
+        progress.write_line(
+            outcome,
+            name.as_str(),
+            line.as_bytes(),
+            behind_text(&behind),
+            out,
+        )?;
         progress.tally.add(membership);
         progress.add(outcome);
         Ok(())
@@ -199,8 +205,8 @@ fn write_refusal<W: CountedWrite>(
     let why = PlainWhy::Nothing;
     let behind = plain_account(Machine::Board, alloc, no.number(), why, detail);
     let line = refusal_line_of(no);
-    write_lines(line.as_bytes(), behind.text().as_bytes(), &[], out)?;
-    Ok(behind.outcome_with(no.outcome()))
+    write_lines(line.as_bytes(), behind_text(&behind).as_bytes(), &[], out)?;
+    Ok(outcome_behind(&behind, no.outcome()))
 }
 
 /// Tells of frames, one after another, whether they are one of a recipe's, and writes a line for each that the listing has: the name, which

@@ -1,6 +1,6 @@
 //! The answer to the text of a recipe, and a frame that shows why it is refused.
 
-ghost use Rattle.std.specs.Prelude.{◌≡◌, ◌≤◌, ◌<◌, length, None, Some, IfOk, IfErr, Err};
+ghost use Rattle.std.specs.Prelude.{◌≡◌, ◌≤◌, ◌<◌, length, None, Some, IfOk, IfErr, Err, Ok};
 ghost use Rattle.dvg_words.specs.declared.machine.Machine.TheVariants.{Board};
 ghost use Rattle.dvg_words.specs.Memory.{IsRomLength, rom_on};
 ghost use Rattle.dvg_cert.specs.declared.limits.TheConstants.{MOST_WORDS};
@@ -8,7 +8,6 @@ ghost use Rattle.dvg_recipe_cmd.specs.Recipes.{IsAnswer, IsTimedAnswer, IsVerdic
 ghost use Rattle.dvg_cmd.specs.Detail.{IsBehind};
 ghost use Rattle.dvg_cmd.specs.declared.detail.Detail.TheVariants as details;
 ghost use Rattle.dvg_recipe_cmd.specs.Private.Judging.{IsReady, wanted_detail};
-ghost use Rattle.dvg_cmd.specs.declared.detail.Behind.TheVariants as behinds;
 ghost use Rattle.dvg_recipe_cmd.specs.declared.answer.RecipeNo.TheVariants.{Text};
 
 use crate::account::account_text;
@@ -231,7 +230,7 @@ impl<'a> Ready<'a> {
     fn judge(&self, wanted: Wanted) -> JudgedRecipe
         requires { IsReady self.now }
         ensures verdict { IsVerdict self.now.explained.rom.now self.now.explained.options result.verdict }
-        ensures behind { result.behind ≡ behinds.Nothing }
+        ensures behind { result.behind ≡ Ok None }
     {
         let RecipeOptions { budget, window, .. } = self.explained.options;
         let (verdict, witness) = match judge_recipe(
@@ -247,7 +246,7 @@ impl<'a> Ready<'a> {
         JudgedRecipe {
             verdict,
             witness,
-            behind: Behind::Nothing,
+            behind: Ok(None),
         }
     }
 
@@ -271,9 +270,9 @@ impl<'a> Ready<'a> {
                     Ok(yes) => Ok(*yes),
                     Err(refusal) => Err(self.told(refusal)),
                 },
-                Behind::of(account_text(self, &surveyed, labels)),
+                account_text(self, &surveyed, labels).map(Some),
             ),
-            Err(_) => (Err(RecipeNo::NoMemory), Behind::NoMemory),
+            Err(error) => (Err(RecipeNo::NoMemory), Err(error)),
         };
         JudgedRecipe {
             verdict,

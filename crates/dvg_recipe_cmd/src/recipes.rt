@@ -15,14 +15,14 @@ use crate::answer::RecipeAnswer;
 use crate::judging::{Explained, RecipeOptions, Wanted, Witness, judge_text, time_text};
 use crate::reading::read_text;
 use dvg_cmd::{
-    Behind, ClockOptions, Detail, Layout, Lines, NamedReader, Progress, Tell, run_each,
-    unread_account,
+    Behind, ClockOptions, Detail, Layout, Lines, NamedReader, Progress, Tell, behind_text,
+    outcome_behind, run_each, unread_account,
 };
 use dvg_labels::Labels;
 use dvg_spelling::{Answer, Outcome, RunFault};
 use dvg_text::{CountedRead, CountedWrite, WriteFault, write_bytes};
 use dvg_words::Machine;
-use std::alloc::Global;
+use std::alloc::{AllocError, Global};
 
 /// What is asked of recipes.
 #[derive(Clone, Copy)]
@@ -80,8 +80,8 @@ impl<'a> RecipeTeller<'a> {
             answer: Answer::NoMemory,
             witness: Witness::Nothing,
             behind: match self.wanted {
-                Wanted::Verdict | Wanted::Witness => Behind::Nothing,
-                Wanted::Account(_) => Behind::NoMemory,
+                Wanted::Verdict | Wanted::Witness => Ok(None),
+                Wanted::Account(_) => Err(AllocError),
             },
         }
     }
@@ -119,7 +119,7 @@ impl<'a> RecipeTeller<'a> {
                     Answered {
                         answer,
                         witness,
-                        behind: Behind::Nothing,
+                        behind: Ok(None),
                     }
                 }
                 None => self.judge(alloc, &explained),
@@ -178,9 +178,15 @@ impl<'a, R: CountedRead + Drop> Tell<NamedReader<R>> for RecipeTeller<'a> {
             behind,
         } = self.answer_opened(alloc, reader);
         self.witness = witness;
-        let outcome = behind.outcome_with(answer.outcome());
+        let outcome = outcome_behind(&behind, answer.outcome());
         let line = answer.line();
-        progress.write_line(outcome, name.as_str(), line.as_bytes(), behind.text(), out)?;
+        progress.write_line(
+            outcome,
+            name.as_str(),
+            line.as_bytes(),
+            behind_text(&behind),
+            out,
+        )?;
         progress.add(outcome);
         Ok(())
     }

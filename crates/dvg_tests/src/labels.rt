@@ -1,7 +1,7 @@
 //! Labels by which words are named, in each of the forms of label files. The files that assemblers wrote are those of tests/labels.
 
 use crate::expecting::{expect, expect_same};
-use dvg_labels::{LabelFault, LabelWhy, Labels, Unnamed, read_labels};
+use dvg_labels::{LabelFault, Labels, Unnamed, read_labels};
 use std::alloc::Global;
 use std::process::Abort;
 
@@ -58,8 +58,7 @@ fn refuses_wrong_lines(rt: HostRuntime) {
         ("SHIP E:\n", 1),
     ] {
         let fault = read_labels(rt.alloc(), text.as_bytes()).err();
-        let why = LabelWhy::Form;
-        expect_same(&rt, &fault, &Some(LabelFault::Line { line, why }), &text);
+        expect_same(&rt, &fault, &Some(LabelFault::Form { line }), &text);
     }
 }
 

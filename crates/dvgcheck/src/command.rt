@@ -11,8 +11,8 @@ use clap::error::ErrorKind;
 use dvg_cmd::{
     ASTEROIDS, CLIPPED, CheckOptions, ClockOptions, DVG_STATES, Detail, FrameDetail, FrameOptions,
     Key, Labels, LineClocks, Lines, Listing, Machine, Mode, NameEnd, RAM_WORDS, RecordLength,
-    Remarking, RomMap, RootFault, Rule, RunFault, SCREEN, Timing, Unnamed, Window, limit_of,
-    map_of, record_length_of, root_by, rule_of, start_of, window_of,
+    Remarking, RomMap, Rule, RunFault, SCREEN, Timing, Unnamed, Window, limit_of, map_of,
+    record_length_of, root_by, rule_of, start_of, window_of,
 };
 use dvg_recipe_cmd::{RecipeAsked, RecipeOptions};
 use std::alloc::{AllocError, Global};
@@ -215,11 +215,8 @@ impl<'a> Arguments<'a> {
     /// The root that a word spells, by the labels, if there are any.
     fn root_of_word(&self, word: &str) -> Result<(u16, Key), Stop> {
         match root_by(self.labels, word) {
-            Ok(root) => Ok(root),
-            Err(RootFault::Form) => self.spelled(Form::Root, word, None),
-            Err(RootFault::Label(why)) => {
-                Err(Stop::saying(Form::Root.label_message(self.rt.alloc(), why, word)))
-            }
+            Ok(root) => self.spelled(Form::Root, word, root),
+            Err(why) => Err(Stop::saying(Form::Root.label_message(self.rt.alloc(), why, word))),
         }
     }
 

@@ -2,7 +2,7 @@
 
 use crate::input::Input;
 use crate::stop::Stop;
-use dvg_cmd::{LabelFault, LabelWhy, Labels, MOST_LABEL_BYTES, read_labels};
+use dvg_cmd::{LabelFault, Labels, MOST_LABEL_BYTES, read_labels};
 use std::alloc::{AllocError, Global};
 use std::io;
 use std::io::Read;
@@ -32,16 +32,12 @@ fn message_of(alloc: Global, fault: LabelFault) -> Result<String, AllocError> {
         LabelFault::TooLong => {
             format!(in alloc; "dvgcheck: bad labels: over {MOST_LABEL_BYTES} bytes")
         }
-        LabelFault::Line { line, why } => match why {
-            LabelWhy::Form => {
-                format!(in alloc;
-                    "dvgcheck: bad labels: line {line} has none of the forms of labels"
-                )
-            }
-            LabelWhy::TooMany => {
-                format!(in alloc; "dvgcheck: bad labels: line {line} has the 65537th label")
-            }
-            LabelWhy::Memory => Err(AllocError),
-        },
+        LabelFault::Form { line } => {
+            format!(in alloc; "dvgcheck: bad labels: line {line} has none of the forms of labels")
+        }
+        LabelFault::TooMany { line } => {
+            format!(in alloc; "dvgcheck: bad labels: line {line} has the 65537th label")
+        }
+        LabelFault::Memory { .. } => Err(AllocError),
     }
 }
