@@ -37,7 +37,7 @@ mod verdict;
 mod witness;
 mod writing;
 
-pub use belonging::{Leaving, NotMember, belongs};
+pub use belonging::{Leaving, belongs};
 pub use confirmed::{RefusedFrame, find_deepest, find_longest, find_refused};
 pub use hull::{Hull, Places, Rectangle};
 pub use lengths::{Room, rooms, too_long};
