@@ -162,9 +162,7 @@ fn find_end(
     asked: &Asked,
     stop: &Stop,
 ) -> Result<Option<Vec<u8>>, AllocError> {
-    let Some(roots) = roots_of(alloc, rom, recipe) else {
-        return Err(AllocError);
-    };
+    let roots = roots_of(alloc, rom, recipe)?;
     let Ok(cert) = make(alloc, rom, &roots.asked) else {
         return Err(AllocError);
     };
@@ -214,9 +212,7 @@ pub fn find_refused(
     let Some(number) = refusal.number() else {
         return Ok(None);
     };
-    let Some(roots) = roots_of(alloc, rom, recipe) else {
-        return Err(AllocError);
-    };
+    let roots = roots_of(alloc, rom, recipe)?;
     let Some(stop) = stop_of(alloc, rom, &roots.asked, refusal) else {
         return Ok(None);
     };
