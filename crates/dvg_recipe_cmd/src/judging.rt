@@ -18,10 +18,7 @@ use dvg_cert::MOST_WORDS;
 use dvg_check::Yes;
 use dvg_cmd::{Behind, ClockOptions, Detail, PlainWhy, plain_account};
 use dvg_labels::Labels;
-use dvg_recipe::{
-    RecipeRefusal, TimedRecipeRefusal, find_refused, judge_recipe, judge_recipe_timed,
-    survey_recipe,
-};
+use dvg_recipe::{RecipeRefusal, find_refused, judge_recipe, judge_recipe_timed, survey_recipe};
 use dvg_recipe_text::{ReadRecipe, RecipeTextFault, read_recipe};
 use dvg_spelling::Answer;
 use dvg_spelling::ItemPlace::RecipeLine;
@@ -287,12 +284,9 @@ impl<'a> Ready<'a> {
             window,
             &clocks.timing,
         ) {
-            Ok(timed) => (clocks.line.answer(timed), Ok(None)),
-            Err(TimedRecipeRefusal::Slow { piece }) => (
-                Answer::Slow(RecipeLine(self.line_at(piece))),
-                Ok(None),
-            ),
-            Err(TimedRecipeRefusal::Judged(refusal)) => (
+            Ok(Ok(timed)) => (clocks.line.answer(timed), Ok(None)),
+            Ok(Err(slow)) => (Answer::Slow(RecipeLine(self.line_at(slow.piece))), Ok(None)),
+            Err(refusal) => (
                 Answer::Judged(Err(self.told(&refusal))),
                 self.witness(&refusal, wanted),
             ),
