@@ -1,6 +1,8 @@
 -- What a recipe, and a frame that may belong to it, come to, from what C passes. All of it is this project's own. No definition says
 -- which recipe a text spells, so all that is said is about some recipe: that it is the text's is only tested.
-use Rattle.std.specs.Prelude.{◌≡◌, ℕ, List, Result, Ok, Err}
+use Rattle.std.specs.Prelude.{◌≡◌, ℕ, List, Option, None, Some, Result, Ok, Err}
+use Rattle.std.specs.Global.{Vec}
+use Rattle.std.specs.declared.alloc.AllocError.{AllocError}
 use Rattle.dvg_words.specs.Values.{MemoryMap, Window, IsMap}
 use Rattle.dvg_words.specs.Memory.{rom_on}
 use Rattle.dvg_words.specs.declared.machine.Machine.TheVariants.{Board}
@@ -14,8 +16,6 @@ use Rattle.dvg_recipe_text.specs.declared.reader.ReadRecipe.{ReadRecipe}
 use Rattle.dvg_recipe_cmd.specs.declared.answer.RecipeNo.{RecipeNo}
 use Rattle.dvg_recipe_cmd.specs.declared.answer.RecipeNo.TheVariants as no
 use Rattle.dvg_recipe_cmd.specs.declared.judging.RecipeOptions.{RecipeOptions}
-use Rattle.dvg_recipe_cmd.specs.declared.judging.Witness.{Witness}
-use Rattle.dvg_recipe_cmd.specs.declared.judging.Witness.TheVariants as found
 use Rattle.dvg_recipe_cmd.specs.declared.membership.Membership.{Membership}
 use Rattle.dvg_recipe_cmd.specs.declared.membership.Membership.TheVariants as member
 use Rattle.dvg_recipe_cmd.specs.Frames.{IsMembership, RefusesRecipe, TakesRecipe}
@@ -78,13 +78,17 @@ abbrev pub told_judged : Result (Result Yes RecipeNo) ℕ → RecipeAnswer
 told_judged (Ok v) = told_recipe v
 told_judged (Err n) = recipe_numbered n
 
+-- the frame that shows why, if there is one; or there was no memory to look for it
+abbrev pub Witness : Type 0
+Witness = Result (Option (Vec ℕ)) AllocError
+
 -- what is told of the frame that shows why: it stands whole at the buffer's start, or the answer has its length and the buffer is as it
 -- was; or there is none, or there was no memory to look for it, and the buffer is as it was
 abbrev pub TellsWitness : Witness → RecipeAnswer → List ℕ → List ℕ → RecipeAnswer → Type 0
-TellsWitness found.Nothing bare old new a = (a ≡ bare) × (new ≡ old)
-TellsWitness (found.Frame frame) bare old new a =
+TellsWitness (Ok None) bare old new a = (a ≡ bare) × (new ≡ old)
+TellsWitness (Ok (Some frame)) bare old new a =
     (t : TextAnswer) × IsPut frame.items old new t × (a ≡ record bare { length = t.length; witness = t.number })
-TellsWitness found.NoMemory bare old new a = (a ≡ record bare { witness = NO_TEXT_MEMORY }) × (new ≡ old)
+TellsWitness (Err error) bare old new a = (a ≡ record bare { witness = NO_TEXT_MEMORY }) × (new ≡ old)
 
 -- it is told what the recipe comes to, and of a frame. Which frame that is, is only tested
 pub record IsJudged (rom : List ℕ) (map : MemoryMap) (budget : ℕ) (w : Window) (old new : List ℕ) (a : RecipeAnswer) : Type 0 where

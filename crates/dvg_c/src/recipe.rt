@@ -159,8 +159,8 @@ pub fn put_witness(witness: &Witness, answer: RecipeAnswer, buffer: &mut [u8]) -
     ensures counts { recipe_yes_of result ≡ recipe_yes_of answer }
 {
     match witness {
-        Witness::Nothing => answer,
-        Witness::Frame(frame) => {
+        Ok(None) => answer,
+        Ok(Some(frame)) => {
             let put = put_text(frame, numbered(0), buffer);
             RecipeAnswer {
                 length: put.length,
@@ -168,7 +168,7 @@ pub fn put_witness(witness: &Witness, answer: RecipeAnswer, buffer: &mut [u8]) -
                 ..answer
             }
         }
-        Witness::NoMemory => RecipeAnswer {
+        Err(_) => RecipeAnswer {
             witness: NO_TEXT_MEMORY,
             ..answer
         },

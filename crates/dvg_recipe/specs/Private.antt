@@ -1,7 +1,6 @@
 -- Definitions for the code alone; no clause of a public call uses them.
 pub mod Indices
 pub mod FrameItems
-pub mod Belonging
 pub mod Hulls
 pub mod Judging
 pub mod Clocks

@@ -3,12 +3,10 @@
 //! The items of a frame are determined, so an index of an item stands for the items before it. A part of the recipe takes the set of the
 //! indices where it may begin to that of the indices where it may end.
 
-ghost use Rattle.std.specs.Prelude.{◌≡◌, ◌↔◌, ◌+◌, ◌^◌, ◌<◌, ◌≤◌, [], ◌∷◌, ℕ, false, Contains, length, IsTrue, IfOk, IfErr, IfSome, IfNone};
+ghost use Rattle.std.specs.Prelude.{◌≡◌, ◌↔◌, ◌+◌, ◌^◌, ◌<◌, ◌≤◌, [], ◌∷◌, ℕ, false, Contains, length, IsTrue, IfOk, IfSome, IfNone};
 ghost use Rattle.dvg_recipe.specs.Members.{IsMember};
 ghost use Rattle.dvg_recipe.specs.Private.Indices.{IsPast, PieceLeads, RowLeads, Turns, PartLeads, JumpLeads, JumpsLead, ListStarts, SomeStarts, RecipeLeads, AreThose};
-ghost use Rattle.dvg_recipe.specs.Private.Belonging.{IfLeaves};
 ghost use Rattle.dvg_recipe.specs.Private.KnownPlaces.{AreFramesItems};
-ghost use Rattle.dvg_recipe.specs.declared.belonging.NotMember.TheVariants.{Memory};
 
 use crate::frame_items::{FrameItems, frame_items};
 use crate::indices::{add, add_all, set_to};
@@ -29,24 +27,6 @@ pub struct Leaving {
     pub at: u16,
     /// The numbers of the pieces of which one would have to stand there, rising; none where word 000 leads to none of the lists.
     pub pieces: Vec<u16>,
-}
-
-/// Why a frame is not known to be one of a recipe's.
-#[derive(Debug, Drop)]
-pub enum NotMember {
-    /// It is none.
-    Leaves(Leaving),
-    /// There was no memory to find out, or a shape that a draw's place depends on needs by itself more entries than a certificate may
-    /// have.
-    Memory,
-}
-
-impl From<AllocError> for NotMember {
-    ghost from_gives = { λ _ why. why ≡ Memory };
-
-    fn from(_error: AllocError) -> NotMember {
-        NotMember::Memory
-    }
 }
 
 /// Whether an item that a piece allows stands at an index, and leads to where it has to.
@@ -370,16 +350,19 @@ fn places_for<'a>(
     }
 }
 
-/// Whether a frame is one of a recipe's over a ROM; if not, where it leaves it (only tested). The ROM is asked only where a draw has to lead
-/// to a place: by the made entries of what the frame calls before, as far as they can be made.
+/// Where a frame leaves a recipe over a ROM (only tested), `None` if it is one of the recipe's. The ROM is asked only where a draw has to
+/// lead to a place: by the made entries of what the frame calls before, as far as they can be made.
+///
+/// An `Err` says that there was no memory to find out, or a shape that a draw's place depends on needs by itself more entries than a
+/// certificate may have.
 pub fn belongs(
     alloc: Global,
     rom: &RomImage,
     recipe: &Recipe,
     frame: &FrameImage,
-) -> Result<(), NotMember>
-    ensures ok { IfOk result (λ _. IsMember rom.now recipe.now frame.now) }
-    ensures err { IfErr result (IfLeaves (IsMember rom.now recipe.now frame.now → ⊥)) }
+) -> Result<Option<Leaving>, AllocError>
+    ensures none { IfOk result (λ leaving. IfNone leaving (IsMember rom.now recipe.now frame.now)) }
+    ensures some { IfOk result (λ leaving. IfSome leaving (λ _. IsMember rom.now recipe.now frame.now → ⊥)) }
 {
     frame.prove_whole();
     let all = frame_items(alloc, frame)?;
@@ -387,7 +370,7 @@ pub fn belongs(
     let mut work = Work::new(alloc, all.items.len());
     let here = past_recipe(alloc, &places, &mut work, recipe)?;
     if has_end(&all, &here) {
-        return Ok(());
+        return Ok(None);
     }
-    Err(NotMember::Leaves(leaving_of(&all, work.tried)?))
+    Ok(Some(leaving_of(&all, work.tried)?))
 }

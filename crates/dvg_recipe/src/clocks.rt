@@ -36,7 +36,7 @@ pub struct Counting<'a, E: Entries> {
     pub shapes: &'a ShapeClocks,
 }
 
-/// With this piece some frame may take more clocks than the limit. `None` is the jump to a list, at word 000.
+/// 58: with this piece some frame may take more clocks than the limit. `None` is the jump to a list, at word 000.
 #[derive(Clone, Copy, Debug, PartialEq, Eq)]
 pub struct SlowPiece {
     pub piece: Option<u16>,

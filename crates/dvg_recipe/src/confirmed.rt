@@ -7,7 +7,7 @@ ghost use Rattle.dvg_cert.specs.declared.limits.TheConstants.{MOST_WORDS};
 ghost use Rattle.dvg_check.specs.declared.verdict.Yes.{Yes as YesValue};
 ghost use Rattle.dvg_recipe.specs.Members.{IsMemberVerdict, judged_number, recipe_number};
 
-use crate::belonging::{NotMember, belongs};
+use crate::belonging::belongs;
 use crate::judge::Asked;
 use crate::recipe::Recipe;
 use crate::roots::roots_of;
@@ -62,10 +62,8 @@ fn member_verdict(
     let Ok(frame) = FrameImage::from_bytes(bytes) else {
         return Ok(None);
     };
-    match belongs(alloc, rom, recipe, &frame) {
-        Ok(()) => {}
-        Err(NotMember::Leaves(_)) => return Ok(None),
-        Err(NotMember::Memory) => return Err(AllocError),
+    if belongs(alloc, rom, recipe, &frame)?.is_some() {
+        return Ok(None);
     }
     match judge(alloc, rom, &frame, asked.budget, asked.window) {
         Err(FrameRefusal::NoMemory) => Err(AllocError),
@@ -164,9 +162,7 @@ fn find_end(
     asked: &Asked,
     stop: &Stop,
 ) -> Result<Option<Vec<u8>>, AllocError> {
-    let Some(roots) = roots_of(alloc, rom, recipe) else {
-        return Err(AllocError);
-    };
+    let roots = roots_of(alloc, rom, recipe)?;
     let Ok(cert) = make(alloc, rom, &roots.asked) else {
         return Err(AllocError);
     };
@@ -216,9 +212,7 @@ pub fn find_refused(
     let Some(number) = refusal.number() else {
         return Ok(None);
     };
-    let Some(roots) = roots_of(alloc, rom, recipe) else {
-        return Err(AllocError);
-    };
+    let roots = roots_of(alloc, rom, recipe)?;
     let Some(stop) = stop_of(alloc, rom, &roots.asked, refusal) else {
         return Ok(None);
     };

@@ -35,12 +35,6 @@ pub struct Goal {
 }
 
 impl Goal {
-    /// A goal of no number, at unknown scale.
-    pub const ANY: Goal = Goal {
-        scale: Key::Any,
-        number: Number::Any,
-    };
-
     /// Whether a front that has this number of a hull is one that leads to the goal.
     pub fn is_at(&self, hull: &Hull) -> bool {
         if hull.scale != self.scale {

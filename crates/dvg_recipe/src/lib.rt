@@ -37,7 +37,8 @@ mod verdict;
 mod witness;
 mod writing;
 
-pub use belonging::{Leaving, NotMember, belongs};
+pub use belonging::{Leaving, belongs};
+pub use clocks::SlowPiece;
 pub use confirmed::{RefusedFrame, find_deepest, find_longest, find_refused};
 pub use hull::{Hull, Places, Rectangle};
 pub use lengths::{Room, rooms, too_long};
@@ -47,5 +48,5 @@ pub use options::{MOST_OPTIONS, piece_options, turns_within};
 pub use piece::{DrawRange, Piece, PieceKind, PlaceRange, PlaceSpan, Span};
 pub use recipe::{Area, Jump, Part, Recipe};
 pub use roots::Unmade;
-pub use timed::{TimedRecipeRefusal, judge_recipe_timed};
+pub use timed::judge_recipe_timed;
 pub use verdict::{RecipeRefusal, SurveyedRecipe, judge_recipe, survey_recipe};

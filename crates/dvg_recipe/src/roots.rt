@@ -27,19 +27,6 @@ pub struct Unmade {
     pub why: EntryFault,
 }
 
-/// Why the roots of a recipe are not known.
-#[derive(Clone, Copy, Debug)]
-enum RootsFault {
-    Unmade(Unmade),
-    Memory,
-}
-
-impl From<AllocError> for RootsFault {
-    fn from(_error: AllocError) -> RootsFault {
-        RootsFault::Memory
-    }
-}
-
 /// The roots so far.
 #[derive(Drop)]
 struct Roots<'a> {
@@ -100,41 +87,41 @@ impl<'a> Roots<'a> {
         Ok(())
     }
 
-    /// Makes the entry of the shape at a word address, called by a piece at a scale: the scale at its end.
+    /// Makes the entry of the shape at a word address, called at a scale: the scale at its end.
     #[inline(never)]
-    fn make(&mut self, piece: u16, to: u16, scale: Key) -> Result<Keys, RootsFault>
+    fn make(&mut self, to: u16, scale: Key) -> Result<Keys, EntryFault>
         requires near { to < ADDRESS_END }
         requires key { IsKey scale }
     {
-        match self.maker.entry(to, scale) {
-            Ok(entry) => {
-                let behind = only(entry.scale);
-                self.note(to, scale, behind)?;
-                Ok(behind)
-            }
-            Err(EntryFault::Memory) => Err(RootsFault::Memory),
-            Err(why) => Err(RootsFault::Unmade(Unmade {
-                piece,
-                to,
-                scale,
-                why,
-            })),
+        let entry = self.maker.entry(to, scale)?;
+        let behind = only(entry.scale);
+        match self.note(to, scale, behind) {
+            Ok(()) => Ok(behind),
+            Err(_) => Err(EntryFault::Memory),
         }
     }
 
     /// The scale behind a call of a piece at a scale, whose entry is made if it is not made yet.
-    fn past_call(&mut self, piece: u16, to: u16, scale: Key) -> Result<Keys, RootsFault>
+    fn past_call(&mut self, piece: u16, to: u16, scale: Key) -> Result<Keys, Unmade>
         requires near { to < ADDRESS_END }
         requires key { IsKey scale }
     {
         match self.behind.get(call_index(to, scale)) {
             Some(behind) if !behind.is_empty() => Ok(*behind),
-            _ => self.make(piece, to, scale),
+            _ => match self.make(to, scale) {
+                Ok(behind) => Ok(behind),
+                Err(why) => Err(Unmade {
+                    piece,
+                    to,
+                    scale,
+                    why,
+                }),
+            },
         }
     }
 
     /// The scales behind calls of a piece.
-    fn past_calls(&mut self, piece: u16, targets: &[u16], here: Keys) -> Result<Keys, RootsFault>
+    fn past_calls(&mut self, piece: u16, targets: &[u16], here: Keys) -> Result<Keys, Unmade>
         requires near { (to : ℕ) → Contains targets.now to → to < ADDRESS_END }
     {
         let mut left = here;
@@ -148,7 +135,7 @@ impl<'a> Roots<'a> {
     }
 
     /// The scales behind an instruction of a piece.
-    fn past_instr(&mut self, piece: u16, instr: &Instr, here: Keys) -> Result<Keys, RootsFault>
+    fn past_instr(&mut self, piece: u16, instr: &Instr, here: Keys) -> Result<Keys, Unmade>
         requires fits { InstrFits instr.now }
     {
         match *instr {
@@ -159,7 +146,7 @@ impl<'a> Roots<'a> {
     }
 
     /// The scales behind the items of a piece.
-    fn past_piece(&mut self, piece: &Piece, here: Keys) -> Result<Keys, RootsFault>
+    fn past_piece(&mut self, piece: &Piece, here: Keys) -> Result<Keys, Unmade>
         requires fits { PieceFits piece.now.kind }
     {
         match &piece.kind {
@@ -175,7 +162,7 @@ impl<'a> Roots<'a> {
 
     /// The scales behind the items of a row.
     #[inline(never)]
-    fn past_row(&mut self, row: &[Piece], here: Keys) -> Result<Keys, RootsFault>
+    fn past_row(&mut self, row: &[Piece], here: Keys) -> Result<Keys, Unmade>
         requires fits { RowFits row.now }
     {
         let mut here = here;
@@ -188,7 +175,7 @@ impl<'a> Roots<'a> {
 
 /// The scales behind the items of a part.
 #[cycle(keys_past)]
-fn keys_past(part: &Part, roots: &mut Roots, here: Keys) -> Result<Keys, RootsFault>
+fn keys_past(part: &Part, roots: &mut Roots, here: Keys) -> Result<Keys, Unmade>
     requires fits { IsWithin part.now }
 {
     match part {
@@ -214,7 +201,7 @@ fn repeat_past(
     least: u16,
     most: u16,
     here: Keys,
-) -> Result<Keys, RootsFault>
+) -> Result<Keys, Unmade>
     requires fits { IsWithin body.now }
 {
     let mut here = here;
@@ -229,7 +216,7 @@ fn repeat_past(
 }
 
 /// The scales behind jumps and their parts.
-fn jumps_past(jumps: &[Jump], roots: &mut Roots, here: Keys) -> Result<Keys, RootsFault>
+fn jumps_past(jumps: &[Jump], roots: &mut Roots, here: Keys) -> Result<Keys, Unmade>
     requires fits { AreWithin jumps.now }
 {
     let mut here = here;
@@ -240,7 +227,7 @@ fn jumps_past(jumps: &[Jump], roots: &mut Roots, here: Keys) -> Result<Keys, Roo
 }
 
 /// The scales behind all items of a recipe.
-fn recipe_past(recipe: &Recipe, roots: &mut Roots) -> Result<Keys, RootsFault> {
+fn recipe_past(recipe: &Recipe, roots: &mut Roots) -> Result<Keys, Unmade> {
     let here = keys_past(recipe.body(), roots, Keys::one(Key::Any))?;
     jumps_past(recipe.jumps(), roots, here)
 }
@@ -254,17 +241,19 @@ pub struct RecipeRoots {
 
 /// The roots of a recipe over a ROM, each once, in the order in which they are met, the pieces in the order of reading with repeats
 /// written out.
-/// `None` if there was no memory.
-pub fn roots_of(alloc: Global, rom: &RomImage, recipe: &Recipe) -> Option<RecipeRoots> {
-    let Ok(mut roots) = Roots::new(alloc, rom) else {
-        return None;
-    };
+pub fn roots_of(alloc: Global, rom: &RomImage, recipe: &Recipe) -> Result<RecipeRoots, AllocError> {
+    let mut roots = Roots::new(alloc, rom)?;
     let unmade = match recipe_past(recipe, &mut roots) {
         Ok(_) => None,
-        Err(RootsFault::Unmade(unmade)) => Some(unmade),
-        Err(RootsFault::Memory) => return None,
+        Err(
+            Unmade {
+                why: EntryFault::Memory,
+                ..
+            },
+        ) => return Err(AllocError),
+        Err(unmade) => Some(unmade),
     };
-    Some(RecipeRoots {
+    Ok(RecipeRoots {
         asked: roots.asked,
         unmade,
     })

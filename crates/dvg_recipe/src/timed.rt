@@ -7,7 +7,6 @@ ghost use Rattle.dvg_cert.specs.declared.limits.TheConstants.{MOST_WORDS};
 ghost use Rattle.dvg_recipe.specs.Means.{AllMean, AllTake};
 ghost use Rattle.dvg_recipe.specs.Lengths.{FitsAreas};
 ghost use Rattle.dvg_recipe.specs.Private.Judging.{AreGoodFrames};
-ghost use Rattle.dvg_recipe.specs.declared.timed.TimedRecipeRefusal.TheVariants as refusals;
 
 use crate::clocks::{Counting, SlowPiece, most_of_lists};
 use crate::judge::Asked;
@@ -19,35 +18,6 @@ use dvg_clocks::{ClockRange, ShapeClocks, TimedYes, Timing};
 use dvg_words::{RomImage, Window};
 use std::alloc::{AllocError, Global};
 
-/// Why a recipe is not accepted, or some frame takes too long.
-#[derive(Clone, Copy, Debug)]
-pub enum TimedRecipeRefusal {
-    /// The refusal of [`judge_recipe`](crate::judge_recipe).
-    Judged(RecipeRefusal),
-    /// 58: with this piece some frame may take more clocks than the limit. `None` is the jump to a list, at word 000.
-    Slow { piece: Option<u16> },
-}
-
-impl From<RecipeRefusal> for TimedRecipeRefusal {
-    ghost from_gives = { λ refusal timed. timed ≡ refusals.Judged refusal };
-
-    fn from(refusal: RecipeRefusal) -> TimedRecipeRefusal {
-        TimedRecipeRefusal::Judged(refusal)
-    }
-}
-
-impl From<AllocError> for TimedRecipeRefusal {
-    fn from(_error: AllocError) -> TimedRecipeRefusal {
-        TimedRecipeRefusal::Judged(RecipeRefusal::Memory)
-    }
-}
-
-impl From<SlowPiece> for TimedRecipeRefusal {
-    fn from(slow: SlowPiece) -> TimedRecipeRefusal {
-        TimedRecipeRefusal::Slow { piece: slow.piece }
-    }
-}
-
 /// What the frames of a recipe take at most, that are good over the shapes of this certificate.
 fn clocks_by(
     alloc: Global,
@@ -55,11 +25,11 @@ fn clocks_by(
     rom: &RomImage,
     cert: &Cert,
     recipe: &Recipe,
-) -> Result<ClockRange, TimedRecipeRefusal>
+) -> Result<Result<ClockRange, SlowPiece>, AllocError>
     requires good { (w : Places) × (budget : ℕ) × AreGoodFrames rom.now recipe.now w cert.now.entries budget }
     requires board { rom.now.machine ≡ Board }
-    ensures take { IfOk result (AllTake timing.now.states rom.now recipe.now) }
-    ensures within { IfOk result (λ clocks. clocks.most ≤ timing.now.limit) }
+    ensures take { IfOk result (λ counted. IfOk counted (AllTake timing.now.states rom.now recipe.now)) }
+    ensures within { IfOk result (λ counted. IfOk counted (λ clocks. clocks.most ≤ timing.now.limit)) }
 {
     rom.prove_whole();
     let list = cert.entries();
@@ -70,12 +40,12 @@ fn clocks_by(
         entries: &entries,
         shapes: &shapes,
     };
-    Ok(most_of_lists(&counting, recipe)?)
+    Ok(most_of_lists(&counting, recipe))
 }
 
-/// Judges a recipe as [`judge_recipe`](crate::judge_recipe) does, and answers how many clocks its frames take at most, too: 58 if that may
-/// be more than the limit, which is asked only of a recipe that is accepted, at the first piece with which it may be, the pieces in the
-/// order of reading with repeats written out.
+/// Judges a recipe as [`judge_recipe`](crate::judge_recipe) does, and if it is accepted, answers how many clocks its frames take at most,
+/// too: 58 if that may be more than the limit, at the first piece with which it may be, the pieces in the order of reading with repeats
+/// written out.
 ///
 /// No frame takes more than the most, in any run. Where the least and the most are equal, some frame takes just so much; they differ only
 /// by dark draws before the first LABS. That some frame takes as much, and more than the limit where 58 is answered, is only tested. Takes
@@ -87,19 +57,17 @@ pub fn judge_recipe_timed(
     budget: u32,
     window: Window,
     timing: &Timing,
-) -> Result<TimedYes, TimedRecipeRefusal>
+) -> Result<Result<TimedYes, SlowPiece>, RecipeRefusal>
     requires budget { budget ≤ MOST_WORDS }
     requires board { rom.now.machine ≡ Board }
-    ensures means { IfOk result (λ timed. AllMean rom.now recipe.now window timed.yes.words timed.yes.depth) }
-    ensures fits { IfOk result (λ timed. FitsAreas recipe.now) }
-    ensures take { IfOk result (λ timed. AllTake timing.now.states rom.now recipe.now timed.clocks) }
-    ensures within { IfOk result (λ timed. timed.clocks.most ≤ timing.now.limit) }
+    ensures means { IfOk result (λ told. IfOk told (λ timed. AllMean rom.now recipe.now window timed.yes.words timed.yes.depth)) }
+    ensures fits { IfOk result (λ _. FitsAreas recipe.now) }
+    ensures take { IfOk result (λ told. IfOk told (λ timed. AllTake timing.now.states rom.now recipe.now timed.clocks)) }
+    ensures within { IfOk result (λ told. IfOk told (λ timed. timed.clocks.most ≤ timing.now.limit)) }
 {
     let asked = Asked { budget, window };
     let accepted = judge_noting(alloc, rom, recipe, &asked, &mut Notes::new(alloc))?;
-    let clocks = clocks_by(alloc, timing, rom, &accepted.cert, recipe)?;
-    Ok(TimedYes {
-        yes: accepted.yes,
-        clocks,
-    })
+    let yes = accepted.yes;
+    let counted = clocks_by(alloc, timing, rom, &accepted.cert, recipe)?;
+    Ok(counted.map(|clocks| TimedYes { yes, clocks }))
 }

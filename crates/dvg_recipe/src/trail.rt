@@ -24,8 +24,8 @@ pub struct Trail {
     behind: Vec<Written>,
     /// The turns of the repeats around the place, the innermost first.
     turns: Vec<u16>,
-    /// What the items before these have to lead to.
-    pub goal: Goal,
+    /// What the items before these have to lead to. `None` where there is no goal yet, or none do.
+    pub goal: Option<Goal>,
 }
 
 /// The items of a frame, from word 000 on.
@@ -55,21 +55,25 @@ impl Trail {
             before: Vec::new(alloc),
             behind: Vec::new(alloc),
             turns: Vec::new(alloc),
-            goal: Goal::ANY,
+            goal: None,
         }
     }
 
-    /// Adds an item in front of all others, and notes what the items before it have to lead to.
-    pub fn push_before(&mut self, item: Written, goal: Goal) -> Result<(), AllocError> {
-        self.before.push(item)?;
-        self.goal = goal;
+    /// Adds an item in front of all others, and notes what the items before it have to lead to. Where there is no such item, none do.
+    pub fn push_before(&mut self, found: Option<(Written, Goal)>) -> Result<(), AllocError> {
+        self.goal = None;
+        if let Some((item, goal)) = found {
+            self.before.push(item)?;
+            self.goal = Some(goal);
+        }
         Ok(())
     }
 
     /// Adds a JMPL to a word address in front of all others. The items before it lead to the goal behind it.
     pub fn push_jump_before(&mut self, to: u16) -> Result<(), AllocError> {
-        let goal = self.goal.before_jump();
-        self.push_before(Written::Words(jmpl(to)), goal)
+        self.before.push(Written::Words(jmpl(to)))?;
+        self.goal = self.goal.map(|goal| goal.before_jump());
+        Ok(())
     }
 
     /// Notes the turn, counted from 1, of the next repeat around the place.

@@ -130,9 +130,7 @@ pub fn judge_noting(
     if let Some(piece) = too_long(recipe) {
         return Err(RecipeRefusal::TooLong { piece });
     }
-    let Some(roots) = roots_of(alloc, rom, recipe) else {
-        return Err(RecipeRefusal::Memory);
-    };
+    let roots = roots_of(alloc, rom, recipe)?;
     if let Some(unmade) = roots.unmade {
         return Err(RecipeRefusal::Make(unmade));
     }

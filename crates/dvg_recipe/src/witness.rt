@@ -27,7 +27,7 @@ use crate::writing::frame_words;
 use dvg_cert::{Entries, Key, MOST_WORDS};
 use dvg_check::FrameWhy;
 use dvg_words::{Cell, Instr, RomImage};
-use std::alloc::{AllocError, AllocFailed, Global};
+use std::alloc::{AllocError, Global};
 use std::marker::Model;
 
 /// Where a frame has to lead to.
@@ -41,27 +41,6 @@ pub enum Stop {
     MostWords,
     /// The end, with the most return places stored at once.
     MostDepth,
-}
-
-/// Why no frame is found.
-#[derive(Drop)]
-enum Unfound {
-    /// The recipe has none.
-    NoFrame,
-    /// There was no memory.
-    Memory,
-}
-
-impl<T: Drop> From<AllocFailed<T>> for Unfound {
-    fn from(_error: AllocFailed<T>) -> Unfound {
-        Unfound::Memory
-    }
-}
-
-impl From<AllocError> for Unfound {
-    fn from(_error: AllocError) -> Unfound {
-        Unfound::Memory
-    }
 }
 
 /// What is looked for, and in what.
@@ -149,7 +128,7 @@ fn item_from<E: Entries>(
     kind: &PieceKind,
     here: &[Hull],
     sought: &Sought,
-) -> Result<(Written, Goal), Unfound>
+) -> Result<Option<(Written, Goal)>, AllocError>
     requires fits { PieceFits kind.now }
 {
     let all = choices(search.alloc, kind)?;
@@ -158,11 +137,11 @@ fn item_from<E: Entries>(
             PieceKind::Draw(range) => draw_from(search, range, hull, sought),
             _ => words_from(search, &all, hull, sought),
         };
-        if let Some(found) = found {
+        if found.is_some() {
             return Ok(found);
         }
     }
-    Err(Unfound::NoFrame)
+    Ok(None)
 }
 
 /// Adds items of a row that lead to the goal, in front of all others. `fronts` are the hulls before each piece.
@@ -173,17 +152,16 @@ fn row_back<E: Entries>(
     row: &[Piece],
     fronts: Vec<Vec<Hull>>,
     trail: &mut Trail,
-) -> Result<(), Unfound>
+) -> Result<(), AllocError>
     requires fits { RowFits row.now }
 {
     let mut fronts = fronts;
     while let Some(here) = fronts.pop() {
-        let Some(piece) = row.get(fronts.len()) else {
-            return Err(Unfound::NoFrame);
+        let (Some(piece), Some(goal)) = (row.get(fronts.len()), trail.goal) else {
+            break;
         };
-        let sought = Sought::Goal(trail.goal);
-        let (item, before) = item_from(search, &piece.kind, &here, &sought)?;
-        trail.push_before(item, before)?;
+        let found = item_from(search, &piece.kind, &here, &Sought::Goal(goal))?;
+        trail.push_before(found)?;
     }
     Ok(())
 }
@@ -194,7 +172,7 @@ fn row_fronts<E: Entries>(
     search: &Search<E>,
     row: &[Piece],
     here: &[Hull],
-) -> Result<Vec<Vec<Hull>>, Unfound>
+) -> Result<Vec<Vec<Hull>>, AllocError>
     requires fits { RowFits row.now }
 {
     let alloc = search.alloc;
@@ -216,7 +194,7 @@ fn row_before<E: Entries>(
     row: &[Piece],
     here: &[Hull],
     trail: &mut Trail,
-) -> Result<(), Unfound>
+) -> Result<(), AllocError>
     requires fits { RowFits row.now }
 {
     let fronts = row_fronts(search, row, here)?;
@@ -259,7 +237,7 @@ fn turn_fronts<E: Entries>(
     turns: (u16, u16),
     here: &[Hull],
     goal: &Goal,
-) -> Result<Vec<Vec<Hull>>, Unfound>
+) -> Result<Vec<Vec<Hull>>, AllocError>
     requires fits { IsWithin body.now }
 {
     let (least, most) = turns;
@@ -283,9 +261,12 @@ fn part_before<E: Entries>(
     search: &Search<E>,
     here: &[Hull],
     trail: &mut Trail,
-) -> Result<(), Unfound>
+) -> Result<(), AllocError>
     requires fits { IsWithin part.now }
 {
+    let Some(goal) = trail.goal else {
+        return Ok(());
+    };
     match part {
         Part::Row(row) => row_before(search, row, here, trail),
         Part::Then(first, second) => {
@@ -294,7 +275,7 @@ fn part_before<E: Entries>(
             part_before(first, search, here, trail)
         }
         Part::Either(one, other) => {
-            let branch = if leads_through(one, search, here, &trail.goal)? {
+            let branch = if leads_through(one, search, here, &goal)? {
                 one
             } else {
                 other
@@ -302,7 +283,7 @@ fn part_before<E: Entries>(
             part_before(branch, search, here, trail)
         }
         Part::Repeat { least, most, body } => {
-            let fronts = turn_fronts(body, search, (*least, *most), here, &trail.goal)?;
+            let fronts = turn_fronts(body, search, (*least, *most), here, &goal)?;
             turns_back(body, search, fronts, trail)
         }
     }
@@ -316,7 +297,7 @@ fn turns_back<E: Entries>(
     search: &Search<E>,
     fronts: Vec<Vec<Hull>>,
     trail: &mut Trail,
-) -> Result<(), Unfound>
+) -> Result<(), AllocError>
     requires fits { IsWithin body.now }
 {
     let mut fronts = fronts;
@@ -341,33 +322,33 @@ fn calls(kind: &PieceKind, to: u16) -> bool {
     }
 }
 
-/// The item of a piece at which to stop, and what the items before it have to lead to. `fault` is the rule of the lowest number that some
-/// item of the piece breaks.
-fn stop_at<E: Entries>(
+/// Whether to stop at an item of a piece: then it is added in front of all others. `fault` is the rule of the lowest number that some item
+/// of the piece breaks.
+fn stops_at<E: Entries>(
     search: &Search<E>,
     piece: &Piece,
     fault: Option<RecipeFault>,
     here: &[Hull],
-) -> Result<Option<(Written, Goal)>, Unfound>
+    trail: &mut Trail,
+) -> Result<bool, AllocError>
     requires fits { PieceFits piece.now.kind }
 {
-    match (*search.stop, fault) {
+    let found = match (*search.stop, fault) {
         (Stop::Fault, Some(fault)) => {
-            let sought = Sought::Fault(fault.why);
-            let found = item_from(search, &piece.kind, here, &sought)?;
-            Ok(Some(found))
+            item_from(search, &piece.kind, here, &Sought::Fault(fault.why))?
         }
         (Stop::Call { to, scale }, _) if calls(&piece.kind, to) => {
             let number = Number::Any;
             let goal = Goal { scale, number };
-            if goal.is_in(here) {
-                Ok(Some((Written::Words(jsrl(to)), goal)))
-            } else {
-                Ok(None)
+            if !goal.is_in(here) {
+                return Ok(false);
             }
+            Some((Written::Words(jsrl(to)), goal))
         }
-        _ => Ok(None),
-    }
+        _ => return Ok(false),
+    };
+    trail.push_before(found)?;
+    Ok(true)
 }
 
 /// Finds the first place in a row at which to stop, as `find_in` does.
@@ -379,7 +360,7 @@ fn find_in_row<E: Entries>(
     here: &[Hull],
     trail: &mut Trail,
     next: &mut Vec<Hull>,
-) -> Result<bool, Unfound>
+) -> Result<bool, AllocError>
     requires fits { RowFits row.now }
 {
     let alloc = search.alloc;
@@ -395,9 +376,7 @@ fn find_in_row<E: Entries>(
             piece,
             &here,
         )?;
-        let found = stop_at(search, piece, notes.fault(), &here)?;
-        if let Some((item, goal)) = found {
-            trail.push_before(item, goal)?;
+        if stops_at(search, piece, notes.fault(), &here, trail)? {
             trail.push_row(&row[index + 1..])?;
             row_back(search, row, fronts, trail)?;
             return Ok(true);
@@ -419,7 +398,7 @@ fn find_in<E: Entries>(
     here: &[Hull],
     trail: &mut Trail,
     next: &mut Vec<Hull>,
-) -> Result<bool, Unfound>
+) -> Result<bool, AllocError>
     requires fits { IsWithin part.now }
 {
     match part {
@@ -458,7 +437,7 @@ fn find_in_turns<E: Entries>(
     here: &[Hull],
     trail: &mut Trail,
     next: &mut Vec<Hull>,
-) -> Result<bool, Unfound>
+) -> Result<bool, AllocError>
     requires fits { IsWithin body.now }
 {
     let (least, most) = turns;
@@ -489,7 +468,7 @@ fn find_in_jump<E: Entries>(
     here: &[Hull],
     trail: &mut Trail,
     next: &mut Vec<Hull>,
-) -> Result<bool, Unfound>
+) -> Result<bool, AllocError>
     requires fits { IsWithin jump.now.body }
 {
     let mut notes = Notes::new(search.alloc);
@@ -497,7 +476,7 @@ fn find_in_jump<E: Entries>(
     let there = past_jump(search.alloc, search.asked, &mut notes, number, here)?;
     if let (Stop::Fault, Some(_), Some(goal)) = (*search.stop, notes.fault(), most_words(here)) {
         trail.push_jump_before(jump.area.first)?;
-        trail.goal = goal;
+        trail.goal = Some(goal);
         push_part(&jump.body, trail)?;
         return Ok(true);
     }
@@ -515,13 +494,13 @@ fn jumps_back<E: Entries>(
     search: &Search<E>,
     fronts: Vec<Vec<Hull>>,
     trail: &mut Trail,
-) -> Result<(), Unfound>
+) -> Result<(), AllocError>
     requires fits { AreWithin jumps.now }
 {
     let mut fronts = fronts;
     while let Some(here) = fronts.pop() {
         let Some(jump) = jumps.get(fronts.len()) else {
-            return Err(Unfound::NoFrame);
+            break;
         };
         let notes = &mut Notes::new(search.alloc);
         let number = Some(jump.number);
@@ -555,7 +534,7 @@ fn find_in_jumps<E: Entries>(
     search: &Search<E>,
     here: Vec<Hull>,
     trail: &mut Trail,
-) -> Result<(), Unfound>
+) -> Result<(), AllocError>
     requires fits { AreWithin jumps.now }
 {
     let mut fronts = Vec::new(search.alloc);
@@ -569,7 +548,7 @@ fn find_in_jumps<E: Entries>(
         fronts.push(here)?;
         here = next;
     }
-    trail.goal = end_goal(search.asked, search.stop, &here).ok_or(Unfound::NoFrame)?;
+    trail.goal = end_goal(search.asked, search.stop, &here);
     jumps_back(jumps, search, fronts, trail)
 }
 
@@ -578,12 +557,12 @@ fn find_in_recipe<E: Entries>(
     search: &Search<E>,
     recipe: &Recipe,
     trail: &mut Trail,
-) -> Result<(), Unfound> {
+) -> Result<(), AllocError> {
     let alloc = search.alloc;
     let mut notes = Notes::new(alloc);
     let first = starts(alloc, search.asked, &mut notes, recipe.lists())?;
     if let (Stop::Fault, Some(_)) = (*search.stop, notes.fault()) {
-        trail.goal = most_words(&first).ok_or(Unfound::NoFrame)?;
+        trail.goal = most_words(&first);
         push_part(recipe.body(), trail)?;
         trail.push_jumps(recipe.jumps())?;
         return Ok(());
@@ -617,25 +596,6 @@ pub struct LeadingFrame {
     pub turns: Vec<u16>,
 }
 
-/// The words of a frame of a recipe over a ROM that leads to where it has to stop.
-fn find_words<E: Entries>(
-    rom: &RomImage,
-    search: &Search<E>,
-    recipe: &Recipe,
-) -> Result<LeadingFrame, Unfound> {
-    let mut trail = Trail::new(search.alloc);
-    find_in_recipe(search, recipe, &mut trail)?;
-    let Some(first) = list_of(recipe.lists(), &trail.goal) else {
-        return Err(Unfound::NoFrame);
-    };
-    if first > 0 {
-        trail.push_jump_before(first)?;
-    }
-    let Trailed { items, turns } = trail.into_trailed()?;
-    let words = frame_words(search.alloc, rom, &items)?;
-    Ok(LeadingFrame { words, turns })
-}
-
 /// The words of a frame of a recipe over a ROM that leads to where it has to stop, `None` if there is none (only tested).
 pub fn find<E: Entries>(
     alloc: Global,
@@ -651,9 +611,18 @@ pub fn find<E: Entries>(
         asked,
         stop,
     };
-    match find_words(rom, &search, recipe) {
-        Ok(leading) => Ok(Some(leading)),
-        Err(Unfound::NoFrame) => Ok(None),
-        Err(Unfound::Memory) => Err(AllocError),
+    let mut trail = Trail::new(alloc);
+    find_in_recipe(&search, recipe, &mut trail)?;
+    let Some(goal) = trail.goal else {
+        return Ok(None);
+    };
+    let Some(first) = list_of(recipe.lists(), &goal) else {
+        return Ok(None);
+    };
+    if first > 0 {
+        trail.push_jump_before(first)?;
     }
+    let Trailed { items, turns } = trail.into_trailed()?;
+    let words = frame_words(alloc, rom, &items)?;
+    Ok(Some(LeadingFrame { words, turns }))
 }

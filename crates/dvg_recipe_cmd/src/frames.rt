@@ -20,7 +20,7 @@ use dvg_cmd::{
     outcome_behind, plain_account, read_started, run_each, unread_account,
 };
 use dvg_labels::Labels;
-use dvg_recipe::{NotMember, belongs, too_long};
+use dvg_recipe::{Leaving, belongs, too_long};
 use dvg_recipe_text::{ReadRecipe, RecipeTextFault};
 use dvg_spelling::{Outcome, RunFault, Why};
 use dvg_text::{CountedRead, CountedWrite, WriteFault, write_lines};
@@ -59,13 +59,13 @@ fn account_text(
     alloc: Global,
     read: &ReadRecipe,
     frame: &FrameImage,
-    found: &Result<(), NotMember>,
+    found: &Result<Option<Leaving>, AllocError>,
     labels: Option<&Labels>,
 ) -> Result<String, AllocError> {
     let leaving = match found {
-        Ok(()) => return Ok(String::new(alloc)),
-        Err(NotMember::Leaves(leaving)) => leaving,
-        Err(NotMember::Memory) => return Err(AllocError),
+        Ok(Some(leaving)) => leaving,
+        Ok(None) => return Ok(String::new(alloc)),
+        Err(_) => return Err(AllocError),
     };
     let mut lines = Vec::new(alloc);
     for piece in &leaving.pieces {
@@ -97,9 +97,9 @@ pub fn membership_of(
         Detail::Account(labels) => account_text(alloc, read, &frame, &found, labels).map(Some),
     };
     let membership = match found {
-        Ok(()) => Membership::Belongs,
-        Err(NotMember::Leaves(leaving)) => Membership::Outside { at: leaving.at },
-        Err(NotMember::Memory) => Membership::NoMemory,
+        Ok(None) => Membership::Belongs,
+        Ok(Some(leaving)) => Membership::Outside { at: leaving.at },
+        Err(_) => Membership::NoMemory,
     };
     (membership, behind)
 }

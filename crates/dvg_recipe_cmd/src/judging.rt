@@ -17,15 +17,12 @@ use dvg_cert::MOST_WORDS;
 use dvg_check::Yes;
 use dvg_cmd::{Behind, ClockOptions, Detail, PlainWhy, plain_account};
 use dvg_labels::Labels;
-use dvg_recipe::{
-    RecipeRefusal, TimedRecipeRefusal, find_refused, judge_recipe, judge_recipe_timed,
-    survey_recipe,
-};
+use dvg_recipe::{RecipeRefusal, find_refused, judge_recipe, judge_recipe_timed, survey_recipe};
 use dvg_recipe_text::{ReadRecipe, RecipeTextFault, read_recipe};
 use dvg_spelling::Answer;
 use dvg_spelling::ItemPlace::RecipeLine;
 use dvg_words::{Machine, RomImage, RomMap, Window};
-use std::alloc::Global;
+use std::alloc::{AllocError, Global};
 
 /// What is asked of the frames of recipes.
 #[derive(Clone, Copy)]
@@ -81,16 +78,9 @@ impl<'a> Wanted<'a> {
     }
 }
 
-/// A frame that shows why a recipe is refused.
-#[derive(Drop)]
-pub enum Witness {
-    /// None is wanted, or there is none.
-    Nothing,
-    /// Its bytes.
-    Frame(Vec<u8>),
-    /// There was no memory to look for it.
-    NoMemory,
-}
+/// The bytes of a frame that shows why a recipe is refused. `None` where none is wanted, or there is none; an `Err` says that there was no
+/// memory to look for it.
+pub type Witness = Result<Option<Vec<u8>>, AllocError>;
 
 /// The verdict on a recipe, and what is wanted beside it.
 #[derive(Drop)]
@@ -214,15 +204,12 @@ impl<'a> Ready<'a> {
         requires { IsReady self.now }
     {
         let Wanted::Witness = wanted else {
-            return Witness::Nothing;
+            return Ok(None);
         };
         let RecipeOptions { budget, window, .. } = self.explained.options;
         let recipe = &self.read.recipe;
-        match find_refused(self.alloc, &self.image, recipe, budget, window, refusal) {
-            Ok(Some(refused)) => Witness::Frame(refused.frame),
-            Ok(None) => Witness::Nothing,
-            Err(_) => Witness::NoMemory,
-        }
+        let found = find_refused(self.alloc, &self.image, recipe, budget, window, refusal)?;
+        Ok(found.map(|refused| refused.frame))
     }
 
     /// The verdict, and what shows why the recipe is refused, if that is wanted.
@@ -240,7 +227,7 @@ impl<'a> Ready<'a> {
             budget,
             window,
         ) {
-            Ok(yes) => (Ok(yes), Witness::Nothing),
+            Ok(yes) => (Ok(yes), Ok(None)),
             Err(refusal) => (Err(self.told(&refusal)), self.witness(&refusal, wanted)),
         };
         JudgedRecipe {
@@ -276,7 +263,7 @@ impl<'a> Ready<'a> {
         };
         JudgedRecipe {
             verdict,
-            witness: Witness::Nothing,
+            witness: Ok(None),
             behind,
         }
     }
@@ -296,12 +283,9 @@ impl<'a> Ready<'a> {
             window,
             &clocks.timing,
         ) {
-            Ok(timed) => (clocks.line.answer(timed), Witness::Nothing),
-            Err(TimedRecipeRefusal::Slow { piece }) => (
-                Answer::Slow(RecipeLine(self.line_at(piece))),
-                Witness::Nothing,
-            ),
-            Err(TimedRecipeRefusal::Judged(refusal)) => (
+            Ok(Ok(timed)) => (clocks.line.answer(timed), Ok(None)),
+            Ok(Err(slow)) => (Answer::Slow(RecipeLine(self.line_at(slow.piece))), Ok(None)),
+            Err(refusal) => (
                 Answer::Judged(Err(self.told(&refusal))),
                 self.witness(&refusal, wanted),
             ),
@@ -324,7 +308,7 @@ fn refused(alloc: Global, explained: &Explained, no: RecipeNo, wanted: Wanted) -
     };
     JudgedRecipe {
         verdict: Err(no),
-        witness: Witness::Nothing,
+        witness: Ok(None),
         behind: plain_account(Machine::Board, alloc, no.number(), why, wanted.detail()),
     }
 }
@@ -356,6 +340,6 @@ pub fn time_text(
 {
     match Ready::new(alloc, explained) {
         Ok(ready) => ready.time(clocks, wanted),
-        Err(no) => (Answer::Judged(Err(no)), Witness::Nothing),
+        Err(no) => (Answer::Judged(Err(no)), Ok(None)),
     }
 }

@@ -66,7 +66,7 @@ impl<'a> RecipeTeller<'a> {
     {
         Answered {
             answer: Answer::Unread,
-            witness: Witness::Nothing,
+            witness: Ok(None),
             behind: unread_account(Machine::Board, alloc, self.wanted.detail()),
         }
     }
@@ -78,7 +78,7 @@ impl<'a> RecipeTeller<'a> {
     {
         Answered {
             answer: Answer::NoMemory,
-            witness: Witness::Nothing,
+            witness: Ok(None),
             behind: match self.wanted {
                 Wanted::Verdict | Wanted::Witness => Ok(None),
                 Wanted::Account(_) => Err(AllocError),
@@ -245,7 +245,7 @@ pub fn run_recipes<
         asked,
         labels,
         wanted: Wanted::of(detail),
-        witness: Witness::Nothing,
+        witness: Ok(None),
     };
     Ok(run_each(alloc, &mut teller, no_recipe(detail), recipes, out)?)
 }
@@ -273,17 +273,16 @@ pub fn run_recipe_for_witness<'a, R: CountedRead + Drop, W: CountedWrite, F: Cou
         asked,
         labels,
         wanted: Wanted::Witness,
-        witness: Witness::Nothing,
+        witness: Ok(None),
     };
     let mut progress = no_recipe(Detail::Line);
     teller.tell(alloc, recipe, &mut progress, out)?;
-    let is_written = match teller.witness {
-        Witness::Nothing => false,
-        Witness::Frame(frame) => {
+    let is_written = match teller.witness? {
+        Some(frame) => {
             write_bytes(&frame, file)?;
             true
         }
-        Witness::NoMemory => return Err(RunFault::Memory),
+        None => false,
     };
     Ok(WitnessEnd {
         outcome: progress.worst,

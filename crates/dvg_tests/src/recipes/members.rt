@@ -8,7 +8,7 @@ use crate::expecting::expect_same;
 use crate::inputs::{bytes_from, rom_of};
 use crate::recipes::building::{nested, repeat, row, shape, straight};
 use crate::recipes::verdicts::Asked;
-use dvg_recipe::{Area, NotMember, Part, PieceKind, Recipe, belongs};
+use dvg_recipe::{Area, Leaving, Part, PieceKind, Recipe, belongs};
 use dvg_words::{ASTEROIDS, FrameImage, Machine, RomImage};
 use std::alloc::{AllocError, Global};
 use std::fmt::Write;
@@ -36,17 +36,17 @@ leaves 204 at 9: 000 A008 03FF C810 E200, 200 F851 A200 0200 C800 E101
 leaves 008 at 2 5: 000 AFFB 0000 9002 0402 F0F0 9002 1401 F0F0 2898 7002 F0F0 E200, 200 B000 A200 0200 C800 B000";
 
 /// What an answer tells, in words.
-fn told(alloc: Global, answer: &Result<(), NotMember>) -> Result<String, AllocError> {
+fn told(alloc: Global, answer: &Result<Option<Leaving>, AllocError>) -> Result<String, AllocError> {
     match answer {
-        Ok(()) => format!(in alloc; "belongs"),
-        Err(NotMember::Leaves(leaving)) => {
+        Ok(None) => format!(in alloc; "belongs"),
+        Ok(Some(leaving)) => {
             let mut line = format!(in alloc; "leaves {:03X} at", leaving.at)?;
             for piece in &leaving.pieces {
                 write!(line, " {piece}")?;
             }
             Ok(line)
         }
-        Err(NotMember::Memory) => format!(in alloc; "out of memory"),
+        Err(_) => format!(in alloc; "out of memory"),
     }
 }
 

@@ -1,5 +1,5 @@
+use Rattle.std.specs.Prelude.{None}
 use Rattle.dvg_c.proofs.Common.{◌∙◌, Ok, Err, refl, sym, subst}
-use Rattle.dvg_recipe_cmd.specs.declared.judging.Witness.TheVariants as found
 use Rattle.dvg_recipe_cmd.specs.Recipes.{IsVerdict, IsAcceptedRecipe}
 use Rattle.dvg_c.specs.Recipes.{TellsWitness}
 use Rattle.dvg_c.proofs.exports.dvgcheck_recipe.Goals as goal
@@ -30,6 +30,6 @@ returns-in-Err-clause-verdict c =
     record {
       verdict = Err c.in-Err.answer.number;
       holds = c.in-Err.ensures.err;
-      shown = found.Nothing;
+      shown = Ok None;
       told = (c.in-Err.ensures.alone, refl);
     }

@@ -8,8 +8,8 @@ use Rattle.dvg_recipe.proofs.belonging.belongs.Goals as goal
 not_both : (b : Bool) → b ≡ false → IsTrue b → ⊥
 not_both b is not = grind (arith, nat_tests)
 
-pub returns-then-has_end-clause-ok : goal.returns-then-has_end-clause-ok
-returns-then-has_end-clause-ok c =
+pub returns-then-has_end-clause-none : goal.returns-then-has_end-clause-none
+returns-then-has_end-clause-none c =
     let all = c.in_ok-all.all in
     let end = c.has_end.ensures.0 c.if-has_end.true in
     let those = subst (λ (o : ItemsOver). AreThose (RecipeLeads c.args.recipe.now o) c.in_ok-here.here.items)
@@ -19,8 +19,8 @@ returns-then-has_end-clause-ok c =
     belongs_if c.args.rom.now c.args.frame.now all c.in_ok-all.ensures.items c.args.recipe.now c.prove_whole.ensures end.0
     ((those.each (length all.items.items)).0 there)
 
-pub returns-clause-err : goal.returns-clause-err
-returns-clause-err c b =
+pub returns-clause-some : goal.returns-clause-some
+returns-clause-some c b =
     let all = c.in_ok-all.all in
     let those = subst (λ (o : ItemsOver). AreThose (RecipeLeads c.args.recipe.now o) c.in_ok-here.here.items)
     (c.in_ok-places.ensures ∙ ap (λ (l : List Item). record { rom = c.args.rom.now; items = l }) c.deref.ensures.value)
