@@ -4,7 +4,7 @@ use Rattle.dvg_words.specs.Values.{MemoryMap, Window}
 use Rattle.dvg_check.specs.declared.verdict.Yes.{Yes}
 use Rattle.dvg_make.specs.declared.judging.FrameRefusal.{FrameRefusal}
 use Rattle.dvg_spelling.specs.Report.{answer_text, frame_refusal_text}
-use Rattle.dvg_spelling.specs.declared.outcome.Answer.TheVariants.{Judged}
+use Rattle.dvg_spelling.specs.declared.answer.Answer.TheVariants.{Judged}
 use Rattle.dvg_c.specs.declared.text.TextAnswer.{TextAnswer}
 use Rattle.dvg_c.specs.declared.answer.TheConstants.{SHORT_BUFFER, NO_TEXT_MEMORY}
 use Rattle.dvg_c.specs.Told.{numbered}

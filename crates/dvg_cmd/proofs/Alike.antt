@@ -1,7 +1,7 @@
 -- Judges that say the same.
 use Rattle.dvg_cmd.proofs.Common.{ℕ, List, Option, None, Some, IfSome, FrameAnswer, Judged, Judging, AnswersFrame, FrameDetail}
 use Rattle.dvg_cmd.specs.Frames.{AnswerMeans, JudgesAlike, Slow, Timed, Unread, refusal_in}
-use Rattle.dvg_spelling.specs.declared.outcome.Answer.TheVariants.{NoMemory}
+use Rattle.dvg_spelling.specs.declared.answer.Answer.TheVariants.{NoMemory}
 use Rattle.dvg_cmd.specs.SeveralFrames.{AnswersOpened, IsLineOfFrame}
 use Rattle.dvg_cmd.specs.Telling.{TellsAlike}
 

@@ -7,8 +7,8 @@ use Rattle.dvg_clocks.specs.declared.judging.TimedRefusal.{TimedRefusal}
 use Rattle.dvg_clocks.specs.declared.judging.TimedRefusal.TheVariants as timed
 use Rattle.dvg_clocks.specs.declared.judging.TimedYes.{TimedYes}
 use Rattle.dvg_check.specs.declared.verdict.Refusal.{Refusal}
-use Rattle.dvg_spelling.specs.declared.outcome.ItemPlace.TheVariants as place
-use Rattle.dvg_spelling.specs.declared.outcome.Answer.TheVariants.{NoMemory}
+use Rattle.dvg_spelling.specs.declared.answer.ItemPlace.TheVariants as place
+use Rattle.dvg_spelling.specs.declared.answer.Answer.TheVariants.{NoMemory}
 use Rattle.dvg_make.specs.declared.judging.FrameRefusal.TheVariants.{Check}
 use Rattle.dvg_cmd.specs.Frames.{Slow, Timed, TimedAnswer, Unread, VerdictBy, judged_timed, refusal_in, rom_of, timed_answer, told_with, yes_in}
 use Rattle.dvg_cmd.specs.declared.frame_judge.OwnCertificates.{OwnCertificates}

@@ -10,8 +10,8 @@ use Rattle.dvg_text.specs.Devices.{count_after}
 use Rattle.dvg_check.specs.declared.verdict.Refusal.TheVariants.{Frame}
 use Rattle.dvg_make.specs.declared.judging.FrameRefusal.TheVariants.{Make, Check}
 use Rattle.dvg_spelling.specs.Outcomes.{FrameAnswer}
-use Rattle.dvg_spelling.specs.declared.outcome.ItemPlace.TheVariants as place
-use Rattle.dvg_spelling.specs.declared.outcome.Answer.TheVariants.{Judged, Slow}
+use Rattle.dvg_spelling.specs.declared.answer.ItemPlace.TheVariants as place
+use Rattle.dvg_spelling.specs.declared.answer.Answer.TheVariants.{Judged, Slow}
 use Rattle.dvg_spelling.specs.Each.{of_each}
 pub use Rattle.dvg_cmd.specs.declared.called.Called.{Called}
 pub use Rattle.dvg_cmd.specs.declared.called.CalledCount.{CalledCount}

@@ -33,9 +33,9 @@ use Rattle.dvg_cmd.specs.declared.timed_judge.LineClocks.TheVariants as line
 use Rattle.dvg_cmd.specs.declared.timed_judge.ClockOptions.{ClockOptions}
 use Rattle.dvg_cmd.specs.SafeFrames.{MeansFrame}
 use Rattle.dvg_cmd.specs.Start.{started}
-use Rattle.dvg_spelling.specs.declared.outcome.ItemPlace.TheVariants as place
-use Rattle.dvg_spelling.specs.declared.outcome.Answer.{Answer}
-pub use Rattle.dvg_spelling.specs.declared.outcome.Answer.TheVariants.{Judged, Timed, Slow, Unread}
+use Rattle.dvg_spelling.specs.declared.answer.ItemPlace.TheVariants as place
+use Rattle.dvg_spelling.specs.declared.answer.Answer.{Answer}
+pub use Rattle.dvg_spelling.specs.declared.answer.Answer.TheVariants.{Judged, Timed, Slow, Unread}
 pub use Rattle.dvg_spelling.specs.declared.outcome.Outcome.{Outcome}
 pub use Rattle.dvg_spelling.specs.declared.outcome.Outcome.TheVariants as outcome
 pub use Rattle.dvg_spelling.specs.Outcomes.{FrameAnswer, is_unread, worse}

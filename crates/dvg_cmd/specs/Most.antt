@@ -2,7 +2,7 @@
 use Rattle.std.specs.Prelude.{ℕ, List, [], ◌∷◌, ◌++◌, Option, None, Some, codes, decimal, if◌then◌else◌, nat_lt}
 use Rattle.dvg_clocks.specs.declared.judging.TimedYes.{TimedYes}
 use Rattle.dvg_spelling.specs.Outcomes.{FrameAnswer}
-use Rattle.dvg_spelling.specs.declared.outcome.Answer.TheVariants.{Timed}
+use Rattle.dvg_spelling.specs.declared.answer.Answer.TheVariants.{Timed}
 use Rattle.dvg_spelling.specs.Report.{clocks_text}
 
 -- a frame, by its name, and what it takes

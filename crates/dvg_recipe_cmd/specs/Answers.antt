@@ -7,7 +7,7 @@ use Rattle.dvg_recipe_text.specs.Faults.{text_number}
 use Rattle.dvg_recipe_text.specs.declared.fault.RecipeTextWhy.{RecipeTextWhy}
 use Rattle.dvg_recipe_text.specs.declared.fault.RecipeTextWhy.TheVariants as why
 use Rattle.dvg_spelling.specs.Report.{hex_address, refused_at_text, shape_fault_text, unmade_text}
-use Rattle.dvg_spelling.specs.declared.outcome.ItemPlace.TheVariants.{RecipeLine}
+use Rattle.dvg_spelling.specs.declared.answer.ItemPlace.TheVariants.{RecipeLine}
 use Rattle.dvg_spelling.specs.declared.outcome.Outcome.{Outcome}
 use Rattle.dvg_spelling.specs.declared.outcome.Outcome.TheVariants as outcome
 use Rattle.dvg_recipe_cmd.specs.declared.answer.RecipeNo.{RecipeNo}

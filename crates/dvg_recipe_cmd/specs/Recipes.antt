@@ -19,8 +19,8 @@ use Rattle.dvg_cmd.specs.declared.timed_judge.LineClocks.{LineClocks}
 use Rattle.dvg_cmd.specs.declared.timed_judge.LineClocks.TheVariants as line_clocks
 use Rattle.dvg_cmd.specs.declared.listing.Lines.TheVariants as which
 use Rattle.dvg_cmd.specs.Frames.{told_with}
-use Rattle.dvg_spelling.specs.declared.outcome.Answer.{Answer}
-use Rattle.dvg_spelling.specs.declared.outcome.Answer.TheVariants.{Judged, Timed, Slow, Unread, NoMemory}
+use Rattle.dvg_spelling.specs.declared.answer.Answer.{Answer}
+use Rattle.dvg_spelling.specs.declared.answer.Answer.TheVariants.{Judged, Timed, Slow, Unread, NoMemory}
 use Rattle.dvg_spelling.specs.Outcomes.{answer_outcome, is_unread}
 use Rattle.dvg_spelling.specs.Report.{line_text}
 use Rattle.dvg_spelling.specs.declared.fault.RunFault.{RunFault}

@@ -6,7 +6,7 @@ ghost use Rattle.dvg_text.specs.Devices.{count_after};
 ghost use Rattle.dvg_cmd.specs.Telling.{HoldsOfAll, HoldsOfTaken, Reports, ReportsPrefix, no_line};
 ghost use Rattle.dvg_recipe_cmd.specs.Recipes.{SaysOf, IsAnswer, AnswersRecipe, IsLineOfRecipe, clocks_with, of_recipes};
 ghost use Rattle.dvg_spelling.specs.Outcomes.{is_unread};
-ghost use Rattle.dvg_spelling.specs.declared.outcome.Answer.TheVariants as answers;
+ghost use Rattle.dvg_spelling.specs.declared.answer.Answer.TheVariants as answers;
 ghost use Rattle.dvg_recipe_cmd.specs.Private.Judging.{wanted_detail};
 ghost use Rattle.dvg_cmd.specs.Detail.{IsBehind};
 ghost use Rattle.dvg_cmd.specs.declared.detail.Detail.TheVariants as details;

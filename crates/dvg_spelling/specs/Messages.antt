@@ -6,7 +6,7 @@ use Rattle.dvg_spelling.specs.declared.fault.RunFault.TheVariants.{ReadRom, Read
 use Rattle.dvg_spelling.specs.declared.fault.MakeRunFault.{MakeRunFault}
 use Rattle.dvg_spelling.specs.declared.fault.MakeRunFault.TheVariants as maker
 use Rattle.dvg_spelling.specs.Report.{hex_address, unmade_text}
-use Rattle.dvg_spelling.specs.declared.outcome.ItemPlace.TheVariants.{Frame}
+use Rattle.dvg_spelling.specs.declared.answer.ItemPlace.TheVariants.{Frame}
 
 -- the line on standard error, without its LF
 abbrev pub fault_message : RunFault → List ℕ

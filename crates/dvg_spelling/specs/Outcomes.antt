@@ -10,8 +10,8 @@ use Rattle.dvg_make.specs.declared.judging.FrameRefusal.{FrameRefusal}
 use Rattle.dvg_make.specs.declared.judging.FrameRefusal.TheVariants as frame
 use Rattle.dvg_spelling.specs.declared.outcome.Outcome.{Outcome}
 use Rattle.dvg_spelling.specs.declared.outcome.Outcome.TheVariants as outcome
-use Rattle.dvg_spelling.specs.declared.outcome.Answer.{Answer}
-use Rattle.dvg_spelling.specs.declared.outcome.Answer.TheVariants.{Judged, Timed, Slow, Unread, NoMemory}
+use Rattle.dvg_spelling.specs.declared.answer.Answer.{Answer}
+use Rattle.dvg_spelling.specs.declared.answer.Answer.TheVariants.{Judged, Timed, Slow, Unread, NoMemory}
 
 -- the outcome of a refused certificate
 abbrev pub cert_outcome : CertWhy → Outcome

@@ -17,10 +17,10 @@ use Rattle.dvg_make.specs.declared.judging.FrameRefusal.TheVariants.{Make, NoMem
 use Rattle.dvg_make.specs.declared.fault.EntryFault.{EntryFault}
 use Rattle.dvg_make.specs.declared.fault.EntryFault.TheVariants as entry
 use Rattle.dvg_clocks.specs.declared.clocks.ClockRange.{ClockRange}
-use Rattle.dvg_spelling.specs.declared.outcome.ItemPlace.{ItemPlace}
-use Rattle.dvg_spelling.specs.declared.outcome.ItemPlace.TheVariants as place
-use Rattle.dvg_spelling.specs.declared.outcome.Answer.{Answer}
-use Rattle.dvg_spelling.specs.declared.outcome.Answer.TheVariants.{Judged, Timed, Slow, Unread, NoMemory as Unkept}
+use Rattle.dvg_spelling.specs.declared.answer.ItemPlace.{ItemPlace}
+use Rattle.dvg_spelling.specs.declared.answer.ItemPlace.TheVariants as place
+use Rattle.dvg_spelling.specs.declared.answer.Answer.{Answer}
+use Rattle.dvg_spelling.specs.declared.answer.Answer.TheVariants.{Judged, Timed, Slow, Unread, NoMemory as Unkept}
 
 -- a word: four hexadecimal digits in capitals
 abbrev pub hex_word : ℕ → List ℕ

@@ -4,7 +4,7 @@ use Rattle.dvg_text.specs.Devices.{count_after}
 use Rattle.dvg_check.specs.Numbers.{refusal_number}
 use Rattle.dvg_make.specs.Refusals.{fault_number, make_fault_of}
 use Rattle.dvg_make.specs.declared.judging.FrameRefusal.TheVariants.{Make, Check}
-use Rattle.dvg_spelling.specs.declared.outcome.Answer.TheVariants.{Judged, Slow}
+use Rattle.dvg_spelling.specs.declared.answer.Answer.TheVariants.{Judged, Slow}
 use Rattle.dvg_spelling.specs.declared.outcome.Outcome.{Outcome}
 use Rattle.dvg_spelling.specs.declared.outcome.Outcome.TheVariants.{Accepted, Refused, NoMemory, Unread}
 use Rattle.dvg_spelling.specs.Outcomes.{FrameAnswer, answer_outcome, frame_refusal_outcome}

@@ -1,10 +1,11 @@
 //! How answers are spelled, and the values that the command line spells.
 //!
-//! [`report_of`] and its kin spell the line of an answer, [`status_of`] and its kin the exit status, [`message_of`] what is said
-//! on standard error. [`rule_of`] answers what a number means and what to do about it. [`root_of`], [`map_of`], [`start_of`] and
-//! [`window_of`] read words of the command line.
+//! [`Answer::line`] spells the line of a frame or of a recipe, [`report_of`] and its kin that of `check` and of `make`, [`status_of`] and
+//! its kin the exit status, and [`message_of`] what is said on standard error. [`rule_of`] answers what a number means and what to do
+//! about it. [`root_of`], [`map_of`], [`start_of`] and [`window_of`] read words of the command line.
 #![tactic(auto)]
 
+mod answer;
 mod arguments;
 mod dumps;
 mod fault;
@@ -20,10 +21,11 @@ mod touched;
 mod window;
 mod within;
 
+pub use answer::{Answer, FrameAnswer, ItemPlace, Why};
 pub use arguments::{map_of, root_of, start_of};
 pub use dumps::{DumpLine, dump_line_of};
 pub use fault::{MakeRunFault, RunFault};
-pub use outcome::{Answer, FrameAnswer, ItemPlace, Outcome, Why, outcome_of};
+pub use outcome::{Outcome, outcome_of};
 pub use places::{PlaceLine, place_line_of};
 pub use remark::{RemarkKind, RemarkTally, remarks_line_of};
 pub use report::{

@@ -4,8 +4,8 @@ ghost use Rattle.std.specs.Prelude.{◌≡◌, ◌+◌, ◌≤◌, ◌<◌, ◌+
 ghost use Rattle.dvg_spelling.specs.Messages.{fault_message, make_message, make_line_text};
 ghost use Rattle.dvg_spelling.specs.Report.{accepted_text, clocks_text, entry_text, hex_address, hex_word, place_text, refusal_text, refused_at_text, report_text, unmade_text};
 
+use crate::answer::ItemPlace;
 use crate::fault::{MakeRunFault, RunFault};
-use crate::outcome::ItemPlace;
 use crate::status::message_of;
 use arrayvec::ArrayVec;
 use dvg_cert::Key;

@@ -4,7 +4,8 @@ ghost use Rattle.std.specs.Prelude.{◌≡◌, ◌+◌, ◌≤◌, ◌<◌, ◌+
 ghost use Rattle.dvg_text.specs.Devices.{count_after};
 ghost use Rattle.dvg_spelling.specs.Tally.{answer_number, no_lines, with_answer, refused_text, refused_texts, summary_text};
 
-use crate::outcome::{Answer, FrameAnswer, Outcome};
+use crate::answer::{Answer, FrameAnswer};
+use crate::outcome::Outcome;
 use arrayvec::ArrayVec;
 use dvg_make::{FrameRefusal, MakeFault};
 use dvg_text::push_bytes;

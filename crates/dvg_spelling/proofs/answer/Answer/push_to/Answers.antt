@@ -1,7 +1,7 @@
 use Rattle.dvg_spelling.proofs.Common.{◌++◌, ◌∙◌, ap, arith, common_steps}
 use Rattle.std.proofs.Common.{sym}
 use Rattle.dvg_spelling.specs.Report.{answer_text}
-use Rattle.dvg_spelling.proofs.outcome.Answer.push_to.Goals as goal
+use Rattle.dvg_spelling.proofs.answer.Answer.push_to.Goals as goal
 
 pub returns-in-Slow-clause-text : goal.returns-in-Slow-clause-text
 returns-in-Slow-clause-text g c = grind (arith, common_steps, answer_text)
