@@ -67,7 +67,12 @@ pub fn judge_recipe_timed(
 {
     let asked = Asked { budget, window };
     let accepted = judge_noting(alloc, rom, recipe, &asked, &mut Notes::new(alloc))?;
-    let yes = accepted.yes;
     let counted = clocks_by(alloc, timing, rom, &accepted.cert, recipe)?;
-    Ok(counted.map(|clocks| TimedYes { yes, clocks }))
+    match counted {
+        Ok(clocks) => Ok(Ok(TimedYes {
+            yes: accepted.yes,
+            clocks,
+        })),
+        Err(slow) => Ok(Err(slow)),
+    }
 }
