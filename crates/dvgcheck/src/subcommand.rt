@@ -244,8 +244,8 @@ impl Task {
 }
 
 impl<'a> Syntax<'a> {
-    /// Its command, with its arguments and its options, all or those that matter to some of these words.
-    fn command(&self, alloc: Global, words: Option<&[String]>) -> Result<Command<'a>, AllocError> {
+    /// Its command, with its arguments and its options, all or those that matter to some of these words, which begin with `-`.
+    fn command(&self, alloc: Global, words: Option<&[&str]>) -> Result<Command<'a>, AllocError> {
         let behind = match self.task {
             Task::Rules => SHORTEST_HELP,
             _ => INPUT_HELP,
@@ -258,7 +258,7 @@ impl<'a> Syntax<'a> {
         }
         for option in self.options {
             let is_taken = match words {
-                Some(words) => words.iter().any(|word| option.matters_to(word.as_str())),
+                Some(words) => words.iter().any(|word| option.matters_to(word)),
                 None => true,
             };
             if is_taken {
@@ -271,8 +271,14 @@ impl<'a> Syntax<'a> {
     /// Its command as it is parsed alone, where these words stand behind its name: without its help, and without options that matter to
     /// none of them, since the rest of the program's command would only cost time.
     pub fn command_for(&self, alloc: Global, words: &[String]) -> Result<Command<'a>, AllocError> {
+        let mut named = Vec::new(alloc);
+        for word in words {
+            if word.as_str().starts_with('-') {
+                named.push(word.as_str())?;
+            }
+        }
         Ok(
-            self.command(alloc, Some(words))?
+            self.command(alloc, Some(named.as_slice()))?
                 .no_binary_name(true)
                 .disable_help_flag(true)
                 .disable_help_subcommand(true),
